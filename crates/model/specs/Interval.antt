@@ -1,0 +1,84 @@
+-- Best sharing on lines that are runs of tips. An interval of tips, which document 01 calls a stretch, has a first tip a and a width w.
+use Prim.Native.Nat.{ℕ, zero, suc, _+_, _*_, _-_, _/_, _%_, _≤_, _<_}
+use mathlib.Core.Path.{_≡_}
+use mathlib.Core.Logic.{_⊎_}
+use mathlib.Core.Bool.{Bool, cond, _&&_}
+use mathlib.Core.List.{List, [], _∷_, map}
+use lib.Dec.{T, ltb, leb, eqb}
+use lib.Count.{ones, leadingZeros, trailingZeros}
+use Rattle.model.specs.Count.{count, listOf, largest, lowestAt}
+use Rattle.model.specs.Plan.{has, choose2, Domain, prefer}
+
+-- the lowest and the highest tip of a set that is not empty
+unfoldable pub low : ℕ → ℕ
+low s = trailingZeros 64 s
+
+unfoldable pub high : ℕ → ℕ
+high s = 63 - leadingZeros 64 s
+
+-- the distance from its lowest tip to its highest, plus one, is the number of its tips
+unfoldable pub isRun : ℕ → Bool
+isRun s = eqb (high s - low s + 1) (ones s)
+
+-- a line whose tips pass the test ok, and that has each such tip between its lowest and its highest
+pub record Line (ok : ℕ → Bool) (m s : ℕ) : Type 0 where
+  pub domain : Domain m s
+  pub run : (c : ℕ) → T (ok c) → low s ≤ c → c ≤ high s → T (has s c)
+  pub fits : (c : ℕ) → T (has s c) → T (ok c)
+
+-- the line s lies within the interval
+unfoldable pub lies : ℕ → ℕ → ℕ → Bool
+lies a w s = leb a (low s) && ltb (high s) (a + w)
+
+-- how many of the lines lying within the interval allow tip c
+unfoldable pub inside : List ℕ → ℕ → ℕ → ℕ → ℕ
+inside lines a w c = count (λ s. lies a w s && has s c) lines
+
+-- the pairs of the interval if tip a + i takes its lines: those on it, and by the table D those of the intervals beside it
+abbrev pub split : (ℕ → ℕ → ℕ) → List ℕ → ℕ → ℕ → ℕ → ℕ
+split D lines a w i = choose2 (inside lines a w (a + i)) + (D a i + D (a + i + 1) (w - (i + 1)))
+
+-- the largest split of the interval, and so on for those beside it; k bounds the width
+unfoldable pub most : ℕ → List ℕ → ℕ → ℕ → ℕ
+most zero lines a w = 0
+most (suc k) lines a w = largest (split (most k lines) lines a w) w
+
+-- the most pairs of the lines lying within the interval
+unfoldable pub C : List ℕ → ℕ → ℕ → ℕ
+C lines a w = most w lines a w
+
+-- the tip of the line s, where tip a + pick a w takes the lines of an interval that allow it; k bounds the width
+unfoldable pub tipBy : (ℕ → ℕ → ℕ) → ℕ → ℕ → ℕ → ℕ → ℕ
+tipBy pick zero a w s = 0
+tipBy pick (suc k) a w s =
+    let i = pick a w in
+    let c = a + i in
+    prefer c (λ x. cond (ltb (high x) c) (tipBy pick k a i x) (tipBy pick k (c + 1) (w - (i + 1)) x)) s
+
+-- the lowest tip, less a, at which the split of the interval is largest
+unfoldable pub lowestPick : List ℕ → ℕ → ℕ → ℕ
+lowestPick lines a w = lowestAt (split (C lines) lines a w) w
+
+-- the plan that splits each interval at the lowest tip of a largest split
+unfoldable pub bestPlan : ℕ → List ℕ → List ℕ
+bestPlan m lines = map (tipBy (lowestPick lines) m 0 m) lines
+
+-- C of the interval from tip a to tip b, b included, at a * m + b; below the diagonal the width b + 1 - a is 0, and so is C
+unfoldable pub table : ℕ → List ℕ → List ℕ
+table m lines = listOf (λ k. C lines (k / m) (k % m + 1 - k / m)) (m * m)
+
+-- the table D is at least each split of each interval at a tip that is ok
+abbrev pub Dominates : (ℕ → Bool) → ℕ → List ℕ → (ℕ → ℕ → ℕ) → Type 0
+Dominates ok m lines D = (a w i : ℕ) → a + w ≤ m → i < w → T (ok (a + i)) → split D lines a w i ≤ D a w
+
+-- no tip of the interval is ok
+abbrev pub Idle : (ℕ → Bool) → ℕ → ℕ → Type 0
+Idle ok a w = (c : ℕ) → a ≤ c → c < a + w → T (ok c) → ⊥
+
+-- D is the split of the interval at its pick, a tip of it that is ok; or the interval has no tip that is ok, and D is 0
+abbrev pub Attains : (ℕ → Bool) → List ℕ → (ℕ → ℕ → ℕ) → (ℕ → ℕ → ℕ) → ℕ → ℕ → Type 0
+Attains ok lines D pick a w = ((pick a w < w) × T (ok (a + pick a w)) × (split D lines a w (pick a w) ≡ D a w)) ⊎ (Idle ok a w × (D a w ≡ 0))
+
+-- and so for each interval
+pub record Picks (ok : ℕ → Bool) (m : ℕ) (lines : List ℕ) (D pick : ℕ → ℕ → ℕ) : Type 0 where
+  pub attains : (a w : ℕ) → a + w ≤ m → Attains ok lines D pick a w
