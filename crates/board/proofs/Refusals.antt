@@ -1,0 +1,81 @@
+-- Laws of the ordered decision of a call: which refusal is the first, and what holds where none is.
+use Prim.Native.Nat.{ℕ, _<_}
+use mathlib.Core.Path.{_≡_, refl, ap, sym, _∙_}
+use mathlib.Core.Bool.{Bool, true, false, not, cond}
+use native.Mathlib.Omega.{arith}
+use lib.Dec.{eqb}
+use lib.Arith.{lt-of-le-ne}
+use borrow.Author.Tests.{eq-eqb, ne-eqb, eqb-true, eqb-false}
+use Rattle.board.specs.declared.Stage.{Stage}
+use Rattle.board.specs.declared.Stage.the-variants.{Open, Closed}
+use Rattle.board.specs.declared.Refusal.{Refusal}
+use Rattle.board.specs.declared.Board.{Board}
+use Rattle.board.specs.Refusal.{accepts, orElse, when, lineRefusal}
+use Rattle.board.specs.Board.{sound, stageRefusal, stateRefusal, addRefusal}
+use Rattle.sound.proofs.Laws.{Sound, sound-iff}
+use Rattle.model.proofs.Tests.{T-true}
+
+-- the first refuses; or it does not, and the next one decides
+module _ {d r : Refusal} (e : d ≡ r) (next : Refusal) where
+  pub or-first : (d .number ≡ 0 → ⊥) → d ≡ orElse r next
+  unfolding orElse
+  or-first n = e ∙ rw (ne-eqb (r .number) 0 (λ z. n (ap (λ q. q .number) e ∙ z)))
+
+  pub or-next : d .number ≡ 0 → {x : Refusal} → x ≡ next → x ≡ orElse r next
+  unfolding orElse
+  or-next z f = f ∙ rw (eq-eqb (r .number) 0 (ap (λ q. q .number) (sym e) ∙ z))
+
+-- no refusal is the first of two only where both are none
+pub or-none : (first next : Refusal) → (orElse first next) .number ≡ 0 → (first .number ≡ 0) × (next .number ≡ 0)
+unfolding orElse
+or-none first next = by (accepts first) refl
+  where
+    by : (b : Bool) → accepts first ≡ b → (cond b next first) .number ≡ 0 → (first .number ≡ 0) × (next .number ≡ 0)
+    by true e h = (eqb-true (first .number) 0 e, h)
+    by false e h = absurd (eqb-false (first .number) 0 e h)
+
+pub when-none : (test : Bool) (n : ℕ) → (n ≡ 0 → ⊥) → (when test n) .number ≡ 0 → test ≡ false
+when-none true n h e = absurd (h e)
+when-none false n h e = refl
+
+not-false-true : (b : Bool) → not b ≡ false → b ≡ true
+not-false-true true e = refl
+not-false-true false e = let w : _≡_ {A = ℕ} 0 1 = cc in absurd (omega arith)
+
+stage-none : (asked held : Stage) → (stageRefusal asked held) .number ≡ 0 → held ≡ asked
+unfolding stageRefusal
+stage-none Open Open e = refl
+stage-none Open Closed e = absurd (omega (arith, e))
+stage-none Closed Open e = absurd (omega (arith, e))
+stage-none Closed Closed e = refl
+
+-- what is known of a board whose state does not refuse the call
+pub record Ready (asked : Stage) (b : Board) : Type 0 where
+  pub sound : Sound (b .rack) (b .count) (b .sets)
+  pub stage : b .stage ≡ asked
+
+pub state-none : (asked : Stage) (b : Board) → (stateRefusal asked b) .number ≡ 0 → Ready asked b
+unfolding stateRefusal
+state-none asked b e =
+    let (s, t) = or-none (when (not (sound b)) 21) (stageRefusal asked (b .stage)) e in
+    record {
+      sound = sound-iff (b .rack) (b .count) (b .sets) .0 (T-true (not-false-true (sound b) (when-none (not (sound b)) 21 (λ z. omega arith) s)));
+      stage = stage-none asked (b .stage) t;
+    }
+
+-- a line can be added: the board is sound and open, and has room
+pub add-none : (b : Board) (s : ℕ) → (addRefusal b s) .number ≡ 0 → Ready Open b × (b .count < 512)
+unfolding addRefusal
+add-none b s e =
+    let (state, rest) = or-none (stateRefusal Open b) (orElse (when (eqb (b .count) 512) 24) (lineRefusal (b .rack) s)) e in
+    let (full, line) = or-none (when (eqb (b .count) 512) 24) (lineRefusal (b .rack) s) rest in
+    let r = state-none Open b state in
+    (r, lt-of-le-ne (r .sound .count-most) (eqb-false (b .count) 512 (when-none (eqb (b .count) 512) 24 (λ z. omega arith) full)))
+
+-- an answer by cases on the refusal: where it refuses, and where it does not
+module _ {A : Type 0} (x y : A) {d r : Refusal} (e : d ≡ r) where
+  pub refused : (d .number ≡ 0 → ⊥) → cond (accepts r) x y ≡ y
+  refused n = rw (ne-eqb (r .number) 0 (λ z. n (ap (λ q. q .number) e ∙ z)))
+
+  pub accepted : d .number ≡ 0 → cond (accepts r) x y ≡ x
+  accepted z = rw (eq-eqb (r .number) 0 (ap (λ q. q .number) (sym e) ∙ z))

@@ -1,0 +1,173 @@
+// The board of a rack of tips: its record, and the calls that open it, add a line and close it.
+ghost use mathlib.Core.Path.{_≡_};
+ghost use lib.ListN.{length};
+ghost use Rattle.board.specs.Refusal.{refuse, lineRefusal};
+ghost use Rattle.board.specs.Board.{stageRefusal, stateRefusal, addRefusal, noSets, openOf, addOf, closeOf};
+
+pub enum Stage {
+    Open,
+    Closed,
+}
+
+// The sets of the lines are the first `count`; a sound board has empty sets behind them.
+pub struct Board {
+    pub rack: usize,
+    pub stage: Stage,
+    pub count: usize,
+    pub sets: [u64; 512],
+}
+
+// What a call answers besides its counts: the board, a refusal's number or 0, and its place or 0.
+pub struct Answer {
+    pub board: Board,
+    pub number: u32,
+    pub place: usize,
+}
+
+pub struct Refusal {
+    pub number: u32,
+    pub place: usize,
+}
+
+fn refuse(number: u32) -> Refusal
+    ensures { λ r. ⌜ r ≡ refuse number ⌝ }
+{
+    Refusal { number, place: 0 }
+}
+
+fn no_sets() -> [u64; 512]
+    ensures { λ r. ⌜ r ≡ noSets ⌝ }
+{
+    [0u64; 512]
+}
+
+fn stage_refusal(asked: Stage, stage: Stage) -> Refusal
+    ensures { λ r. ⌜ r ≡ stageRefusal asked stage ⌝ }
+{
+    match asked {
+        Stage::Open => match stage {
+            Stage::Open => refuse(0),
+            Stage::Closed => refuse(22),
+        },
+        Stage::Closed => match stage {
+            Stage::Open => refuse(23),
+            Stage::Closed => refuse(0),
+        },
+    }
+}
+
+// The refusals because of the board's state, in one place for every call.
+fn state_refusal(asked: Stage, rack: usize, stage: Stage, count: usize, sets: &[u64]) -> Refusal
+    requires { ⌜ length (now sets) ≡ 512 ⌝ }
+    ensures { λ r. ⌜ r ≡ stateRefusal asked (record { rack = rack; stage = stage; count = count; sets = now (sets .entry) }) ⌝ }
+{
+    if !sound::is_sound(rack, count, sets) {
+        return refuse(21);
+    }
+    stage_refusal(asked, stage)
+}
+
+fn line_refusal(rack: usize, set: u64) -> Refusal
+    ensures { λ r. ⌜ r ≡ lineRefusal rack set ⌝ }
+{
+    if tips::is_empty(set) {
+        return refuse(2);
+    }
+    if !tips::in_rack(rack, set) {
+        return refuse(3);
+    }
+    refuse(0)
+}
+
+fn add_refusal(rack: usize, stage: Stage, count: usize, sets: &[u64], set: u64) -> Refusal
+    requires { ⌜ length (now sets) ≡ 512 ⌝ }
+    ensures { λ r. ⌜ r ≡ addRefusal (record { rack = rack; stage = stage; count = count; sets = now (sets .entry) }) set ⌝ }
+{
+    let state = state_refusal(Stage::Open, rack, stage, count, sets);
+    if state.number != 0 {
+        return state;
+    }
+    if count == 512 {
+        return refuse(24);
+    }
+    line_refusal(rack, set)
+}
+
+impl Board {
+    pub fn open(rack: usize) -> Answer
+        ensures { λ r. ⌜ r ≡ openOf rack ⌝ }
+    {
+        let sets = no_sets();
+        if !sound::rack_ok(rack) {
+            let board = Board {
+                rack: 1,
+                stage: Stage::Open,
+                count: 0,
+                sets,
+            };
+            return Answer {
+                board,
+                number: 1,
+                place: 0,
+            };
+        }
+        let board = Board {
+            rack,
+            stage: Stage::Open,
+            count: 0,
+            sets,
+        };
+        Answer {
+            board,
+            number: 0,
+            place: 0,
+        }
+    }
+
+    pub fn add(mut self, set: u64) -> Answer
+        ensures { λ r. ⌜ r ≡ addOf self set ⌝ }
+    {
+        let count = self.count;
+        let refusal = add_refusal(self.rack, self.stage, count, &self.sets, set);
+        if refusal.number != 0 {
+            return Answer {
+                board: self,
+                number: refusal.number,
+                place: refusal.place,
+            };
+        }
+        self.sets[count] = set;
+        self.count = count + 1;
+        Answer {
+            board: self,
+            number: 0,
+            place: 0,
+        }
+    }
+
+    pub fn close(self) -> Answer
+        ensures { λ r. ⌜ r ≡ closeOf self ⌝ }
+    {
+        let stage = self.stage;
+        let refusal = state_refusal(Stage::Open, self.rack, stage, self.count, &self.sets);
+        if refusal.number != 0 {
+            return Answer {
+                board: self,
+                number: refusal.number,
+                place: refusal.place,
+            };
+        }
+        let sets = self.sets;
+        let board = Board {
+            rack: self.rack,
+            stage: Stage::Closed,
+            count: self.count,
+            sets,
+        };
+        Answer {
+            board,
+            number: 0,
+            place: 0,
+        }
+    }
+}
