@@ -3,17 +3,17 @@ use Prim.Native.Nat.{ℕ, _<_}
 use mathlib.Core.Path.{_≡_, refl, ap, sym, _∙_}
 use mathlib.Core.Bool.{Bool, true, false, not, cond}
 use native.Mathlib.Omega.{arith}
-use lib.Dec.{eqb}
+use lib.Dec.{T, eqb}
 use lib.Arith.{lt-of-le-ne}
 use borrow.Author.Tests.{eq-eqb, ne-eqb, eqb-true, eqb-false}
 use Rattle.board.specs.declared.Stage.{Stage}
 use Rattle.board.specs.declared.Stage.the-variants.{Open, Closed}
 use Rattle.board.specs.declared.Refusal.{Refusal}
 use Rattle.board.specs.declared.Board.{Board}
-use Rattle.board.specs.Refusal.{accepts, orElse, when, lineRefusal}
+use Rattle.board.specs.Refusal.{none, accepts, orElse, when, lineRefusal}
 use Rattle.board.specs.Board.{sound, stageRefusal, stateRefusal, addRefusal}
 use Rattle.sound.proofs.Laws.{Sound, sound-iff}
-use Rattle.model.proofs.Tests.{T-true}
+use Rattle.model.proofs.Tests.{true-T, T-true}
 
 -- the first refuses; or it does not, and the next one decides
 module _ {d r : Refusal} (e : d ≡ r) (next : Refusal) where
@@ -37,6 +37,10 @@ or-none first next = by (accepts first) refl
 pub when-none : (test : Bool) (n : ℕ) → (n ≡ 0 → ⊥) → (when test n) .number ≡ 0 → test ≡ false
 when-none true n h e = absurd (h e)
 when-none false n h e = refl
+
+pub when-taken : (test : Bool) (n : ℕ) → 0 < (when test n) .number → test ≡ true
+when-taken true n h = refl
+when-taken false n h = absurd (omega arith)
 
 not-false-true : (b : Bool) → not b ≡ false → b ≡ true
 not-false-true true e = refl
@@ -63,6 +67,18 @@ state-none asked b e =
       stage = stage-none asked (b .stage) t;
     }
 
+pub state-known : {asked : Stage} {b : Board} {d : Refusal} → d ≡ stateRefusal asked b → d .number ≡ 0 → Ready asked b
+state-known {asked} {b} e z = state-none asked b (ap (λ r. r .number) (sym e) ∙ z)
+
+-- and where it is so, the state does not refuse
+pub state-holds : (asked : Stage) (b : Board) → T (sound b) → b .stage ≡ asked → stateRefusal asked b ≡ none
+unfolding stateRefusal stageRefusal orElse
+state-holds asked b s e = rw (true-T (sound b) s, e) (same asked)
+  where
+    same : (g : Stage) → stageRefusal g g ≡ none
+    same Open = refl
+    same Closed = refl
+
 -- a line can be added: the board is sound and open, and has room
 pub add-none : (b : Board) (s : ℕ) → (addRefusal b s) .number ≡ 0 → Ready Open b × (b .count < 512)
 unfolding addRefusal
@@ -79,3 +95,11 @@ module _ {A : Type 0} (x y : A) {d r : Refusal} (e : d ≡ r) where
 
   pub accepted : d .number ≡ 0 → cond (accepts r) x y ≡ x
   accepted z = rw (eq-eqb (r .number) 0 (ap (λ q. q .number) (sym e) ∙ z))
+
+-- an answer whose refusing case tells the refusal's number tells 0 only where nothing is refused
+pub by-number : {A : Type 0} (r : Refusal) (number : A → ℕ) (x y : A) → number y ≡ r .number → number (cond (accepts r) x y) ≡ 0 → r .number ≡ 0
+by-number r number x y e = by (accepts r) refl
+  where
+    by : (b : Bool) → accepts r ≡ b → number (cond b x y) ≡ 0 → r .number ≡ 0
+    by true t h = eqb-true (r .number) 0 t
+    by false t h = sym e ∙ h

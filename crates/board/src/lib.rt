@@ -4,6 +4,8 @@ ghost use lib.ListN.{length};
 ghost use Rattle.board.specs.Refusal.{refuse, lineRefusal};
 ghost use Rattle.board.specs.Board.{stageRefusal, stateRefusal, addRefusal, noSets, openOf, addOf, closeOf};
 
+mod common_call;
+
 pub enum Stage {
     Open,
     Closed,
@@ -22,6 +24,24 @@ pub struct Answer {
     pub board: Board,
     pub number: u32,
     pub place: usize,
+}
+
+// The largest occurrence of a tip, the least number of lines off the common tip, and the set W of the tips that reach top.
+pub struct Common {
+    pub board: Board,
+    pub number: u32,
+    pub place: usize,
+    pub top: usize,
+    pub off: usize,
+    pub tips: u64,
+}
+
+// The margin is top - n + k.
+pub struct Kept {
+    pub board: Board,
+    pub number: u32,
+    pub place: usize,
+    pub margin: i32,
 }
 
 pub struct Refusal {

@@ -1,14 +1,16 @@
 -- How many lines allow a tip: the most that allow one, and the busiest tip.
 use Prim.Native.Nat.{ℕ, _≤_, _<_}
 use native.Mathlib.Omega.{arith}
+use native.Mathlib.Nat.{le-trans}
 use mathlib.Core.Logic.{⊎-elim}
 use mathlib.Core.List.{List}
+use lib.ListN.{length}
 use Rattle.model.specs.Count.{All}
 use Rattle.model.specs.Plan.{has, occ, Domain}
 use Rattle.model.specs.Greedy.{busiest}
 use Rattle.model.specs.CommonTip.{top}
 use Rattle.model.proofs.Tests.{le-or-lt}
-use Rattle.model.proofs.Lists.{all-map, count-none}
+use Rattle.model.proofs.Lists.{all-map, count-none, count-le}
 use Rattle.model.proofs.Largest.{largest-ge, lowest-lt, lowest-attains}
 use Rattle.model.proofs.Sets.{has-below}
 
@@ -29,6 +31,11 @@ occ-le {m} {lines} ds t = ⊎-elim (λ z. omega arith) (λ p. largest-ge (occ li
 pub top-le : (m : ℕ) (lines : List ℕ) → top m lines ≤ occ lines (busiest lines m)
 unfolding top busiest
 top-le m lines = lowest-attains (occ lines) m
+
+-- no more lines allow a tip than there are
+pub top-length : (m : ℕ) (lines : List ℕ) → top m lines ≤ length lines
+unfolding occ
+top-length m lines = le-trans (top-le m lines) (count-le (λ s. has s (busiest lines m)) lines)
 
 pub busiest-lt : (m : ℕ) (lines : List ℕ) → 0 < m → busiest lines m < m
 unfolding busiest

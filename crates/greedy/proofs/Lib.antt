@@ -1,0 +1,5 @@
+pub mod Over
+pub mod Live
+pub mod Bound
+pub mod Line
+pub mod Round

@@ -1,0 +1,211 @@
+-- What the rounds leave: the plan so far with the lines left on the tips of the rounds to come is the plan of quick sharing.
+use Prim.Native.Nat.{ℕ, zero, suc, _+_, _≤_, _<_}
+use native.Mathlib.Omega.{arith}
+use mathlib.Core.Path.{_≡_, refl, ap, sym, _∙_}
+use mathlib.Core.Logic.{⊎-elim}
+use mathlib.Core.Bool.{not, cond}
+use mathlib.Core.List.{List, [], _∷_, map}
+use lib.Dec.{not-T, eqb→eq}
+use lib.ListN.{length, getD, replicate, length-map}
+use Rattle.model.specs.Count.{All, none, more, listOf, lowestAt}
+use Rattle.model.specs.Plan.{has, occ, isEmpty, pairs, choose2, Domain, prefer}
+use Rattle.model.specs.Greedy.{busiest, rest, rounds, first, quickPlan}
+use Rattle.model.proofs.Tests.{test, true-T, false-T}
+use Rattle.model.proofs.Lists.{all-map, all-select, count-pos, count-le}
+use Rattle.model.proofs.Pairs.{pairs-taken}
+use Rattle.model.proofs.Sets.{some-tip}
+use Rattle.model.proofs.Occ.{occ-le, top-le, busiest-lt}
+use Rattle.model.proofs.Valid.{prefer-mix, rest-free}
+use Rattle.model.proofs.Greedy.{rest-fewer, quick-valid}
+use Rattle.counts.proofs.Lists.{length-listOf, listOf-cong}
+use Rattle.counts.proofs.Read.{count-at, count-bound, lowest-busiest}
+use Rattle.greedy.specs.Rounds.{over, cleared, placed, Counted, Taken}
+use Rattle.greedy.proofs.Bound.{pairs-bound}
+use Rattle.greedy.proofs.Over.{length-over, over-same, over-map, over-over}
+use Rattle.greedy.proofs.Live.{live, has-live, occ-live, live-all, live-cleared, live-none, all-empty}
+
+-- the tips of the rounds to come
+pub order : ℕ → List ℕ → List ℕ
+order m lines = rounds (length lines) m lines
+
+module _ (m : ℕ) where
+  rest-domains : {lines : List ℕ} → All (Domain m) lines → (t : ℕ) → All (Domain m) (rest lines t)
+  rest-domains ds t = all-select (λ s. not (has s t)) (λ s _ d. d) ds
+
+  -- as many rounds as lines are enough
+  rounds-enough : (j k : ℕ) (lines : List ℕ) → All (Domain m) lines → length lines ≤ j → length lines ≤ k → rounds j m lines ≡ rounds k m lines
+  unfolding rounds
+  rounds-enough zero zero [] ds a b = refl
+  rounds-enough zero (suc k) [] ds a b = refl
+  rounds-enough (suc j) zero [] ds a b = refl
+  rounds-enough (suc j) (suc k) [] ds a b = refl
+  rounds-enough zero k (s ∷ lines) ds a b = absurd (omega arith)
+  rounds-enough (suc j) zero (s ∷ lines) ds a b = absurd (omega arith)
+  rounds-enough (suc j) (suc k) (s ∷ lines) ds a b =
+      let t = busiest (s ∷ lines) m in
+      let l = rest-fewer m s lines ds in
+      ap (λ o. t ∷ o) (rounds-enough j k (rest (s ∷ lines) t) (rest-domains ds t) (omega arith) (omega arith))
+
+  order-next : (s : ℕ) (lines : List ℕ) → All (Domain m) (s ∷ lines)
+      → order m (s ∷ lines) ≡ busiest (s ∷ lines) m ∷ order m (rest (s ∷ lines) (busiest (s ∷ lines) m))
+  unfolding rounds order
+  order-next s lines ds =
+      let t = busiest (s ∷ lines) m in
+      let l = rest-fewer m s lines ds in
+      ap (λ o. t ∷ o) (rounds-enough (length lines) (length (rest (s ∷ lines) t)) (rest (s ∷ lines) t) (rest-domains ds t) (omega arith) (omega arith))
+
+  -- a busiest tip that no line allows: no line is left
+  none-left : (lines : List ℕ) → All (Domain m) lines → occ lines (busiest lines m) ≡ 0 → lines ≡ []
+  unfolding occ
+  none-left [] ds e = refl
+  none-left (s ∷ lines) (more d ds) e =
+      let (u, h, l) = some-tip d in
+      absurd (omega (arith, count-pos (λ x. has x u) 0 (s ∷ lines) 0 (omega arith) h, occ-le (more d ds) u, top-le m (s ∷ lines)))
+
+-- a round over the lines, which takes tip t
+module _ (m : ℕ) (lines : List ℕ) (ds : All (Domain m) lines) (some : 0 < length lines) (t : ℕ) (busy : t ≡ busiest lines m) where
+  order-round : order m lines ≡ t ∷ order m (rest lines t)
+  order-round = rw busy (by lines ds some)
+    where
+      by : (lines : List ℕ) → All (Domain m) lines → 0 < length lines → order m lines ≡ busiest lines m ∷ order m (rest lines (busiest lines m))
+      by [] ds l = absurd (omega arith)
+      by (s ∷ lines) ds l = order-next m s lines ds
+
+  first-round : (s : ℕ) → first (order m lines) s ≡ prefer t (first (order m (rest lines t))) s
+  unfolding first
+  first-round s = ap (λ o. first o s) order-round
+
+  pairs-round : pairs (quickPlan m lines) ≡ choose2 (occ lines t) + pairs (quickPlan m (rest lines t))
+  unfolding first quickPlan order
+  pairs-round =
+      ap (λ o. pairs (map (first o) lines)) order-round
+      ∙ pairs-taken (occ lines t) t (prefer-mix t (first (order m (rest lines t))) lines) (rest-free t lines (quick-valid (rest-domains m ds t)))
+
+  fewer-round : length (rest lines t) < length lines
+  fewer-round = rw busy (by lines ds some)
+    where
+      by : (lines : List ℕ) → All (Domain m) lines → 0 < length lines → length (rest lines (busiest lines m)) < length lines
+      by [] ds l = absurd (omega arith)
+      by (s ∷ lines) ds l = rest-fewer m s lines ds
+
+no-pairs : (m : ℕ) → pairs (quickPlan m []) ≡ 0
+unfolding quickPlan pairs
+no-pairs m = refl
+
+length-quick : (m : ℕ) (lines : List ℕ) → length (quickPlan m lines) ≡ length lines
+unfolding quickPlan
+length-quick m lines = length-map lines (first (rounds (length lines) m lines))
+
+occ-length : (lines : List ℕ) (t : ℕ) → occ lines t ≤ length lines
+unfolding occ
+occ-length lines t = count-le (λ s. has s t) lines
+
+-- ---- the working copy, the plan and the counts between two rounds
+
+-- the tip by g for a line that is left; where it is for one that is planned
+pub filled : (ℕ → ℕ) → ℕ → ℕ → ℕ
+filled g s p = cond (isEmpty s) p (g s)
+
+filled-live : (g : ℕ → ℕ) {m : ℕ} (s : ℕ) → Domain m s → (p : ℕ) → filled g s p ≡ g s
+unfolding filled
+filled-live g s d p = rw (false-T (isEmpty s) (not-T (isEmpty s) (λ e. omega (arith, d .some, eqb→eq s 0 e))))
+
+filled-empty : (g : ℕ → ℕ) (s : ℕ) → s ≡ 0 → (p : ℕ) → filled g s p ≡ p
+unfolding filled
+filled-empty g s e p = rw e
+
+filled-round : (t : ℕ) (f g : ℕ → ℕ) → ((s : ℕ) → f s ≡ prefer t g s) → (s p : ℕ) → filled f s p ≡ filled g (cleared t s) (placed t s p)
+unfolding filled
+filled-round t f g e s p =
+    ⊎-elim
+    (λ y. rw (e s, has-live s t y, true-T (has s t) y))
+    (λ n. rw (e s, false-T (has s t) n))
+    (test (has s t))
+
+pub record State (m : ℕ) (lines left plan counts : List ℕ) (shared : ℕ) : Type 0 where
+  pub domains : All (Domain m) (live left)
+  pub size : length left ≡ length lines
+  pub plan-size : length plan ≡ length left
+  pub counts-are : counts ≡ listOf (occ left) 64
+  pub plan-is : quickPlan m lines ≡ over (filled (first (order m (live left)))) left plan
+  pub pairs-are : pairs (quickPlan m lines) ≡ shared + pairs (quickPlan m (live left))
+
+pub start : {m : ℕ} {lines plan counts : List ℕ} → All (Domain m) lines → length plan ≡ length lines → counts ≡ listOf (occ lines) 64 → State m lines lines plan counts 0
+unfolding quickPlan order
+start {m} {lines} {plan} ds e h =
+    let l = live-all ds in
+    record {
+      domains = rw l ds;
+      size = refl;
+      plan-size = e;
+      counts-are = h;
+      plan-is = rw l (sym (over-map (filled (first (order m lines))) (first (order m lines)) (all-map (filled-live (first (order m lines))) ds) plan e));
+      pairs-are = rw l (omega arith);
+    }
+
+module _ {m : ℕ} {lines left plan counts : List ℕ} {shared : ℕ} (st : State m lines left plan counts shared) where
+  pub counts-size : length counts ≡ 64
+  counts-size = ap length (st .counts-are) ∙ length-listOf (occ left) 64
+
+  -- a tip has at most all lines
+  pub few-lines : length lines ≤ 512 → (t : ℕ) → getD counts t 0 ≤ 512
+  few-lines h t = omega (arith, count-bound left (st .counts-are) t, st .size)
+
+module _ {m : ℕ} {lines left plan counts : List ℕ} {shared : ℕ} (st : State m lines left plan counts shared)
+    (some : 0 < m) (narrow : m ≤ 64) {tip : ℕ} (busy : tip ≡ lowestAt (λ t. getD counts t 0) m) where
+  counted : counts ≡ listOf (occ (live left)) 64
+  counted = st .counts-are ∙ listOf-cong _ _ 64 (λ t _. occ-live left t)
+
+  busiest-is : tip ≡ busiest (live left) m
+  busiest-is = busy ∙ lowest-busiest (live left) counted narrow
+
+  pub tip-lt : tip < 64
+  tip-lt = omega (arith, busiest-is, busiest-lt m (live left) some)
+
+  pub tip-counted : Counted tip left plan counts
+  tip-counted = record { inside = tip-lt; size = st .plan-size; counts-are = st .counts-are }
+
+  count-is : getD counts tip 0 ≡ occ (live left) tip
+  count-is = count-at (live left) counted tip tip-lt
+
+  -- a busiest tip with no line: the plan is done
+  module _ (none : getD counts tip 0 ≡ 0) where
+    nothing : live left ≡ []
+    nothing = none-left m (live left) (st .domains) (rw (← busiest-is) (sym count-is ∙ none))
+
+    pub end-left : left ≡ replicate (length lines) 0
+    end-left = rw (← (st .size)) (all-empty (live-none left nothing))
+
+    pub end-plan : plan ≡ quickPlan m lines
+    end-plan = sym (st .plan-is ∙ over-same _ (all-map (filled-empty _) (live-none left nothing)) plan)
+
+    pub end-pairs : shared ≡ pairs (quickPlan m lines)
+    end-pairs = omega (arith, st .pairs-are, ap (λ l. pairs (quickPlan m l)) nothing ∙ no-pairs m)
+
+  -- a round: its tip has lines, and here pairs among them
+  module _ (lines-left : getD counts tip 0 ≡ 0 → ⊥) {here : ℕ} (e : here ≡ choose2 (getD counts tip 0)) where
+    live-some : 0 < length (live left)
+    live-some = omega (arith, lines-left, count-is, occ-length (live left) tip)
+
+    round : pairs (quickPlan m (live left)) ≡ here + pairs (quickPlan m (rest (live left) tip))
+    round = rw (e, count-is) (pairs-round m (live left) (st .domains) live-some tip busiest-is)
+
+    pub room : length lines ≤ 512 → shared + here ≤ 130816
+    room h = omega (arith, st .pairs-are, round, pairs-bound (quickPlan m lines) (omega (arith, length-quick m lines)))
+
+    module _ {left' plan' counts' : List ℕ} (taken : Taken tip left plan left' plan' counts') where
+      live-rest : live left' ≡ rest (live left) tip
+      live-rest = rw (taken .left-is) (live-cleared tip left)
+
+      pub next-fewer : length (live left') < length (live left)
+      next-fewer = rw live-rest (fewer-round m (live left) (st .domains) live-some tip busiest-is)
+
+      pub next : State m lines left' plan' counts' (shared + here)
+      next = record {
+        domains = rw live-rest (rest-domains m (st .domains) tip);
+        size = ap length (taken .left-is) ∙ length-map left (cleared tip) ∙ st .size;
+        plan-size = ap length (taken .plan-is) ∙ length-over (placed tip) left plan ∙ st .plan-size ∙ sym (ap length (taken .left-is) ∙ length-map left (cleared tip));
+        counts-are = taken .counts-are;
+        plan-is = rw (live-rest, taken .left-is, taken .plan-is) (st .plan-is ∙ over-over (filled (first (order m (rest (live left) tip)))) (placed tip) (filled (first (order m (live left)))) (cleared tip) (filled-round tip (first (order m (live left))) (first (order m (rest (live left) tip))) (first-round m (live left) (st .domains) live-some tip busiest-is)) left plan);
+        pairs-are = rw live-rest (omega (arith, st .pairs-are, round));
+      }

@@ -1,0 +1,48 @@
+-- Quick sharing over a working copy of the lines, in which a planned line is the empty set.
+use Prim.Native.Nat.{ℕ, _≤_, _<_}
+use mathlib.Core.Path.{_≡_}
+use mathlib.Core.Bool.{cond}
+use mathlib.Core.List.{List, [], _∷_, map}
+use lib.ListN.{length, getD, set}
+use Rattle.model.specs.Count.{All, listOf}
+use Rattle.model.specs.Plan.{has, occ, Domain}
+
+-- f of each line's set and its tip in the plan; a tip without a line stays
+unfoldable pub over : (ℕ → ℕ → ℕ) → List ℕ → List ℕ → List ℕ
+over f [] plan = plan
+over f (s ∷ left) [] = []
+over f (s ∷ left) (p ∷ plan) = f s p ∷ over f left plan
+
+-- once tip t is taken, a line that has it is empty
+abbrev pub cleared : ℕ → ℕ → ℕ
+cleared t s = cond (has s t) 0 s
+
+-- and is on it; any other line is where it was
+abbrev pub placed : ℕ → ℕ → ℕ → ℕ
+placed t s p = cond (has s t) t p
+
+-- what quick sharing needs of its lines and of the plan that it is lent
+pub record Shareable (rack : ℕ) (lines plan : List ℕ) : Type 0 where
+  pub some : 0 < rack
+  pub most : rack ≤ 64
+  pub domains : All (Domain rack) lines
+  pub few : length lines ≤ 512
+  pub size : length plan ≡ length lines
+
+-- the counts are the occurrences in the lines left
+pub record Counted (tip : ℕ) (left plan counts : List ℕ) : Type 0 where
+  pub inside : tip < 64
+  pub size : length plan ≡ length left
+  pub counts-are : counts ≡ listOf (occ left) 64
+
+-- tip t is taken for line i
+pub record LineTaken (tip i : ℕ) (left plan left' plan' counts' : List ℕ) : Type 0 where
+  pub left-is : left' ≡ set left i (cleared tip (getD left i 0))
+  pub plan-is : plan' ≡ set plan i (placed tip (getD left i 0) (getD plan i 0))
+  pub counts-are : counts' ≡ listOf (occ left') 64
+
+-- tip t is taken for all lines
+pub record Taken (tip : ℕ) (left plan left' plan' counts' : List ℕ) : Type 0 where
+  pub left-is : left' ≡ map (cleared tip) left
+  pub plan-is : plan' ≡ over (placed tip) left plan
+  pub counts-are : counts' ≡ listOf (occ left') 64

@@ -1,0 +1,69 @@
+// Quick sharing over slices, in rounds: each takes the tip that most lines left allow.
+ghost use mathlib.Core.Path.{_≡_};
+ghost use Prim.Native.Nat.{_≤_, _<_};
+ghost use lib.ListN.{length, replicate};
+ghost use Rattle.model.specs.Count.{listOf};
+ghost use Rattle.model.specs.Plan.{occ, pairs, choose2};
+ghost use Rattle.model.specs.Greedy.{quickPlan};
+ghost use Rattle.greedy.specs.Rounds.{Shareable, Counted, LineTaken, Taken};
+
+// The pairs among p lines.
+fn pairs_among(p: u32) -> u32
+    requires { ⌜ p ≤ 512 ⌝ }
+    ensures { λ r. ⌜ r ≡ choose2 p ⌝ }
+{
+    if p == 0 {
+        return 0;
+    }
+    p * (p - 1) / 2
+}
+
+// A line that has the tip is planned on it, and its tips come off the counts.
+fn take_line(tip: usize, i: usize, left: &mut [u64], plan: &mut [u8], counts: &mut [u32])
+    requires { ⌜ Counted tip (now left) (now plan) (now counts) × (i < length (now left)) ⌝ }
+    ensures { λ _. ⌜ LineTaken tip i (now (left .entry)) (now (plan .entry)) (now (left .exit)) (now (plan .exit)) (now (counts .exit)) ⌝ }
+{
+    let set = left[i];
+    if tips::has_tip(set, tip) {
+        counts::remove_tips(set, counts);
+        left[i] = 0;
+        plan[i] = tip as u8;
+    }
+}
+
+fn take_lines(tip: usize, left: &mut [u64], plan: &mut [u8], counts: &mut [u32])
+    requires { ⌜ Counted tip (now left) (now plan) (now counts) ⌝ }
+    ensures { λ _. ⌜ Taken tip (now (left .entry)) (now (plan .entry)) (now (left .exit)) (now (plan .exit)) (now (counts .exit)) ⌝ }
+{
+    let mut i = 0;
+    while i < left.len() {
+        take_line(tip, i, left, plan, counts);
+        i += 1;
+    }
+}
+
+fn take_rounds(rack: usize, left: &mut [u64], plan: &mut [u8], counts: &mut [u32]) -> u32
+    requires { ⌜ Shareable rack (now left) (now plan) × (now counts ≡ listOf (occ (now left)) 64) ⌝ }
+    ensures { λ r. ⌜ (r ≡ pairs (quickPlan rack (now (left .entry)))) × (now (plan .exit) ≡ quickPlan rack (now (left .entry))) × (now (left .exit) ≡ replicate (length (now (left .entry))) 0) ⌝ }
+{
+    let mut shared = 0;
+    loop {
+        let tip = counts::busiest_tip(counts, rack);
+        let lines = counts[tip];
+        if lines == 0 {
+            return shared;
+        }
+        shared += pairs_among(lines);
+        take_lines(tip, left, plan, counts);
+    }
+}
+
+// The plan of quick sharing, and its pairs. The lines are the caller's working copy: at the end each set is empty.
+pub fn plan_lines(rack: usize, left: &mut [u64], plan: &mut [u8]) -> u32
+    requires { ⌜ Shareable rack (now left) (now plan) ⌝ }
+    ensures { λ r. ⌜ (r ≡ pairs (quickPlan rack (now (left .entry)))) × (now (plan .exit) ≡ quickPlan rack (now (left .entry))) × (now (left .exit) ≡ replicate (length (now (left .entry))) 0) ⌝ }
+{
+    let mut counts = [0u32; 64];
+    counts::count_tips(left, &mut counts);
+    take_rounds(rack, left, plan, &mut counts)
+}

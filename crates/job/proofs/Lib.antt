@@ -1,0 +1,6 @@
+pub mod Lists
+pub mod Numbers
+pub mod Fails
+pub mod Header
+pub mod Lines
+pub mod Reading
