@@ -1,3 +1,4 @@
 pub mod Refusal
 pub mod Board
 pub mod Common
+pub mod Sharing

@@ -5,6 +5,7 @@ ghost use Rattle.board.specs.Refusal.{refuse, lineRefusal};
 ghost use Rattle.board.specs.Board.{stageRefusal, stateRefusal, addRefusal, noSets, openOf, addOf, closeOf};
 
 mod common_call;
+mod quick_call;
 
 pub enum Stage {
     Open,
@@ -42,6 +43,14 @@ pub struct Kept {
     pub number: u32,
     pub place: usize,
     pub margin: i32,
+}
+
+// The number of pairs of lines on one tip in the plan that is handed out.
+pub struct Shared {
+    pub board: Board,
+    pub number: u32,
+    pub place: usize,
+    pub pairs: u32,
 }
 
 pub struct Refusal {
