@@ -10,7 +10,8 @@ use Rattle.board.specs.declared.Refusal.{Refusal}
 use Rattle.board.specs.declared.Board.{Board}
 use Rattle.board.specs.declared.Answer.{Answer}
 use Rattle.board.specs.Refusal.{none, refuse, accepts, orElse, when, lineRefusal}
-use Rattle.sound.specs.Sound.{rackOk, soundSets}
+use Rattle.model.specs.Plan.{rackOk}
+use Rattle.sound.specs.Sound.{soundSets}
 
 -- the sets of the board's lines
 abbrev pub linesOf : Board → List ℕ

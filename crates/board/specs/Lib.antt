@@ -2,3 +2,4 @@ pub mod Refusal
 pub mod Board
 pub mod Common
 pub mod Sharing
+pub mod JobFile

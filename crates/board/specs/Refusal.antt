@@ -1,9 +1,9 @@
 -- A refusal: document 01's number, 0 for none, and the place told with it.
 use Prim.Native.Nat.{ℕ}
-use mathlib.Core.Bool.{Bool, not, cond}
+use mathlib.Core.Bool.{Bool, cond}
 use lib.Dec.{eqb}
 use Rattle.board.specs.declared.Refusal.{Refusal}
-use Rattle.model.specs.Plan.{isEmpty, inRack}
+use Rattle.job.specs.Job.{setNumber}
 
 -- nothing is refused: number 0 and place 0
 abbrev pub none : Refusal
@@ -24,6 +24,6 @@ orElse first next = cond (accepts first) next first
 abbrev pub when : Bool → ℕ → Refusal
 when test n = cond test (refuse n) none
 
--- a line's set: it is empty, or has a tip outside the rack of m tips
-unfoldable pub lineRefusal : ℕ → ℕ → Refusal
-lineRefusal m s = orElse (when (isEmpty s) 2) (when (not (inRack m s)) 3)
+-- a line's set is empty, 2, or has a tip outside the rack of m tips, 3
+abbrev pub lineRefusal : ℕ → ℕ → Refusal
+lineRefusal m s = refuse (setNumber m s)

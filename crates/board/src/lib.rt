@@ -1,10 +1,11 @@
 // The board of a rack of tips: its record, and the calls that open it, add a line and close it.
 ghost use mathlib.Core.Path.{_≡_};
 ghost use lib.ListN.{length};
-ghost use Rattle.board.specs.Refusal.{refuse, lineRefusal};
+ghost use Rattle.board.specs.Refusal.{refuse};
 ghost use Rattle.board.specs.Board.{stageRefusal, stateRefusal, addRefusal, noSets, openOf, addOf, closeOf};
 
 mod common_call;
+mod file_call;
 mod quick_call;
 
 pub enum Stage {
@@ -53,6 +54,14 @@ pub struct Shared {
     pub pairs: u32,
 }
 
+// The bytes of the job file that is written.
+pub struct Written {
+    pub board: Board,
+    pub number: u32,
+    pub place: usize,
+    pub bytes: usize,
+}
+
 pub struct Refusal {
     pub number: u32,
     pub place: usize,
@@ -96,18 +105,6 @@ fn state_refusal(asked: Stage, rack: usize, stage: Stage, count: usize, sets: &[
     stage_refusal(asked, stage)
 }
 
-fn line_refusal(rack: usize, set: u64) -> Refusal
-    ensures { λ r. ⌜ r ≡ lineRefusal rack set ⌝ }
-{
-    if tips::is_empty(set) {
-        return refuse(2);
-    }
-    if !tips::in_rack(rack, set) {
-        return refuse(3);
-    }
-    refuse(0)
-}
-
 fn add_refusal(rack: usize, stage: Stage, count: usize, sets: &[u64], set: u64) -> Refusal
     requires { ⌜ length (now sets) ≡ 512 ⌝ }
     ensures { λ r. ⌜ r ≡ addRefusal (record { rack = rack; stage = stage; count = count; sets = now (sets .entry) }) set ⌝ }
@@ -119,7 +116,7 @@ fn add_refusal(rack: usize, stage: Stage, count: usize, sets: &[u64], set: u64) 
     if count == 512 {
         return refuse(24);
     }
-    line_refusal(rack, set)
+    refuse(job::set_number(rack, set))
 }
 
 impl Board {

@@ -1,4 +1,4 @@
--- Taking the lowest tip out of a set.
+-- A loop over the tips of a set: the lowest tip is taken out of it, and its count changes by one.
 use Prim.Native.Nat.{ℕ, zero, suc, _+_, _-_, _/_, _%_, _^_, _<_, _≤_}
 use native.Mathlib.Omega.{arith}
 use mathlib.Core.Path.{_≡_, refl}
@@ -53,49 +53,53 @@ low-split : (s : ℕ) → 0 < s → s < 2 ^ 64 → (t : ℕ) → cond (has s t) 
 unfolding withoutLow low
 low-split s p h t = split 64 s t p h
 
+-- an empty set has no tip
+pub empty-none : (t : ℕ) → _≡_ {A = ℕ} (cond (has 0 t) 1 0) 0
+empty-none t = omega (arith, one-le (has 0 t) false (λ h. omega (arith, has-some 0 t h)))
+
 -- the counts a with one more for each tip of the set x are the counts b with one more for each tip of the set y
-abbrev pub Level : List ℕ → ℕ → List ℕ → ℕ → Type 0
-Level a x b y = (t : ℕ) → getD a t 0 + cond (has x t) 1 0 ≡ getD b t 0 + cond (has y t) 1 0
+pub record SameSum (a : List ℕ) (x : ℕ) (b : List ℕ) (y : ℕ) : Type 0 where
+  pub sum-at : (t : ℕ) → getD a t 0 + cond (has x t) 1 0 ≡ getD b t 0 + cond (has y t) 1 0
 
--- an empty set adds nothing
-pub level-none : (t : ℕ) → _≡_ {A = ℕ} (cond (has 0 t) 1 0) 0
-level-none t = omega (arith, one-le (has 0 t) false (λ h. omega (arith, has-some 0 t h)))
+-- a set of 64 bits that is not empty, and its lowest tip
+pub record LowestTip (s tip : ℕ) : Type 0 where
+  pub some : s ≡ 0 → ⊥
+  pub below : s < 2 ^ 64
+  pub is-low : tip ≡ low s
 
--- a loop over the tips of a set, of which s is left: the lowest is taken out of it
-module _ (s : ℕ) (nz : s ≡ 0 → ⊥) (h : s < 2 ^ 64) where
-  some : 0 < s
-  some = pos-of-ne-zero nz
-
+module _ {s tip : ℕ} (l : LowestTip s tip) where
   low-has : T (has s (low s))
-  low-has = low-tip {m = 64} (omega arith) (record { some = some; below = h })
+  low-has = low-tip {m = 64} (omega arith) (record { some = pos-of-ne-zero (l .some); below = l .below })
 
-  pub low-lt : {tip : ℕ} → tip ≡ low s → tip < 64
-  low-lt e = omega (arith, has-below 64 s (low s) h low-has)
+  pub tip-lt : tip < 64
+  tip-lt = omega (arith, l .is-low, has-below 64 s (low s) (l .below) low-has)
 
   pub without-less : {next : ℕ} → next ≡ withoutLow s → next < s
   unfolding withoutLow
-  without-less e = omega (arith, pow-pos (low s), some)
+  without-less n = omega (arith, pow-pos (low s), pos-of-ne-zero (l .some))
 
-  module _ (counts old : List ℕ) (full tip next : ℕ) (size : length counts ≡ 64) (e : tip ≡ low s) (n : next ≡ withoutLow s) where
-    index : tip < length counts
-    index = omega (arith, low-lt e)
+  tip-has : _≡_ {A = ℕ} (cond (has s tip) 1 0) 1
+  tip-has = rw (l .is-low, true-T (has s (low s)) low-has)
 
-    tip-has : _≡_ {A = ℕ} (cond (has s tip) 1 0) 1
-    tip-has = rw (e, true-T (has s (low s)) low-has)
+  tip-split : {next : ℕ} → next ≡ withoutLow s → (t : ℕ) → cond (has s t) 1 0 ≡ cond (has next t) 1 0 + cond (eqb t tip) 1 0
+  tip-split n t = rw (l .is-low, n) (low-split s (pos-of-ne-zero (l .some)) (l .below) t)
 
-    tip-split : (t : ℕ) → cond (has s t) 1 0 ≡ cond (has next t) 1 0 + cond (eqb t tip) 1 0
-    tip-split t = rw (e, n) (low-split s some h t)
+  module _ {counts old : List ℕ} {full : ℕ} (size : length counts ≡ 64) where
+    -- one more for the tip
+    pub add-le : SameSum counts s old full → getD counts tip 0 ≤ getD old tip 0
+    add-le e = omega (arith, e .sum-at tip, tip-has, one-le (has full tip) true (λ _. tt))
 
-    -- one more for it
-    pub add-room : Level counts s old full → getD counts tip 0 ≤ getD old tip 0
-    add-room l = omega (arith, l tip, tip-has, one-le (has full tip) true (λ _. tt))
+    pub add-step : {next : ℕ} → SameSum counts s old full → next ≡ withoutLow s → SameSum (set counts tip (getD counts tip 0 + 1)) next old full
+    add-step e n = record { sum-at = λ t. omega (arith, e .sum-at t, tip-split n t, set-more counts tip t (omega (arith, tip-lt))) }
 
-    pub add-step : Level counts s old full → Level (set counts tip (getD counts tip 0 + 1)) next old full
-    add-step l t = omega (arith, l t, tip-split t, set-more counts tip t index)
+    -- one fewer for the tip
+    pub remove-some : SameSum counts full old s → ((t : ℕ) → T (has full t) → 0 < getD old t 0) → 0 < getD counts tip 0
+    remove-some e f =
+        ⊎-elim
+        (λ y. omega (arith, e .sum-at tip, tip-has, f tip y, one-le (has full tip) true (λ _. tt)))
+        (λ n. omega (arith, e .sum-at tip, tip-has, one-le (has full tip) false (T-not (has full tip) n)))
+        (test (has full tip))
 
-    -- one fewer for it
-    pub remove-some : Level counts full old s → ((t : ℕ) → T (has full t) → 0 < getD old t 0) → 0 < getD counts tip 0
-    remove-some l f = ⊎-elim (λ y. omega (arith, l tip, tip-has, f tip y, one-le (has full tip) true (λ _. tt))) (λ z. omega (arith, l tip, tip-has, one-le (has full tip) false (T-not (has full tip) z))) (test (has full tip))
-
-    pub remove-step : Level counts full old s → 0 < getD counts tip 0 → Level (set counts tip (getD counts tip 0 - 1)) full old next
-    remove-step l p t = omega (arith, l t, tip-split t, set-fewer counts tip t index p)
+    pub remove-step : {next : ℕ} → SameSum counts full old s → 0 < getD counts tip 0 → next ≡ withoutLow s
+        → SameSum (set counts tip (getD counts tip 0 - 1)) full old next
+    remove-step e p n = record { sum-at = λ t. omega (arith, e .sum-at t, tip-split n t, set-fewer counts tip t (omega (arith, tip-lt)) p) }

@@ -17,7 +17,7 @@ use Rattle.model.proofs.Largest.{largest-cong, largest-ge, lowest-lt, lowest-at
 use Rattle.model.proofs.Tests.{cond-case, le-or-lt}
 use Rattle.model.proofs.Lists.{count-le}
 use Rattle.model.proofs.Loops.{count-more}
-use Rattle.counts.proofs.Lists.{length-listOf, listOf-at, listOf-cong}
+use Rattle.model.proofs.ListOf.{length-listOf, listOf-at, listOf-cong}
 
 -- one tip more
 pub largest-more : (f : ℕ → ℕ) (m : ℕ) → largest f (m + 1) ≡ max (largest f m) (f m)
@@ -102,5 +102,5 @@ module _ (lines : List ℕ) where
     unfolding occ
     count-next = listOf-cong _ _ 64 (λ t l. omega (arith, count-at (take i lines) e t l, count-more (λ s. has s t) lines i h))
 
-    pub count-room : (t : ℕ) → getD counts t 0 ≤ i
-    count-room t = omega (arith, count-bound (take i lines) e t, length-take i lines)
+    pub counted-le : (t : ℕ) → getD counts t 0 ≤ i
+    counted-le t = omega (arith, count-bound (take i lines) e t, length-take i lines)

@@ -1,5 +1,5 @@
-pub mod Over
-pub mod Live
+pub mod PlanBy
+pub mod Unplanned
 pub mod Bound
 pub mod Line
 pub mod Round

@@ -12,11 +12,11 @@ use Rattle.model.proofs.Lists.{count-set, count-pos}
 use Rattle.model.proofs.Loops.{mapped, mapped-more, length-mapped, mapped-all}
 use Rattle.model.proofs.Sets.{has-below}
 use Rattle.counts.specs.Counts.{Removable}
-use Rattle.counts.proofs.Lists.{length-listOf, listOf-cong}
-use Rattle.counts.proofs.Lowest.{level-none}
+use Rattle.model.proofs.ListOf.{length-listOf, listOf-cong}
+use Rattle.counts.proofs.Lowest.{empty-none}
 use Rattle.counts.proofs.Read.{count-at}
-use Rattle.greedy.specs.Rounds.{over, cleared, placed, Counted, LineTaken, Taken}
-use Rattle.greedy.proofs.Over.{length-over, over-more}
+use Rattle.greedy.specs.Rounds.{planBy, cleared, placed, Counted, LineTaken, Taken}
+use Rattle.greedy.proofs.PlanBy.{length-planBy, planBy-more}
 
 -- ---- line i
 
@@ -32,7 +32,7 @@ module _ {tip : ℕ} {left plan counts : List ℕ} (k : Counted tip left plan co
   -- without it they are counted once less
   fewer : (t : ℕ) → t < 64 → getD counts t 0 - cond (has (getD left i 0) t) 1 0 ≡ occ (set left i 0) t
   unfolding occ
-  fewer t l = omega (arith, count-at left (k .counts-are) t l, count-set (λ s. has s t) 0 0 left i h, level-none t)
+  fewer t l = omega (arith, count-at left (k .counts-are) t l, count-set (λ s. has s t) 0 0 left i h, empty-none t)
 
   -- it has the tip
   pub line-taken : {counts' : List ℕ} → has (getD left i 0) tip ≡ true → counts' ≡ listOf (λ t. getD counts t 0 - cond (has (getD left i 0) t) 1 0) 64
@@ -52,7 +52,7 @@ module _ {tip : ℕ} {left plan counts : List ℕ} (k : Counted tip left plan co
 pub record FirstTaken (tip i : ℕ) (left plan left' plan' counts' : List ℕ) : Type 0 where
   pub within : i ≤ length left
   pub left-is : left' ≡ mapped (cleared tip) i left
-  pub plan-is : plan' ≡ over (placed tip) (take i left) plan
+  pub plan-is : plan' ≡ planBy (placed tip) (take i left) plan
   pub counts-are : counts' ≡ listOf (occ left') 64
 
 mapped-at : (f : ℕ → ℕ) (xs : List ℕ) (i : ℕ) → getD (mapped f i xs) i 0 ≡ getD xs i 0
@@ -63,7 +63,7 @@ mapped-at f (x ∷ xs) (suc i) = mapped-at f xs i
 
 module _ {tip : ℕ} {left plan counts : List ℕ} (k : Counted tip left plan counts) where
   pub none-taken : FirstTaken tip 0 left plan left plan counts
-  unfolding over
+  unfolding planBy
   none-taken = record { within = omega arith; left-is = refl; plan-is = refl; counts-are = k .counts-are }
 
   module _ {i : ℕ} {left' plan' counts' : List ℕ} (f : FirstTaken tip i left plan left' plan' counts') where
@@ -71,7 +71,7 @@ module _ {tip : ℕ} {left plan counts : List ℕ} (k : Counted tip left plan co
     left-size = ap length (f .left-is) ∙ length-mapped (cleared tip) left i
 
     pub plan-size : length plan' ≡ length plan
-    plan-size = ap length (f .plan-is) ∙ length-over (placed tip) (take i left) plan
+    plan-size = ap length (f .plan-is) ∙ length-planBy (placed tip) (take i left) plan
 
     pub counts-size : length counts' ≡ length counts
     counts-size = ap length (f .counts-are) ∙ length-listOf (occ left') 64 ∙ sym (ap length (k .counts-are) ∙ length-listOf (occ left) 64)
@@ -82,14 +82,17 @@ module _ {tip : ℕ} {left plan counts : List ℕ} (k : Counted tip left plan co
     pub all-taken : length left' ≤ i → Taken tip left plan left' plan' counts'
     all-taken l = record {
       left-is = f .left-is ∙ mapped-all (cleared tip) left i (omega (arith, left-size));
-      plan-is = f .plan-is ∙ ap (λ xs. over (placed tip) xs plan) (take-all i left (omega (arith, left-size)));
+      plan-is = f .plan-is ∙ ap (λ xs. planBy (placed tip) xs plan) (take-all i left (omega (arith, left-size)));
       counts-are = f .counts-are;
     }
 
-    pub one-taken : {left'' plan'' counts'' : List ℕ} → i < length left' → LineTaken tip i left' plan' left'' plan'' counts'' → FirstTaken tip (i + 1) left plan left'' plan'' counts''
-    one-taken l t = record {
-      within = omega (arith, left-size);
-      left-is = t .left-is ∙ rw (f .left-is) (mapped-more (cleared tip) left i (omega (arith, left-size)));
-      plan-is = t .plan-is ∙ rw (f .left-is, mapped-at (cleared tip) left i, f .plan-is) (over-more (placed tip) left plan i (omega (arith, left-size)) (omega (arith, k .size, left-size)));
-      counts-are = t .counts-are;
-    }
+    pub one-taken : {left'' plan'' counts'' : List ℕ} → i < length left' → LineTaken tip i left' plan' left'' plan'' counts''
+        → FirstTaken tip (i + 1) left plan left'' plan'' counts''
+    one-taken l t =
+        let h : i < length left = omega (arith, left-size) in
+        record {
+          within = omega arith;
+          left-is = t .left-is ∙ rw (f .left-is) (mapped-more (cleared tip) left i h);
+          plan-is = t .plan-is ∙ rw (f .left-is, mapped-at (cleared tip) left i, f .plan-is) (planBy-more (placed tip) left plan i h (omega (arith, k .size)));
+          counts-are = t .counts-are;
+        }

@@ -17,12 +17,12 @@ use Rattle.model.proofs.Sets.{some-tip}
 use Rattle.model.proofs.Occ.{occ-le, top-le, busiest-lt}
 use Rattle.model.proofs.Valid.{prefer-mix, rest-free}
 use Rattle.model.proofs.Greedy.{rest-fewer, quick-valid}
-use Rattle.counts.proofs.Lists.{length-listOf, listOf-cong}
+use Rattle.model.proofs.ListOf.{length-listOf, listOf-cong}
 use Rattle.counts.proofs.Read.{count-at, count-bound, lowest-busiest}
-use Rattle.greedy.specs.Rounds.{over, cleared, placed, Counted, Taken}
+use Rattle.greedy.specs.Rounds.{planBy, cleared, placed, Counted, Taken}
 use Rattle.greedy.proofs.Bound.{pairs-bound}
-use Rattle.greedy.proofs.Over.{length-over, over-same, over-map, over-over}
-use Rattle.greedy.proofs.Live.{live, has-live, occ-live, live-all, live-cleared, live-none, all-empty}
+use Rattle.greedy.proofs.PlanBy.{length-planBy, planBy-same, planBy-map, planBy-twice}
+use Rattle.greedy.proofs.Unplanned.{unplanned, has-some-tip, occ-unplanned, unplanned-all, unplanned-cleared, unplanned-none, all-empty}
 
 -- the tips of the rounds to come
 pub order : ℕ → List ℕ → List ℕ
@@ -106,9 +106,9 @@ occ-length lines t = count-le (λ s. has s t) lines
 pub filled : (ℕ → ℕ) → ℕ → ℕ → ℕ
 filled g s p = cond (isEmpty s) p (g s)
 
-filled-live : (g : ℕ → ℕ) {m : ℕ} (s : ℕ) → Domain m s → (p : ℕ) → filled g s p ≡ g s
+filled-unplanned : (g : ℕ → ℕ) {m : ℕ} (s : ℕ) → Domain m s → (p : ℕ) → filled g s p ≡ g s
 unfolding filled
-filled-live g s d p = rw (false-T (isEmpty s) (not-T (isEmpty s) (λ e. omega (arith, d .some, eqb→eq s 0 e))))
+filled-unplanned g s d p = rw (false-T (isEmpty s) (not-T (isEmpty s) (λ e. omega (arith, d .some, eqb→eq s 0 e))))
 
 filled-empty : (g : ℕ → ℕ) (s : ℕ) → s ≡ 0 → (p : ℕ) → filled g s p ≡ p
 unfolding filled
@@ -118,28 +118,30 @@ filled-round : (t : ℕ) (f g : ℕ → ℕ) → ((s : ℕ) → f s ≡ prefer t
 unfolding filled
 filled-round t f g e s p =
     ⊎-elim
-    (λ y. rw (e s, has-live s t y, true-T (has s t) y))
+    (λ y. rw (e s, has-some-tip s t y, true-T (has s t) y))
     (λ n. rw (e s, false-T (has s t) n))
     (test (has s t))
 
 pub record State (m : ℕ) (lines left plan counts : List ℕ) (shared : ℕ) : Type 0 where
-  pub domains : All (Domain m) (live left)
+  pub domains : All (Domain m) (unplanned left)
   pub size : length left ≡ length lines
   pub plan-size : length plan ≡ length left
   pub counts-are : counts ≡ listOf (occ left) 64
-  pub plan-is : quickPlan m lines ≡ over (filled (first (order m (live left)))) left plan
-  pub pairs-are : pairs (quickPlan m lines) ≡ shared + pairs (quickPlan m (live left))
+  pub plan-is : quickPlan m lines ≡ planBy (filled (first (order m (unplanned left)))) left plan
+  pub pairs-are : pairs (quickPlan m lines) ≡ shared + pairs (quickPlan m (unplanned left))
 
-pub start : {m : ℕ} {lines plan counts : List ℕ} → All (Domain m) lines → length plan ≡ length lines → counts ≡ listOf (occ lines) 64 → State m lines lines plan counts 0
+pub start : {m : ℕ} {lines plan counts : List ℕ} → All (Domain m) lines → length plan ≡ length lines → counts ≡ listOf (occ lines) 64
+    → State m lines lines plan counts 0
 unfolding quickPlan order
 start {m} {lines} {plan} ds e h =
-    let l = live-all ds in
+    let l = unplanned-all ds in
+    let g = first (order m lines) in
     record {
       domains = rw l ds;
       size = refl;
       plan-size = e;
       counts-are = h;
-      plan-is = rw l (sym (over-map (filled (first (order m lines))) (first (order m lines)) (all-map (filled-live (first (order m lines))) ds) plan e));
+      plan-is = rw l (sym (planBy-map (filled g) g (all-map (filled-unplanned g) ds) plan e));
       pairs-are = rw l (omega arith);
     }
 
@@ -151,61 +153,75 @@ module _ {m : ℕ} {lines left plan counts : List ℕ} {shared : ℕ} (st : Stat
   pub few-lines : length lines ≤ 512 → (t : ℕ) → getD counts t 0 ≤ 512
   few-lines h t = omega (arith, count-bound left (st .counts-are) t, st .size)
 
-module _ {m : ℕ} {lines left plan counts : List ℕ} {shared : ℕ} (st : State m lines left plan counts shared)
-    (some : 0 < m) (narrow : m ≤ 64) {tip : ℕ} (busy : tip ≡ lowestAt (λ t. getD counts t 0) m) where
-  counted : counts ≡ listOf (occ (live left)) 64
-  counted = st .counts-are ∙ listOf-cong _ _ 64 (λ t _. occ-live left t)
+-- a round begins: its tip is the lowest in the rack with the largest count
+pub record Begun (m : ℕ) (lines left plan counts : List ℕ) (shared tip : ℕ) : Type 0 where
+  pub state : State m lines left plan counts shared
+  pub some : 0 < m
+  pub narrow : m ≤ 64
+  pub busy : tip ≡ lowestAt (λ t. getD counts t 0) m
 
-  busiest-is : tip ≡ busiest (live left) m
-  busiest-is = busy ∙ lowest-busiest (live left) counted narrow
+module _ {m : ℕ} {lines left plan counts : List ℕ} {shared tip : ℕ} (b : Begun m lines left plan counts shared tip) where
+  st : State m lines left plan counts shared
+  st = b .state
+
+  counted : counts ≡ listOf (occ (unplanned left)) 64
+  counted = st .counts-are ∙ listOf-cong _ _ 64 (λ t _. occ-unplanned left t)
+
+  busiest-is : tip ≡ busiest (unplanned left) m
+  busiest-is = b .busy ∙ lowest-busiest (unplanned left) counted (b .narrow)
 
   pub tip-lt : tip < 64
-  tip-lt = omega (arith, busiest-is, busiest-lt m (live left) some)
+  tip-lt = omega (arith, busiest-is, busiest-lt m (unplanned left) (b .some))
 
   pub tip-counted : Counted tip left plan counts
   tip-counted = record { inside = tip-lt; size = st .plan-size; counts-are = st .counts-are }
 
-  count-is : getD counts tip 0 ≡ occ (live left) tip
-  count-is = count-at (live left) counted tip tip-lt
+  count-is : getD counts tip 0 ≡ occ (unplanned left) tip
+  count-is = count-at (unplanned left) counted tip tip-lt
 
   -- a busiest tip with no line: the plan is done
   module _ (none : getD counts tip 0 ≡ 0) where
-    nothing : live left ≡ []
-    nothing = none-left m (live left) (st .domains) (rw (← busiest-is) (sym count-is ∙ none))
+    none-unplanned : unplanned left ≡ []
+    none-unplanned = none-left m (unplanned left) (st .domains) (rw (← busiest-is) (sym count-is ∙ none))
 
     pub end-left : left ≡ replicate (length lines) 0
-    end-left = rw (← (st .size)) (all-empty (live-none left nothing))
+    end-left = rw (← (st .size)) (all-empty (unplanned-none left none-unplanned))
 
     pub end-plan : plan ≡ quickPlan m lines
-    end-plan = sym (st .plan-is ∙ over-same _ (all-map (filled-empty _) (live-none left nothing)) plan)
+    end-plan = sym (st .plan-is ∙ planBy-same _ (all-map (filled-empty _) (unplanned-none left none-unplanned)) plan)
 
     pub end-pairs : shared ≡ pairs (quickPlan m lines)
-    end-pairs = omega (arith, st .pairs-are, ap (λ l. pairs (quickPlan m l)) nothing ∙ no-pairs m)
+    end-pairs = omega (arith, st .pairs-are, ap (λ l. pairs (quickPlan m l)) none-unplanned ∙ no-pairs m)
 
   -- a round: its tip has lines, and here pairs among them
   module _ (lines-left : getD counts tip 0 ≡ 0 → ⊥) {here : ℕ} (e : here ≡ choose2 (getD counts tip 0)) where
-    live-some : 0 < length (live left)
-    live-some = omega (arith, lines-left, count-is, occ-length (live left) tip)
+    some-unplanned : 0 < length (unplanned left)
+    some-unplanned = omega (arith, lines-left, count-is, occ-length (unplanned left) tip)
 
-    round : pairs (quickPlan m (live left)) ≡ here + pairs (quickPlan m (rest (live left) tip))
-    round = rw (e, count-is) (pairs-round m (live left) (st .domains) live-some tip busiest-is)
+    round : pairs (quickPlan m (unplanned left)) ≡ here + pairs (quickPlan m (rest (unplanned left) tip))
+    round = rw (e, count-is) (pairs-round m (unplanned left) (st .domains) some-unplanned tip busiest-is)
 
-    pub room : length lines ≤ 512 → shared + here ≤ 130816
-    room h = omega (arith, st .pairs-are, round, pairs-bound (quickPlan m lines) (omega (arith, length-quick m lines)))
+    pub pairs-fit : length lines ≤ 512 → shared + here ≤ 130816
+    pairs-fit h = omega (arith, st .pairs-are, round, pairs-bound (quickPlan m lines) (omega (arith, length-quick m lines)))
 
     module _ {left' plan' counts' : List ℕ} (taken : Taken tip left plan left' plan' counts') where
-      live-rest : live left' ≡ rest (live left) tip
-      live-rest = rw (taken .left-is) (live-cleared tip left)
+      unplanned-rest : unplanned left' ≡ rest (unplanned left) tip
+      unplanned-rest = rw (taken .left-is) (unplanned-cleared tip left)
 
-      pub next-fewer : length (live left') < length (live left)
-      next-fewer = rw live-rest (fewer-round m (live left) (st .domains) live-some tip busiest-is)
+      pub next-fewer : length (unplanned left') < length (unplanned left)
+      next-fewer = rw unplanned-rest (fewer-round m (unplanned left) (st .domains) some-unplanned tip busiest-is)
 
       pub next : State m lines left' plan' counts' (shared + here)
-      next = record {
-        domains = rw live-rest (rest-domains m (st .domains) tip);
-        size = ap length (taken .left-is) ∙ length-map left (cleared tip) ∙ st .size;
-        plan-size = ap length (taken .plan-is) ∙ length-over (placed tip) left plan ∙ st .plan-size ∙ sym (ap length (taken .left-is) ∙ length-map left (cleared tip));
-        counts-are = taken .counts-are;
-        plan-is = rw (live-rest, taken .left-is, taken .plan-is) (st .plan-is ∙ over-over (filled (first (order m (rest (live left) tip)))) (placed tip) (filled (first (order m (live left)))) (cleared tip) (filled-round tip (first (order m (live left))) (first (order m (rest (live left) tip))) (first-round m (live left) (st .domains) live-some tip busiest-is)) left plan);
-        pairs-are = rw live-rest (omega (arith, st .pairs-are, round));
-      }
+      next =
+          let old = first (order m (unplanned left)) in
+          let new = first (order m (rest (unplanned left) tip)) in
+          let size-left = ap length (taken .left-is) ∙ length-map left (cleared tip) in
+          let same = filled-round tip old new (first-round m (unplanned left) (st .domains) some-unplanned tip busiest-is) in
+          record {
+            domains = rw unplanned-rest (rest-domains m (st .domains) tip);
+            size = size-left ∙ st .size;
+            plan-size = ap length (taken .plan-is) ∙ length-planBy (placed tip) left plan ∙ st .plan-size ∙ sym size-left;
+            counts-are = taken .counts-are;
+            plan-is = rw (unplanned-rest, taken .left-is, taken .plan-is) (st .plan-is ∙ planBy-twice (filled new) (placed tip) (filled old) (cleared tip) same left plan);
+            pairs-are = rw unplanned-rest (omega (arith, st .pairs-are, round));
+          }

@@ -3,15 +3,16 @@ use Prim.Native.Nat.{ℕ, _≤_, _<_}
 use mathlib.Core.Path.{_≡_}
 use mathlib.Core.Bool.{cond}
 use mathlib.Core.List.{List, [], _∷_, map}
-use lib.ListN.{length, getD, set}
+use lib.ListN.{length, getD, set, replicate}
 use Rattle.model.specs.Count.{All, listOf}
-use Rattle.model.specs.Plan.{has, occ, Domain}
+use Rattle.model.specs.Plan.{has, occ, pairs, Domain}
+use Rattle.model.specs.Greedy.{quickPlan}
 
 -- f of each line's set and its tip in the plan; a tip without a line stays
-unfoldable pub over : (ℕ → ℕ → ℕ) → List ℕ → List ℕ → List ℕ
-over f [] plan = plan
-over f (s ∷ left) [] = []
-over f (s ∷ left) (p ∷ plan) = f s p ∷ over f left plan
+unfoldable pub planBy : (ℕ → ℕ → ℕ) → List ℕ → List ℕ → List ℕ
+planBy f [] plan = plan
+planBy f (s ∷ left) [] = []
+planBy f (s ∷ left) (p ∷ plan) = f s p ∷ planBy f left plan
 
 -- once tip t is taken, a line that has it is empty
 abbrev pub cleared : ℕ → ℕ → ℕ
@@ -29,20 +30,26 @@ pub record Shareable (rack : ℕ) (lines plan : List ℕ) : Type 0 where
   pub few : length lines ≤ 512
   pub size : length plan ≡ length lines
 
--- the counts are the occurrences in the lines left
+-- what quick sharing answers and leaves: the pairs, the plan, and a working copy of which each line is planned
+pub record Shared (rack : ℕ) (lines : List ℕ) (r : ℕ) (plan left : List ℕ) : Type 0 where
+  pub pairs-are : r ≡ pairs (quickPlan rack lines)
+  pub plan-is : plan ≡ quickPlan rack lines
+  pub left-is : left ≡ replicate (length lines) 0
+
+-- a tip to take for lines whose occurrences are counted
 pub record Counted (tip : ℕ) (left plan counts : List ℕ) : Type 0 where
   pub inside : tip < 64
   pub size : length plan ≡ length left
   pub counts-are : counts ≡ listOf (occ left) 64
 
--- tip t is taken for line i
+-- the tip is taken for line i
 pub record LineTaken (tip i : ℕ) (left plan left' plan' counts' : List ℕ) : Type 0 where
   pub left-is : left' ≡ set left i (cleared tip (getD left i 0))
   pub plan-is : plan' ≡ set plan i (placed tip (getD left i 0) (getD plan i 0))
   pub counts-are : counts' ≡ listOf (occ left') 64
 
--- tip t is taken for all lines
+-- the tip is taken for all lines
 pub record Taken (tip : ℕ) (left plan left' plan' counts' : List ℕ) : Type 0 where
   pub left-is : left' ≡ map (cleared tip) left
-  pub plan-is : plan' ≡ over (placed tip) left plan
+  pub plan-is : plan' ≡ planBy (placed tip) left plan
   pub counts-are : counts' ≡ listOf (occ left') 64

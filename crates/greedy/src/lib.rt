@@ -1,11 +1,10 @@
 // Quick sharing over slices, in rounds: each takes the tip that most lines left allow.
 ghost use mathlib.Core.Path.{_≡_};
 ghost use Prim.Native.Nat.{_≤_, _<_};
-ghost use lib.ListN.{length, replicate};
+ghost use lib.ListN.{length};
 ghost use Rattle.model.specs.Count.{listOf};
-ghost use Rattle.model.specs.Plan.{occ, pairs, choose2};
-ghost use Rattle.model.specs.Greedy.{quickPlan};
-ghost use Rattle.greedy.specs.Rounds.{Shareable, Counted, LineTaken, Taken};
+ghost use Rattle.model.specs.Plan.{occ, choose2};
+ghost use Rattle.greedy.specs.Rounds.{Shareable, Shared, Counted, LineTaken, Taken};
 
 // The pairs among p lines.
 fn pairs_among(p: u32) -> u32
@@ -18,7 +17,7 @@ fn pairs_among(p: u32) -> u32
     p * (p - 1) / 2
 }
 
-// A line that has the tip is planned on it, and its tips come off the counts.
+// A line that has the tip is planned on it: its tips come off the counts, and its set becomes empty.
 fn take_line(tip: usize, i: usize, left: &mut [u64], plan: &mut [u8], counts: &mut [u32])
     requires { ⌜ Counted tip (now left) (now plan) (now counts) × (i < length (now left)) ⌝ }
     ensures { λ _. ⌜ LineTaken tip i (now (left .entry)) (now (plan .entry)) (now (left .exit)) (now (plan .exit)) (now (counts .exit)) ⌝ }
@@ -31,6 +30,7 @@ fn take_line(tip: usize, i: usize, left: &mut [u64], plan: &mut [u8], counts: &m
     }
 }
 
+// One round: the tip is taken for each line that has it.
 fn take_lines(tip: usize, left: &mut [u64], plan: &mut [u8], counts: &mut [u32])
     requires { ⌜ Counted tip (now left) (now plan) (now counts) ⌝ }
     ensures { λ _. ⌜ Taken tip (now (left .entry)) (now (plan .entry)) (now (left .exit)) (now (plan .exit)) (now (counts .exit)) ⌝ }
@@ -42,9 +42,10 @@ fn take_lines(tip: usize, left: &mut [u64], plan: &mut [u8], counts: &mut [u32])
     }
 }
 
+// Each round takes the tip that most lines left allow, the lowest on a tie.
 fn take_rounds(rack: usize, left: &mut [u64], plan: &mut [u8], counts: &mut [u32]) -> u32
     requires { ⌜ Shareable rack (now left) (now plan) × (now counts ≡ listOf (occ (now left)) 64) ⌝ }
-    ensures { λ r. ⌜ (r ≡ pairs (quickPlan rack (now (left .entry)))) × (now (plan .exit) ≡ quickPlan rack (now (left .entry))) × (now (left .exit) ≡ replicate (length (now (left .entry))) 0) ⌝ }
+    ensures { λ r. ⌜ Shared rack (now (left .entry)) r (now (plan .exit)) (now (left .exit)) ⌝ }
 {
     let mut shared = 0;
     loop {
@@ -61,7 +62,7 @@ fn take_rounds(rack: usize, left: &mut [u64], plan: &mut [u8], counts: &mut [u32
 // The plan of quick sharing, and its pairs. The lines are the caller's working copy: at the end each set is empty.
 pub fn plan_lines(rack: usize, left: &mut [u64], plan: &mut [u8]) -> u32
     requires { ⌜ Shareable rack (now left) (now plan) ⌝ }
-    ensures { λ r. ⌜ (r ≡ pairs (quickPlan rack (now (left .entry)))) × (now (plan .exit) ≡ quickPlan rack (now (left .entry))) × (now (left .exit) ≡ replicate (length (now (left .entry))) 0) ⌝ }
+    ensures { λ r. ⌜ Shared rack (now (left .entry)) r (now (plan .exit)) (now (left .exit)) ⌝ }
 {
     let mut counts = [0u32; 64];
     counts::count_tips(left, &mut counts);

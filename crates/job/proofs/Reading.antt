@@ -4,7 +4,6 @@ use native.Mathlib.Omega.{arith}
 use native.Mathlib.Nat.{lt-of-lt-of-le}
 use mathlib.Core.Path.{_≡_, refl, sym, ap, ap₂, _∙_}
 use mathlib.Core.Logic.{_↔_, ⊎-elim}
-use mathlib.Core.Bool.{Bool}
 use mathlib.Core.List.{List, _++_}
 use lib.ListN.{length, drop, getD, length-append, length-drop, take-append-drop}
 use lib.Seq.{drop-at}
@@ -17,8 +16,9 @@ use Rattle.model.proofs.Lists.{all-map}
 use Rattle.model.proofs.Sets.{domain-iff}
 use Rattle.model.proofs.Tests.{le-or-lt}
 use Rattle.job.specs.Job.{Bytes, headerLength, lineLength, fileLength, headerOf, linesOf, fileOf, rackIn, countIn, setIn, setsIn, headerNumber, setNumber, badIn, hasBad, readNumber, readPlace, GoodHeader}
-use Rattle.job.proofs.Lists.{length-listOf, listOf-cong}
-use Rattle.job.proofs.Numbers.{number-after, all-drop}
+use Rattle.model.proofs.Lists.{all-drop}
+use Rattle.model.proofs.ListOf.{length-listOf, listOf-cong}
+use Rattle.job.proofs.Numbers.{number-after}
 use Rattle.job.proofs.Fails.{fails-none, none-fails, fails-at, set-number}
 use Rattle.job.proofs.Header.{header-good, good-header, length-headerOf, mark-back, version-back, rack-back, count-back, header-again}
 use Rattle.job.proofs.Lines.{lineAt, length-linesOf, lines-back, lines-again}
@@ -37,7 +37,7 @@ module _ (file : List ℕ) where
   -- the sets are those of the lines after the header
   sets-after : setsIn file ≡ listOf (lineAt (drop headerLength file)) (countIn file)
   unfolding setsIn
-  sets-after = listOf-cong (setIn file) _ (countIn file) (λ i. number-after lineLength file headerLength (lineLength * i))
+  sets-after = listOf-cong (setIn file) _ (countIn file) (λ i _. number-after lineLength file headerLength (lineLength * i))
 
   -- ---- the refusal of a file
 
@@ -57,23 +57,32 @@ module _ (file : List ℕ) where
   unfolding readNumber readPlace hasBad
   read-clean h l = rw (eq-eqb _ _ h, le-ltb _ _ l) (h, refl)
 
-  -- a file is not refused exactly where its header is good, and the set of each line is a domain
-  pub read-iff : (readNumber file ≡ 0) ↔ (GoodHeader file × All (Domain (rackIn file)) (setsIn file))
+  -- a good header, and a domain on each line
+  good-file : GoodHeader file → All (Domain (rackIn file)) (setsIn file) → (readNumber file ≡ 0) × (readPlace file ≡ 0)
   unfolding badIn
-  read-iff = (
-    λ e. ⊎-elim (λ h. let z : headerNumber file ≡ 0 = omega arith in (header-good file z, domains e z)) (λ h. absurd (omega (arith, e, read-refused (λ z. omega arith) .0))) (le-or-lt (headerNumber file) 0),
-    λ (g, h). read-clean (good-header file g) (omega (arith, length-setsIn, fails-none test (all-map (λ s. domain-iff (rackIn file) s .1) h))) .0,
-  )
-    where
-      test : ℕ → Bool
-      test = isDomain (rackIn file)
+  good-file g h = read-clean (good-header file g) (omega (arith, length-setsIn, fails-none (isDomain (rackIn file)) (all-map (λ s. domain-iff (rackIn file) s .1) h)))
 
-      domains : readNumber file ≡ 0 → headerNumber file ≡ 0 → All (Domain (rackIn file)) (setsIn file)
-      domains e z =
-          ⊎-elim (λ l. all-map (λ s. domain-iff (rackIn file) s .0) (none-fails test (setsIn file) (omega (arith, length-setsIn))))
-          (λ l. absurd (T-not (test (getD (setsIn file) (badIn file) 0)) (fails-at test (setsIn file) (omega (arith, length-setsIn)))
-          (set-number (rackIn file) (getD (setsIn file) (badIn file) 0) .0 (sym (read-bad z l .0) ∙ e))))
-          (le-or-lt (countIn file) (badIn file))
+  read-domains : readNumber file ≡ 0 → headerNumber file ≡ 0 → All (Domain (rackIn file)) (setsIn file)
+  unfolding badIn
+  read-domains e z =
+      let test = isDomain (rackIn file) in
+      let s = getD (setsIn file) (badIn file) 0 in
+      ⊎-elim (λ l. all-map (λ t. domain-iff (rackIn file) t .0) (none-fails test (setsIn file) (omega (arith, length-setsIn))))
+      (λ l. absurd (T-not (test s) (fails-at test (setsIn file) (omega (arith, length-setsIn))) (set-number (rackIn file) s .0 (sym (read-bad z l .0) ∙ e))))
+      (le-or-lt (countIn file) (badIn file))
+
+  -- a file is accepted exactly where its header is good, and the set of each line is a domain
+  pub read-iff : (readNumber file ≡ 0) ↔ (GoodHeader file × All (Domain (rackIn file)) (setsIn file))
+  read-iff = (
+    λ e. ⊎-elim (λ h. let z : headerNumber file ≡ 0 = omega arith in (header-good file z, read-domains e z)) (λ h. absurd (omega (arith, e, read-refused (λ z. omega arith) .0))) (le-or-lt (headerNumber file) 0),
+    λ (g, h). good-file g h .0,
+  )
+
+  -- an accepted file has place 0
+  pub accepted-place : readNumber file ≡ 0 → readPlace file ≡ 0
+  accepted-place e =
+      let (g, h) = read-iff .0 e in
+      good-file g h .1
 
 -- what is written reads back
 module _ (m : ℕ) (lines : List ℕ) (low : 1 ≤ m) (high : m ≤ 64) (few : length lines ≤ 512) where

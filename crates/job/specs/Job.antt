@@ -3,10 +3,10 @@ use Prim.Native.Nat.{ℕ, zero, suc, _+_, _*_, _/_, _%_, _^_, _≤_, _<_}
 use mathlib.Core.Path.{_≡_}
 use mathlib.Core.Bool.{Bool, not, cond, _&&_}
 use mathlib.Core.List.{List, [], _∷_, _++_}
-use lib.Dec.{ltb, leb, eqb}
+use lib.Dec.{ltb, eqb}
 use lib.ListN.{length, take, drop, getD}
 use Rattle.model.specs.Count.{All, listOf, firstFail}
-use Rattle.model.specs.Plan.{isEmpty, inRack, isDomain}
+use Rattle.model.specs.Plan.{isEmpty, inRack, isDomain, rackOk}
 
 -- each element is a byte
 abbrev pub Bytes : List ℕ → Type 0
@@ -79,17 +79,13 @@ setIn file i = numberAt lineLength file (fileLength i)
 unfoldable pub setsIn : List ℕ → List ℕ
 setsIn file = listOf (setIn file) (countIn file)
 
--- a rack has 1 to 64 tips
-unfoldable pub isRack : ℕ → Bool
-isRack m = leb 1 m && leb m 64
-
 -- the refusal of a file by its header and its length; 0 for none
 unfoldable pub headerNumber : List ℕ → ℕ
 headerNumber file =
     cond (ltb (length file) headerLength) 6
     (cond (not (eqb (markIn file) mark)) 7
     (cond (not (eqb (versionIn file) version)) 8
-    (cond (not (isRack (rackIn file))) 1
+    (cond (not (rackOk (rackIn file))) 1
     (cond (ltb 512 (countIn file)) 9
     (cond (not (eqb (length file) (fileLength (countIn file)))) 10 0)))))
 

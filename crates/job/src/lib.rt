@@ -2,7 +2,7 @@
 ghost use mathlib.Core.Path.{_≡_};
 ghost use mathlib.Core.List.{_++_};
 ghost use Prim.Native.Nat.{_+_, _*_, _<_, _≤_, _^_};
-ghost use lib.ListN.{length, getD, take, drop};
+ghost use lib.ListN.{length, take, drop};
 ghost use Rattle.model.specs.Count.{firstFail};
 ghost use Rattle.model.specs.Plan.{isDomain};
 ghost use Rattle.job.specs.Job.{numberAt, headerLength, lineLength, fileLength, markIn, versionIn, rackIn, countIn, setsIn};
@@ -12,7 +12,7 @@ ghost use Rattle.job.specs.Job.{headerNumber, setNumber, bytesOf, header
 const MARK: u64 = 0x544950;
 
 const VERSION: u64 = 1;
-// The bytes of the header and of one line.
+// The bytes of the header, and of one line.
 const HEADER: usize = 8;
 
 const LINE: usize = 8;

@@ -1,6 +1,7 @@
 pub mod Tests
 pub mod Lists
 pub mod Loops
+pub mod ListOf
 pub mod Mix
 pub mod Pairs
 pub mod Largest

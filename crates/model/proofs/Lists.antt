@@ -5,7 +5,7 @@ use mathlib.Core.Path.{_≡_, refl, ap, ap₂, sym, _∙_}
 use mathlib.Core.Logic.{_↔_}
 use mathlib.Core.Bool.{Bool, true, false, cond, _&&_}
 use mathlib.Core.List.{List, [], _∷_, map}
-use lib.ListN.{length, getD, set}
+use lib.ListN.{length, take, drop, getD, set}
 use lib.Dec.{T}
 use Rattle.model.specs.Count.{count, select, each, All, none, more}
 use Rattle.model.proofs.Tests.{true-T, cond-case, one-le, and-left, and-right, and-in}
@@ -24,6 +24,16 @@ module _ {A : Type 0} {P : A → Type 0} where
   all-at d none i l = absurd (omega arith)
   all-at d (more p ps) zero l = p
   all-at d (more p ps) (suc i) l = all-at d ps i (omega arith)
+
+  pub all-take : (n : ℕ) {xs : List A} → All P xs → All P (take n xs)
+  all-take zero h = none
+  all-take (suc n) none = none
+  all-take (suc n) (more h hs) = more h (all-take n hs)
+
+  pub all-drop : (n : ℕ) {xs : List A} → All P xs → All P (drop n xs)
+  all-drop zero h = h
+  all-drop (suc n) none = none
+  all-drop (suc n) (more h hs) = all-drop n hs
 
   module _ {Q : A → Type 0} where
     pub all-map : {xs : List A} → ((x : A) → P x → Q x) → All P xs → All Q xs

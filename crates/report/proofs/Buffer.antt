@@ -1,13 +1,13 @@
 -- Laws of texts put into a buffer one after the other.
-use Prim.Native.Nat.{ℕ, suc, _+_, _≤_, _<_}
+use Prim.Native.Nat.{ℕ, _+_, _≤_, _<_}
 use mathlib.Core.Path.{_≡_, refl, sym, ap, _∙_}
 use mathlib.Core.List.{List, [], _∷_, _++_, append-assoc, append-nil}
 use native.Mathlib.Nat.{add-zero, zero-add, add-assoc}
 use native.Mathlib.Numerals.{add-one}
 use native.Mathlib.Omega.{arith}
-use lib.ListN.{length, take, drop, getD, set, length-append, length-drop, take-append-drop}
+use lib.ListN.{length, take, drop, getD, set, length-append, take-append-drop}
 use lib.Seq.{length-take-le, take-at, take-suc, drop-append-add, drop-drop, set-split}
-use Rattle.report.specs.Buffer.{put, Room, Put, Printed}
+use Rattle.report.specs.Buffer.{put, Put, Printed}
 
 put-none : (b : List ℕ) (at : ℕ) → b ≡ put b at []
 unfolding put
@@ -16,10 +16,6 @@ put-none b at = sym (simp (add-zero, append-nil, take-append-drop))
 put-one : (b : List ℕ) (at v : ℕ) → at < length b → set b at v ≡ put b at (v ∷ [])
 unfolding put
 put-one b at v h = rw (add-one, set-split b at v h, append-assoc)
-
-length-put : (b : List ℕ) (at : ℕ) (p : List ℕ) → Room b at p → length (put b at p) ≡ length b
-unfolding put
-length-put b at p h = simp (length-append, length-drop) (omega (arith, length-take-le at b (omega arith)))
 
 put-put : (b : List ℕ) (at : ℕ) (p q : List ℕ) → at ≤ length b → put (put b at p) (at + length p) q ≡ put b at (p ++ q)
 unfolding put
@@ -31,7 +27,12 @@ put-put b at p q h =
     ap (λ k. drop (k + length q) (head ++ tail)) (sym e) ∙ drop-append-add head tail (length q) ∙ drop-drop (length q) (at + length p) b in
     rw (take-at head tail (at + length p) e, cut, length-append, ← add-assoc) (ap (λ l. l ++ drop (at + length p + length q) b) (append-assoc (take at b) p q))
 
+-- one byte
+pub one : {b : List ℕ} {at : ℕ} (v : ℕ) → at < length b → Put b at (v ∷ []) (at + 1) (set b at v)
+one {b} {at} v l = record { place = refl; bytes = put-one b at v l }
+
 module _ {b : List ℕ} {at : ℕ} where
+  -- no text
   pub start : Put b at [] at b
   start = record { place = sym (add-zero at); bytes = put-none b at }
 
@@ -42,15 +43,9 @@ module _ {b : List ℕ} {at : ℕ} where
     bytes = g .bytes ∙ rw (f .bytes, f .place) (put-put b at p q h);
   }
 
-  -- a text, and then one byte
-  pub byte : (v : ℕ) {p a : List ℕ} {n : ℕ} → Room b at p → n < length b → Put b at p n a → Put b at (p ++ (v ∷ [])) (n + 1) (set a n v)
-  byte v {p} {a} {n} h l f = both (omega arith) f (record { place = refl; bytes = put-one a n v (rw (f .bytes, length-put b at p h) l) })
-
   -- one byte more of a word
-  pub copied : (word : List ℕ) (i : ℕ) {a : List ℕ} {n : ℕ} → i < length word → Room b at word → Put b at (take i word) n a → Put b at (take (i + 1) word) (n + 1) (set a n (getD word i 0))
-  copied word i l h f =
-      let e = length-take-le i word (omega arith) in
-      rw (add-one i, take-suc word i 0 l) (byte (getD word i 0) (omega arith) (omega (arith, f .place)) f)
+  pub copied : (word : List ℕ) (i : ℕ) {a : List ℕ} {n : ℕ} → i < length word → at ≤ length b → n < length a → Put b at (take i word) n a → Put b at (take (i + 1) word) (n + 1) (set a n (getD word i 0))
+  copied word i l h k f = rw (add-one i, take-suc word i 0 l) (both h f (one (getD word i 0) k))
 
 -- a text put at the start is printed
 pub printed : {b text a : List ℕ} {n : ℕ} → Put b 0 text n a → Printed text b n a

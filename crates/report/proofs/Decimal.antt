@@ -1,12 +1,9 @@
 -- Laws of the decimal digits of a number.
-use Prim.Native.Nat.{ℕ, zero, suc, _+_, _*_, _/_, _%_, _^_, _≤_, _<_}
-use mathlib.Core.Path.{_≡_, refl, sym, ap, _∙_}
+use Prim.Native.Nat.{ℕ, zero, suc, _+_, _/_, _%_, _^_, _≤_, _<_}
+use mathlib.Core.Path.{_≡_, ap, _∙_}
 use mathlib.Core.Logic.{⊎-elim}
-use mathlib.Core.Bool.{true, false, cond}
-use mathlib.Core.List.{List, [], _∷_, _++_}
+use mathlib.Core.List.{_++_}
 use native.Mathlib.Omega.{arith}
-use native.Mathlib.Nat.{pow-suc}
-use lib.Dec.{ltb}
 use lib.ListN.{length, length-append}
 use borrow.Author.Tests.{lt-ltb, le-ltb}
 use Rattle.model.proofs.Tests.{le-or-lt}
@@ -26,6 +23,13 @@ enough (suc j) (suc k) x p q = ⊎-elim (λ h. rw (enough j k (x / 10) (omega ar
 pub decimal-step : (x : ℕ) → 10 ≤ x → decimal x ≡ decimal (x / 10) ++ digitText (x % 10)
 unfolding decimal digits
 decimal-step x h = rw (le-ltb x 10 h, enough x (suc (x / 10)) (x / 10) (omega arith) (omega arith))
+
+-- two and three digits
+pub decimal-two : (x : ℕ) → 10 ≤ x → x / 10 < 10 → decimal x ≡ digitText (x / 10) ++ digitText (x % 10)
+decimal-two x h k = rw (decimal-step x h, decimal-small (x / 10) k)
+
+pub decimal-three : (x : ℕ) → 10 ≤ x / 10 → x / 10 < 100 → decimal x ≡ digitText (x / 10 / 10) ++ digitText (x / 10 % 10) ++ digitText (x % 10)
+decimal-three x h k = rw (decimal-step x (omega arith), decimal-two (x / 10) h (omega arith))
 
 pub length-small : (x : ℕ) → x < 10 → length (decimal x) ≡ 1
 length-small x h = ap length (decimal-small x h)

@@ -1,15 +1,15 @@
 -- How long the report's texts are.
 use Prim.Native.Nat.{ℕ, zero, suc, _+_, _*_, _^_, _≤_, _<_}
-use mathlib.Core.Path.{_≡_, refl}
+use mathlib.Core.Path.{_≡_}
 use mathlib.Core.Logic.{⊎-elim}
 use mathlib.Core.Bool.{Bool, true, false}
-use mathlib.Core.List.{List, [], _∷_, _++_}
+use mathlib.Core.List.{List, [], _++_}
 use native.Mathlib.Omega.{arith}
 use native.Mathlib.Numerals.{add-one}
 use lib.ListN.{length, getD, length-append}
 use Rattle.model.specs.Plan.{has}
 use Rattle.model.proofs.Tests.{le-or-lt, cond-case}
-use Rattle.report.specs.Report.{ascii, decimal, field, bestText, joined, tipText, headText, offText, pairsText, lineText, lineAt, Facts, reportOf, refusedText}
+use Rattle.report.specs.Report.{ascii, decimal, field, bestText, joined, tipText, headText, offText, pairsText, lineText, lineAt, Facts, reportOf}
 use Rattle.report.proofs.Decimal.{decimal-short}
 
 module _ (f : ℕ → List ℕ) where
@@ -58,10 +58,6 @@ best-short k false x none p q = q
 tip-short : (set t : ℕ) → t < 64 → length (tipText set t) ≤ 3
 unfolding tipText ascii
 tip-short set t h = cond-case (λ l. length l ≤ 3) (has set t) {x = field " " t} {y = []} (λ _. omega (arith, decimal-short 1 t (omega arith))) (λ _. omega arith)
-
-pub refused-short : (number : ℕ) → number < 2 ^ 32 → length (refusedText number) ≤ 19
-unfolding refusedText ascii
-refused-short number h = rw length-append (omega (arith, decimal-short 9 number (omega arith)))
 
 pub length-report : (f : Facts) → length (reportOf f)
     ≡ length (headText (length (f .quick)) (f .rack)) + length (offText (f .off) (f .tips)) + length (pairsText (f .quickPairs) (f .runs) (f .bestPairs))

@@ -1,10 +1,9 @@
 -- The definitions give document 01's text, and its forms without runs, without lines and of a refused file.
-use Prim.Native.Nat.{ℕ}
 use mathlib.Core.Path.{_≡_, refl}
 use mathlib.Core.Bool.{true, false}
-use mathlib.Core.List.{List, [], _∷_}
+use mathlib.Core.List.{[], _∷_}
 use Rattle.model.specs.Plan.{has}
-use Rattle.report.specs.Report.{Facts, ascii, digits, decimal, joined, bestText, tipText, headText, offText, pairsText, lineText, lineAt, reportOf, refusedText}
+use Rattle.report.specs.Report.{ascii, digits, decimal, joined, bestText, tipText, headText, offText, pairsText, lineText, lineAt, reportOf, refusedText}
 
 -- document 01's file: rack 3; {0}, {1,2}
 example : reportOf (record { rack = 3; off = 1; tips = 7; quickPairs = 0; runs = true; bestPairs = 0; quick = 0 ∷ 1 ∷ []; best = 0 ∷ 1 ∷ [] })

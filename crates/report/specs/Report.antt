@@ -1,5 +1,6 @@
 -- The text that the program tipshare prints, as a list of bytes.
-use Prim.Native.Nat.{ℕ, zero, suc, _+_, _/_, _%_}
+use Prim.Native.Nat.{ℕ, zero, suc, _+_, _/_, _%_, _≤_}
+use mathlib.Core.Path.{_≡_}
 use Prim.Native.Char.{code}
 use Prim.Native.String.{String, [] as end, _∷_ as _then_}
 use mathlib.Core.Bool.{Bool, cond}
@@ -39,6 +40,7 @@ field word x = ascii word ++ decimal x
 unfoldable pub bestText : Bool → ℕ → List ℕ → List ℕ
 bestText runs x none = cond runs (decimal x) none
 
+-- a word and a number of best sharing
 abbrev pub bestField : String → Bool → ℕ → String → List ℕ
 bestField word runs x none = ascii word ++ bestText runs x (ascii none)
 
@@ -62,11 +64,11 @@ pairsText quick runs best = field "quick " quick ++ bestField "\nbest " runs bes
 unfoldable pub lineText : ℕ → ℕ → Bool → ℕ → List ℕ
 lineText i quick runs best = field "line " i ++ field " quick " quick ++ bestField " best " runs best "-" ++ ascii "\n"
 
--- line i of the plans
+-- line i, with its tips from the plans
 unfoldable pub lineAt : List ℕ → Bool → List ℕ → ℕ → List ℕ
 lineAt quick runs best i = lineText i (getD quick i 0) runs (getD best i 0)
 
--- what is reported: the rack, the least off count, the set W, the pairs of both plans, and the plans; and whether all lines are runs
+-- what is reported: the rack, the least off count, the set W, the pairs of both plans, whether all lines are runs, and the tip of each line in both plans
 pub record Facts : Type 0 where
   pub rack : ℕ
   pub off : ℕ
@@ -84,6 +86,12 @@ reportOf f =
     ++ offText (f .off) (f .tips)
     ++ pairsText (f .quickPairs) (f .runs) (f .bestPairs)
     ++ joined (lineAt (f .quick) (f .runs) (f .best)) (length (f .quick))
+
+-- the two plans are of the same lines, at most 512, and the longest report has room
+pub record Reportable (quick best buffer : List ℕ) : Type 0 where
+  pub same-lines : length best ≡ length quick
+  pub few-lines : length quick ≤ 512
+  pub room : 16_384 ≤ length buffer
 
 -- the report on a refused file
 unfoldable pub refusedText : ℕ → List ℕ

@@ -4,8 +4,8 @@ ghost use mathlib.Core.Path.{_≡_};
 ghost use mathlib.Core.List.{_++_};
 ghost use Prim.Native.Nat.{_≤_, _<_};
 ghost use lib.ListN.{length};
-ghost use Rattle.report.specs.Report.{digitText, decimal, joined, bestText, tipText, headText, offText, pairsText, lineText, lineAt, reportOf, refusedText};
-ghost use Rattle.report.specs.Buffer.{Room, Put, Reportable, Printed};
+ghost use Rattle.report.specs.Report.{digitText, decimal, joined, bestText, tipText, headText, offText, pairsText, lineText, lineAt, Reportable, reportOf, refusedText};
+ghost use Rattle.report.specs.Buffer.{Room, Put, Printed};
 
 fn put_word(out: &mut [u8], at: usize, word: &[u8]) -> usize
     requires { ⌜ Room (now out) at (now word) ⌝ }
@@ -22,7 +22,8 @@ fn put_word(out: &mut [u8], at: usize, word: &[u8]) -> usize
 }
 
 fn put_digit(out: &mut [u8], at: usize, digit: usize) -> usize
-    requires { ⌜ (digit < 10) × (at < length (now out)) ⌝ }
+    requires { ⌜ digit < 10 ⌝ }
+    requires { ⌜ at < length (now out) ⌝ }
     ensures { λ r. ⌜ Put (now (out .entry)) at (digitText digit) r (now (out .exit)) ⌝ }
 {
     out[at] = b'0' + digit as u8;
@@ -172,7 +173,11 @@ pub fn write_report(
     out: &mut [u8],
 ) -> usize
     requires { ⌜ Reportable (now quick) (now best) (now out) ⌝ }
-    ensures { λ r. ⌜ Printed (reportOf (record { rack = rack; off = off; tips = tips; quickPairs = «quick_pairs»; runs = runs; bestPairs = «best_pairs»; quick = now (quick .entry); best = now (best .entry) })) (now (out .entry)) r (now (out .exit)) ⌝ }
+    ensures { λ r. ⌜ Printed
+        (reportOf (record { rack = rack; off = off; tips = tips; quickPairs = «quick_pairs»; runs = runs; bestPairs = «best_pairs»; quick = now (quick .entry); best = now (best .entry) }))
+        (now (out .entry))
+        r
+        (now (out .exit)) ⌝ }
 {
     let at = put_head(out, 0, quick.len(), rack);
     let at = put_off(out, at, off, tips);
@@ -180,7 +185,7 @@ pub fn write_report(
     put_lines(out, at, quick, runs, best)
 }
 
-// The report on a refused file.
+// The report on a refused file: a word of 8 bytes, at most ten digits and a newline.
 pub fn write_refused(number: u32, out: &mut [u8]) -> usize
     requires { ⌜ 19 ≤ length (now out) ⌝ }
     ensures { λ r. ⌜ Printed (refusedText number) (now (out .entry)) r (now (out .exit)) ⌝ }

@@ -8,11 +8,11 @@ use lib.Dec.{T, leb}
 use lib.ListN.{take, drop}
 use borrow.Author.Tests.{leb-true, le-leb}
 use Rattle.model.specs.Count.{All, each}
-use Rattle.model.specs.Plan.{isEmpty, isDomain, Domain}
+use Rattle.model.specs.Plan.{isEmpty, isDomain, rackOk, Domain}
 use Rattle.model.proofs.Tests.{true-T, T-true, and-left, and-right, and-in}
 use Rattle.model.proofs.Lists.{all-map, each-iff}
 use Rattle.model.proofs.Sets.{domain-iff}
-use Rattle.sound.specs.Sound.{rackOk, countOk, soundSets}
+use Rattle.sound.specs.Sound.{countOk, soundSets}
 
 -- rack and count are in range, the lines' sets are domains, and the sets after them are empty
 pub record Sound (m n : ℕ) (sets : List ℕ) : Type 0 where

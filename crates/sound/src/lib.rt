@@ -2,8 +2,8 @@
 ghost use mathlib.Core.Path.{_≡_};
 ghost use lib.ListN.{length};
 ghost use Rattle.model.specs.Count.{each};
-ghost use Rattle.model.specs.Plan.{isEmpty, isDomain};
-ghost use Rattle.sound.specs.Sound.{rackOk, soundSets};
+ghost use Rattle.model.specs.Plan.{isEmpty, isDomain, rackOk};
+ghost use Rattle.sound.specs.Sound.{soundSets};
 
 pub fn rack_ok(rack: usize) -> bool
     ensures { λ r. ⌜ r ≡ rackOk rack ⌝ }

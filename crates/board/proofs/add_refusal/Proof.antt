@@ -1,6 +1,6 @@
-use mathlib.Core.Path.{_∙_}
+use mathlib.Core.Path.{_∙_, ap}
 use borrow.Author.Tests.{eq-eqb, ne-eqb}
-use Rattle.board.specs.Refusal.{orElse}
+use Rattle.board.specs.Refusal.{refuse, orElse}
 use Rattle.board.specs.Board.{addRefusal}
 use Rattle.board.proofs.Refusals.{or-first, or-next}
 use borrow.Author.Needs.{needs}
@@ -21,12 +21,15 @@ returns-2 : tie.Need-returns-2
 unfolding addRefusal orElse
 returns-2 c = or-next (c .before .before .before .before .state-refusal .ensures) _ (c .before .before .if1 .left) (c .refuse .ensures ∙ rw (eq-eqb (c .before .before .before .before .before .before .args .count) 512 (c .before .if2 .taken)))
 
-line-refusal-requires : tie.Need-line-refusal-requires
-line-refusal-requires c κs = search needs
+set-number-requires : tie.Need-set-number-requires
+set-number-requires c κs = search needs
+
+refuse-requires-2 : tie.Need-refuse-requires-2
+refuse-requires-2 c κs = search needs
 
 returns-3 : tie.Need-returns-3
 unfolding addRefusal orElse
-returns-3 c = or-next (c .before .before .before .before .state-refusal .ensures) _ (c .before .before .if1 .left) (c .line-refusal .ensures ∙ rw (ne-eqb (c .before .before .before .before .before .before .args .count) 512 (c .before .if2 .left)))
+returns-3 c = or-next (c .before .before .before .before .before .state-refusal .ensures) _ (c .before .before .before .if1 .left) (c .refuse2 .ensures ∙ ap refuse (c .before .set-number .ensures) ∙ rw (ne-eqb (c .before .before .before .before .before .before .before .args .count) 512 (c .before .before .if2 .left)))
 
 pub add-refusal-spec : {M : Type 1} → statement M
 add-refusal-spec =
@@ -36,5 +39,6 @@ add-refusal-spec =
     returns
     refuse-requires
     returns-2
-    line-refusal-requires
+    set-number-requires
+    refuse-requires-2
     returns-3)

@@ -2,57 +2,54 @@ use Prim.Native.Nat.{_<_, _^_}
 use mathlib.Core.Path.{_≡_, refl}
 use native.Mathlib.Omega.{arith}
 use lib.ListN.{length, length-set}
-use Rattle.counts.proofs.Lists.{list-is}
-use Rattle.counts.proofs.Lowest.{Level, level-none, low-lt, without-less, add-room, add-step}
+use Rattle.model.proofs.ListOf.{list-is}
+use Rattle.counts.proofs.Lowest.{SameSum, LowestTip, empty-none, tip-lt, without-less, add-le, add-step}
 use borrow.Author.Needs.{needs}
 use Rattle.counts.proofs.add_tips.Statement.{statement}
 use Rattle.counts.proofs.add_tips.Tie as tie
 
 abbrev Inv-loop : tie.InvT-loop
-Inv-loop set counts₀ left₀ counts left = (left < 2 ^ 64) × (length counts ≡ 64) × Level counts left counts₀ set
+Inv-loop set counts₀ left₀ counts left = (left < 2 ^ 64) × (length counts ≡ 64) × SameSum counts left counts₀ set
 
 abbrev μ-loop : tie.MeasureT-loop
 μ-loop set counts₀ left₀ counts left = left
 
-index : (c : tie.After-lowest Inv-loop μ-loop) → c .lowest .result < 64
-index c = low-lt (c .before .before .loop .left) (c .before .loop-test .taken) (c .before .before .loop .inv .0) (c .lowest .ensures)
+lowest-tip : (c : tie.After-lowest Inv-loop μ-loop) → LowestTip (c .before .before .loop .left) (c .lowest .result)
+lowest-tip c = record { some = c .before .loop-test .taken; below = c .before .before .loop .inv .0; is-low = c .lowest .ensures }
 
 loop-holds : tie.Need-loop-holds Inv-loop μ-loop
-loop-holds c = (c .before .fits .set .fits, c .before .pre .size, λ t. refl)
+loop-holds c = (c .before .fits .set .fits, c .before .pre .size, record { sum-at = λ t. refl })
 
 lowest-requires : tie.Need-lowest-requires Inv-loop μ-loop
 lowest-requires c κs = search needs
 
 mul-counts : tie.Need-mul-counts Inv-loop μ-loop
-mul-counts c = record { fits = omega (arith, index c) }
+mul-counts c = record { fits = omega (arith, tip-lt (lowest-tip c)) }
 
 slice-read-counts : tie.Need-slice-read-counts Inv-loop μ-loop
-slice-read-counts c = omega (arith, index (c .before))
+slice-read-counts c = omega (arith, tip-lt (lowest-tip (c .before)))
 
 add-counts : tie.Need-add-counts Inv-loop μ-loop
 add-counts c =
-    let l = c .before .before .before .loop in
-    let s = c .before .before .before .before .before in
-    record { fits = omega (arith, add-room (l .left) (c .before .before .loop-test .taken) (l .inv .0) (l .counts) (s .args .counts .now) (s .args .set) (c .before .lowest .result) _ (l .inv .1) (c .before .lowest .ensures) refl (l .inv .2), s .pre .room (c .before .lowest .result)) }
+    let l = c .before .before .before .loop .inv in
+    let small = c .before .before .before .before .before .pre .below (c .before .lowest .result) in
+    record { fits = omega (arith, add-le (lowest-tip (c .before)) (l .1) (l .2), small) }
 
 slice-write-counts : tie.Need-slice-write-counts Inv-loop μ-loop
-slice-write-counts c = omega (arith, index (c .before))
+slice-write-counts c = omega (arith, tip-lt (lowest-tip (c .before)))
 
 without-lowest-requires : tie.Need-without-lowest-requires Inv-loop μ-loop
 without-lowest-requires c κs = omega arith
 
 loop-less : tie.Need-loop-less Inv-loop μ-loop
-loop-less c = without-less (c .before .before .before .before .loop .left) (c .before .before .before .loop-test .taken) (c .before .before .before .before .loop .inv .0) (c .without-lowest .ensures)
+loop-less c = without-less (lowest-tip (c .before .before)) (c .without-lowest .ensures)
 
 loop-again : tie.Need-loop-again Inv-loop μ-loop
 loop-again c =
-    let l = c .before .before .before .before .loop in
-    let nz = c .before .before .before .loop-test .taken in
-    let s = c .before .before .before .before .before .before in (
-      omega (arith, without-less (l .left) nz (l .inv .0) (c .without-lowest .ensures), l .inv .0),
-      simp length-set (l .inv .1),
-      add-step (l .left) nz (l .inv .0) (l .counts) (s .args .counts .now) (s .args .set) _ _ (l .inv .1) (c .before .before .lowest .ensures) (c .without-lowest .ensures) (l .inv .2),
-    )
+    let l = c .before .before .before .before .loop .inv in
+    let low = lowest-tip (c .before .before) in
+    let e = c .without-lowest .ensures in
+    (omega (arith, without-less low e, l .0), simp length-set (l .1), add-step low (l .1) (l .2) e)
 
 same-length : tie.Need-same-length Inv-loop μ-loop
 same-length c = omega (arith, c .before .before .before .pre .size)
@@ -60,8 +57,8 @@ same-length c = omega (arith, c .before .before .before .pre .size)
 returns : tie.Need-returns Inv-loop μ-loop
 returns c =
     let z : c .before .loop .left ≡ 0 = omega arith in
-    let l = c .before .loop .inv .2 in
-    list-is _ 64 _ (c .before .loop .inv .1) (λ t _. omega (arith, rw z at (l t), level-none t))
+    let l = c .before .loop .inv in
+    list-is _ 64 _ (l .1) (λ t _. omega (arith, rw z at (l .2 .sum-at t), empty-none t))
 
 pub add-tips-spec : {M : Type 1} → statement M
 add-tips-spec =

@@ -4,7 +4,7 @@ use native.Mathlib.Omega.{arith}
 use borrow.Author.Count.{below-none, below-more}
 use lib.ListN.{length, getD, length-set}
 use lib.Seq.{getD-set-same, getD-set-other}
-use Rattle.counts.proofs.Lists.{list-is}
+use Rattle.model.proofs.ListOf.{list-is}
 use borrow.Author.Needs.{needs}
 use Rattle.counts.proofs.clear.Statement.{statement}
 use Rattle.counts.proofs.clear.Tie as tie
@@ -32,9 +32,13 @@ loop-less c = simp length-set (omega arith)
 
 loop-again : tie.Need-loop-again Inv-loop μ-loop
 loop-again c =
-    let l = c .before .loop in
-    let rest : (t : ℕ) → t < l .i → getD (lib.ListN.set (l .counts) (l .i) 0) t 0 ≡ 0 = λ t b. getD-set-other (l .counts) (l .i) t 0 0 (λ e. omega arith) ∙ l .inv .2 t b in
-    (simp length-set (omega arith), simp length-set (l .inv .1), below-more _ _ rest (getD-set-same (l .counts) (l .i) 0 0 (omega arith)))
+    let l = c .before .loop in (
+      simp length-set (omega arith),
+      simp length-set (l .inv .1),
+      below-more _ _
+          (λ t b. getD-set-other (l .counts) (l .i) t 0 0 (λ e. omega arith) ∙ l .inv .2 t b)
+          (getD-set-same (l .counts) (l .i) 0 0 (omega arith)),
+    )
 
 same-length : tie.Need-same-length Inv-loop μ-loop
 same-length c = c .before .loop .inv .1

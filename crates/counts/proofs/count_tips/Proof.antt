@@ -1,12 +1,12 @@
 use Prim.Native.Nat.{_≤_, _-_}
-use mathlib.Core.Path.{_≡_, ap, _∙_}
+use mathlib.Core.Path.{_≡_, ap, sym, _∙_}
 use native.Mathlib.Omega.{arith}
 use lib.ListN.{length, take}
 use lib.Seq.{take-all}
 use Rattle.model.specs.Count.{listOf}
 use Rattle.model.specs.Plan.{occ}
-use Rattle.counts.proofs.Lists.{length-listOf}
-use Rattle.counts.proofs.Read.{count-none, count-next, count-room}
+use Rattle.model.proofs.ListOf.{length-listOf}
+use Rattle.counts.proofs.Read.{count-none, count-next, counted-le}
 use borrow.Author.Needs.{needs}
 use Rattle.counts.proofs.count_tips.Statement.{statement}
 use Rattle.counts.proofs.count_tips.Tie as tie
@@ -35,7 +35,7 @@ add-tips-requires c κs =
     let s = c .before .before .before .before .before .before .before .before .before .before in
     record {
       size = ap length (l .inv .1) ∙ length-listOf _ 64;
-      room = λ t. omega (arith, count-room (s .args .lines .now) (l .i) (omega arith) (l .inv .1) t, s .pre .1);
+      below = λ t. omega (arith, counted-le (s .args .lines .now) (l .i) (omega arith) (l .inv .1) t, s .pre .1);
     }
 
 add-i : tie.Need-add-i Inv-loop μ-loop
@@ -51,7 +51,7 @@ loop-again c =
     (search needs, c .before .before .add-tips .ensures ∙ count-next lines (l .i) (omega arith) (l .inv .1))
 
 same-length : tie.Need-same-length Inv-loop μ-loop
-same-length c = omega (arith, ap length (c .before .loop .inv .1), length-listOf (occ (take (c .before .loop .i) (c .before .before .before .before .before .before .before .before .args .lines .now))) 64, c .before .before .before .before .before .before .before .before .pre .0)
+same-length c = ap length (c .before .loop .inv .1) ∙ length-listOf _ 64 ∙ sym (c .before .before .before .before .before .before .before .before .pre .0)
 
 returns : tie.Need-returns Inv-loop μ-loop
 returns c = c .before .loop .inv .1 ∙ rw (take-all _ _ (c .loop-test .left))

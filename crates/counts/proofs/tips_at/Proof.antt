@@ -1,6 +1,7 @@
-use Prim.Native.Nat.{_+_, _≤_, _-_}
+use Prim.Native.Nat.{ℕ, _+_, _≤_, _-_}
 use mathlib.Core.Path.{_≡_, refl}
-use mathlib.Core.Bool.{_&&_}
+use mathlib.Core.Bool.{Bool, _&&_}
+use mathlib.Core.List.{List}
 use native.Mathlib.Nat.{lt-of-lt-of-le}
 use native.Mathlib.Omega.{arith}
 use lib.Dec.{ltb, eqb}
@@ -13,13 +14,19 @@ use borrow.Author.Needs.{needs}
 use Rattle.counts.proofs.tips_at.Statement.{statement}
 use Rattle.counts.proofs.tips_at.Tie as tie
 
+-- the count of tip t is n, and is not 0
+abbrev at : List ℕ → ℕ → ℕ → Bool
+at counts n t = ltb 0 (getD counts t 0) && eqb (getD counts t 0) n
+
 abbrev Inv-loop : tie.InvT-loop
-Inv-loop counts rack n set₀ t₀ set t = (t ≤ rack) × (set ≡ setOf (λ k. ltb 0 (getD counts k 0) && eqb (getD counts k 0) n) t)
+Inv-loop counts rack n set₀ t₀ set t = (t ≤ rack) × (set ≡ setOf (at counts n) t)
 
 abbrev μ-loop : tie.MeasureT-loop
 μ-loop counts rack n set₀ t₀ set t = rack - t
 
-more : (c : tie.After-bit-if Inv-loop μ-loop) → c .before .before .before .before .loop .set + c .bit-if .result ≡ setOf (λ k. ltb 0 (getD (c .before .before .before .before .before .before .args .counts .now) k 0) && eqb (getD (c .before .before .before .before .before .before .args .counts .now) k 0) (c .before .before .before .before .before .before .args .n)) (c .before .before .before .before .loop .t + 1)
+more : (c : tie.After-bit-if Inv-loop μ-loop)
+    → let s = c .before .before .before .before .before .before .args in
+    c .before .before .before .before .loop .set + c .bit-if .result ≡ setOf (at (s .counts .now) (s .n)) (c .before .before .before .before .loop .t + 1)
 more c = rw (c .bit-if .ensures, c .before .is-at .ensures, c .before .before .before .before .loop .inv .1, setOf-more)
 
 loop-holds : tie.Need-loop-holds Inv-loop μ-loop

@@ -19,10 +19,14 @@ loop-holds : tie.Need-loop-holds Inv-loop μ-loop
 loop-holds c = none-taken (c .before .before .before .pre)
 
 take-line-requires : tie.Need-take-line-requires Inv-loop μ-loop
-take-line-requires c κs = (still-counted (c .before .before .before .before .before .before .before .before .pre) (c .before .before .before .before .loop .inv), c .before .before .before .loop-test .taken)
+take-line-requires c κs =
+    let turn = c .before .before .before in
+    (still-counted (turn .before .before .before .before .before .pre) (turn .before .loop .inv), turn .loop-test .taken)
 
 add-i : tie.Need-add-i Inv-loop μ-loop
-add-i c = record { fits = omega (arith, inside (c .before .before .before .before .before .before .before .before .before .before), c .before .before .before .before .before .before .before .before .before .before .before .before .before .before .before .good) }
+add-i c =
+    let turn = c .before .before .before .before .before .before .before .before .before .before in
+    record { fits = omega (arith, inside turn, turn .before .before .before .before .before .good) }
 
 loop-less : tie.Need-loop-less Inv-loop μ-loop
 loop-less c = omega (arith, inside (c .before .before .before .before .before .before .before .before .before .before))
@@ -30,7 +34,8 @@ loop-less c = omega (arith, inside (c .before .before .before .before .before .b
 loop-again : tie.Need-loop-again Inv-loop μ-loop
 loop-again c =
     let turn = c .before .before .before .before .before .before .before .before .before .before in
-    one-taken (turn .before .before .before .before .before .pre) (turn .before .loop .inv) (turn .loop-test .taken) (c .before .before .before .before .before .before .take-line .ensures)
+    let line = c .before .before .before .before .before .before .take-line .ensures in
+    one-taken (turn .before .before .before .before .before .pre) (turn .before .loop .inv) (turn .loop-test .taken) line
 
 same-length : tie.Need-same-length Inv-loop μ-loop
 same-length c = left-size (c .before .before .before .before .before .pre) (c .before .loop .inv)

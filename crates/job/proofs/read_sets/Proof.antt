@@ -5,7 +5,7 @@ use lib.ListN.{length, take, length-set}
 use lib.Seq.{take-all}
 use Rattle.model.specs.Count.{listOf}
 use Rattle.job.specs.Job.{lineLength, numberAt, countIn, setIn, setsIn}
-use Rattle.job.proofs.Lists.{filled-more}
+use Rattle.model.proofs.ListOf.{filled-more}
 use borrow.Author.Needs.{needs}
 use Rattle.job.proofs.read_sets.Statement.{statement}
 use Rattle.job.proofs.read_sets.Tie as tie

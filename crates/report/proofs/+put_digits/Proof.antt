@@ -1,3 +1,7 @@
+use mathlib.Core.Path.{_∙_}
+use native.Mathlib.Omega.{arith}
+use Rattle.report.proofs.Buffer.{both}
+use Rattle.report.proofs.Decimal.{decimal-small, decimal-step, length-small, length-step}
 use Prim.Native.Nat.{ℕ, _<_}
 use borrow.Fn.Kinds.{In}
 use borrow.Fn.PlainCycle.{Measures, is, falls, and}
@@ -9,7 +13,7 @@ use Rattle.report.proofs.+put_digits.{statement}
 use Rattle.report.proofs.+put_digits.Tie.{close}
 
 abbrev μ-put-digits : Measures 1 put-digits-kinds.ps ℕ
-μ-put-digits κs a = ?
+μ-put-digits κs a = a .1 .1 .0
 
 abbrev put-digits-at : ℕ → In 1 put-digits-kinds.ps
 put-digits-at t =
@@ -19,68 +23,61 @@ abbrev put-digits-below : ℕ → In 1 put-digits-kinds.ps
 put-digits-below t =
     and 1 put-digits-kinds.ps (falls 1 put-digits-kinds.ps _<_ μ-put-digits t) put-digits.Pre
 
--- src/lib.rt:37:9
 put-digits-put-digit-requires : (t : ℕ) → put-digits-lts.Need-put-digit-requires (
   put-digit-reads.Asked,
   put-digit-reads.Learnt,
   put-digits-below t,
   put-digits.Post,
 ) (put-digits-at t) put-digits.Post
-put-digits-put-digit-requires t c κs = ?
+put-digits-put-digit-requires t c κs = (omega arith, omega (arith, length-small (c .before .before .before .args .x) (c .before .if1 .taken)))
 
--- src/lib.rt:37:9
 put-digits-same-length : (t : ℕ) → put-digits-lts.Need-same-length (
   put-digit-reads.Asked,
   put-digit-reads.Learnt,
   put-digits-below t,
   put-digits.Post,
 ) (put-digits-at t) put-digits.Post
-put-digits-same-length t c = ?
+put-digits-same-length t c = c .before .before .put-digit .kept .0
 
--- src/lib.rt:37:9
 put-digits-returns : (t : ℕ) → put-digits-lts.Need-returns (
   put-digit-reads.Asked,
   put-digit-reads.Learnt,
   put-digits-below t,
   put-digits.Post,
 ) (put-digits-at t) put-digits.Post
-put-digits-returns t c = ?
+put-digits-returns t c = rw (decimal-small (c .before .before .before .before .before .before .args .x) (c .before .before .before .before .if1 .taken)) (c .before .before .put-digit .ensures)
 
--- src/lib.rt:39:9
 put-digits-put-digits-requires : (t : ℕ) → put-digits-lts.Need-put-digits-requires (
   put-digit-reads.Asked,
   put-digit-reads.Learnt,
   put-digits-below t,
   put-digits.Post,
 ) (put-digits-at t) put-digits.Post
-put-digits-put-digits-requires t c κs = ?
+put-digits-put-digits-requires t c κs = (omega arith, omega (arith, length-step (c .before .before .before .args .x) (c .before .if1 .left)))
 
--- src/lib.rt:40:5
 put-digits-put-digit-requires-2 : (t : ℕ) → put-digits-lts.Need-put-digit-requires-2 (
   put-digit-reads.Asked,
   put-digit-reads.Learnt,
   put-digits-below t,
   put-digits.Post,
 ) (put-digits-at t) put-digits.Post
-put-digits-put-digit-requires-2 t c κs = ?
+put-digits-put-digit-requires-2 t c κs = (omega arith, omega (arith, length-step (c .before .before .before .before .before .before .before .args .x) (c .before .before .before .before .before .if1 .left)))
 
--- src/lib.rt:32:1
 put-digits-same-length-2 : (t : ℕ) → put-digits-lts.Need-same-length-2 (
   put-digit-reads.Asked,
   put-digit-reads.Learnt,
   put-digits-below t,
   put-digits.Post,
 ) (put-digits-at t) put-digits.Post
-put-digits-same-length-2 t c = ?
+put-digits-same-length-2 t c = c .before .before .put-digit2 .kept .0 ∙ c .before .before .before .before .before .before .put-digits .kept .0
 
--- src/lib.rt:32:1
 put-digits-returns-2 : (t : ℕ) → put-digits-lts.Need-returns-2 (
   put-digit-reads.Asked,
   put-digit-reads.Learnt,
   put-digits-below t,
   put-digits.Post,
 ) (put-digits-at t) put-digits.Post
-put-digits-returns-2 t c = ?
+put-digits-returns-2 t c = rw (decimal-step (c .before .before .before .before .before .before .before .before .before .before .args .x) (c .before .before .before .before .before .before .before .before .if1 .left)) (both (omega arith) (c .before .before .before .before .before .before .put-digits .ensures) (c .before .before .put-digit2 .ensures))
 
 pub +put-digits-spec : {M : Type 1} → statement M
 +put-digits-spec = close μ-put-digits λ t. put-digits-lts.spec (

@@ -6,10 +6,6 @@ use Rattle.report.proofs.Buffer.{both}
 use borrow.Author.Needs.{needs}
 use Rattle.report.proofs.put_best.Statement.{statement}
 use Rattle.report.proofs.put_best.Tie as tie
-use Rattle.report.proofs.put_best.Reads as reads
-use Rattle.report.proofs.put_best.Lts as lts
-use Rattle.report.proofs.put_field.Reads as put-field-reads
-use Rattle.report.proofs.put_word.Reads as put-word-reads
 
 put-field-requires : tie.Need-put-field-requires
 unfolding bestText

@@ -1,32 +1,25 @@
+use Rattle.report.proofs.Buffer.{one}
 use borrow.Author.Needs.{needs}
 use Rattle.report.proofs.put_digit.Statement.{statement}
 use Rattle.report.proofs.put_digit.Tie as tie
-use Rattle.report.proofs.put_digit.Reads as reads
-use Rattle.report.proofs.put_digit.Lts as lts
 
--- src/lib.rt:28:22
 cast-out : tie.Need-cast-out
 cast-out c = search needs
 
--- src/lib.rt:28:15
 add-out : tie.Need-add-out
 add-out c = search needs
 
--- src/lib.rt:28:5
 slice-write-out : tie.Need-slice-write-out
 slice-write-out c = search needs
 
--- src/lib.rt:29:5
 add-result : tie.Need-add-result
 add-result c = search needs
 
--- src/lib.rt:24:1
 same-length : tie.Need-same-length
 same-length c = search needs
 
--- src/lib.rt:24:1
 returns : tie.Need-returns
-returns c = ?
+returns c = one _ (c .pre .1)
 
 pub put-digit-spec : {M : Type 1} → statement M
 put-digit-spec =

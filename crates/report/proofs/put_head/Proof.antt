@@ -5,10 +5,6 @@ use Rattle.report.proofs.Lengths.{length-head}
 use borrow.Author.Needs.{needs}
 use Rattle.report.proofs.put_head.Statement.{statement}
 use Rattle.report.proofs.put_head.Tie as tie
-use Rattle.report.proofs.put_head.Reads as reads
-use Rattle.report.proofs.put_head.Lts as lts
-use Rattle.report.proofs.put_field.Reads as put-field-reads
-use Rattle.report.proofs.put_word.Reads as put-word-reads
 
 slice-aggregate-put-field : tie.Need-slice-aggregate-put-field
 slice-aggregate-put-field c = search needs

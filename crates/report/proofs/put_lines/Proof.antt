@@ -1,4 +1,4 @@
-use Prim.Native.Nat.{_+_, _-_, _≤_, zero-le}
+use Prim.Native.Nat.{_-_, _≤_, zero-le}
 use mathlib.Core.Path.{_≡_, refl, _∙_}
 use native.Mathlib.Omega.{arith}
 use lib.ListN.{length}
@@ -8,9 +8,6 @@ use Rattle.report.proofs.Buffer.{start, both}
 use Rattle.report.proofs.Lengths.{joined-more, joined-within}
 use Rattle.report.proofs.put_lines.Statement.{statement}
 use Rattle.report.proofs.put_lines.Tie as tie
-use Rattle.report.proofs.put_lines.Reads as reads
-use Rattle.report.proofs.put_lines.Lts as lts
-use Rattle.report.proofs.put_line.Reads as put-line-reads
 
 abbrev Inv-loop : tie.InvT-loop
 Inv-loop out₀ at quick runs best next₀ i₀ out next i = (i ≤ length quick) × (length out ≡ length out₀) × Put out₀ at (joined (lineAt quick runs best) i) next out

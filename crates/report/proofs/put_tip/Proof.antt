@@ -3,10 +3,6 @@ use Rattle.report.proofs.Buffer.{start}
 use borrow.Author.Needs.{needs}
 use Rattle.report.proofs.put_tip.Statement.{statement}
 use Rattle.report.proofs.put_tip.Tie as tie
-use Rattle.report.proofs.put_tip.Reads as reads
-use Rattle.report.proofs.put_tip.Lts as lts
-use Rattle.report.proofs.put_field.Reads as put-field-reads
-use Rattle.tips.proofs.has_tip.Reads as has-tip-reads
 
 has-tip-requires : tie.Need-has-tip-requires
 has-tip-requires c κs = search needs

@@ -1,4 +1,4 @@
-use Prim.Native.Nat.{_+_, _-_, _≤_, zero-le}
+use Prim.Native.Nat.{_-_, _≤_, zero-le}
 use mathlib.Core.Path.{_≡_, refl, _∙_}
 use native.Mathlib.Omega.{arith}
 use lib.ListN.{length}
@@ -8,9 +8,6 @@ use Rattle.report.proofs.Buffer.{start, both}
 use Rattle.report.proofs.Lengths.{joined-more, joined-within}
 use Rattle.report.proofs.put_tips.Statement.{statement}
 use Rattle.report.proofs.put_tips.Tie as tie
-use Rattle.report.proofs.put_tips.Reads as reads
-use Rattle.report.proofs.put_tips.Lts as lts
-use Rattle.report.proofs.put_tip.Reads as put-tip-reads
 
 abbrev Inv-loop : tie.InvT-loop
 Inv-loop out₀ at tips next₀ tip₀ out next tip = (tip ≤ 64) × (length out ≡ length out₀) × Put out₀ at (joined (tipText tips) tip) next out

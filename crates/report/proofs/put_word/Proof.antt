@@ -7,8 +7,6 @@ use Rattle.report.specs.Buffer.{Put}
 use Rattle.report.proofs.Buffer.{start, copied}
 use Rattle.report.proofs.put_word.Statement.{statement}
 use Rattle.report.proofs.put_word.Tie as tie
-use Rattle.report.proofs.put_word.Reads as reads
-use Rattle.report.proofs.put_word.Lts as lts
 
 abbrev Inv-loop : tie.InvT-loop
 Inv-loop out₀ at word next₀ i₀ out next i = (i ≤ length word) × (length out ≡ length out₀) × Put out₀ at (take i word) next out
@@ -39,7 +37,9 @@ loop-less : tie.Need-loop-less Inv-loop μ-loop
 loop-less c = omega arith
 
 loop-again : tie.Need-loop-again Inv-loop μ-loop
-loop-again c = (omega arith, rw length-set (c .before .before .loop .inv .1), copied _ _ (c .before .loop-test .taken) (c .before .before .before .pre) (c .before .before .loop .inv .2))
+loop-again c =
+    let e = taken (c .before) in
+    (omega arith, rw length-set (c .before .before .loop .inv .1), copied _ _ (c .before .loop-test .taken) (omega arith) (omega arith) (c .before .before .loop .inv .2))
 
 same-length : tie.Need-same-length Inv-loop μ-loop
 same-length c = c .before .loop .inv .1

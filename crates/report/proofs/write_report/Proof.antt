@@ -7,12 +7,6 @@ use Rattle.report.proofs.Lengths.{length-report, Sized, report-short}
 use borrow.Author.Needs.{needs}
 use Rattle.report.proofs.write_report.Statement.{statement}
 use Rattle.report.proofs.write_report.Tie as tie
-use Rattle.report.proofs.write_report.Reads as reads
-use Rattle.report.proofs.write_report.Lts as lts
-use Rattle.report.proofs.put_head.Reads as put-head-reads
-use Rattle.report.proofs.put_lines.Reads as put-lines-reads
-use Rattle.report.proofs.put_off.Reads as put-off-reads
-use Rattle.report.proofs.put_pairs.Reads as put-pairs-reads
 
 abbrev facts : tie.Start → Facts
 facts c =

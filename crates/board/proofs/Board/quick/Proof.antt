@@ -55,7 +55,7 @@ same-length : tie.Need-same-length
 same-length c = search needs
 
 returns-2 : tie.Need-returns-2
-returns-2 c = quick-accepted (c .before .before .before .before .before .before .before .before .before .before .before .before .before .before .args .t1) (full (c .before .before .before .before .before .before .before .before .before .before .before .before .before .before .args .t1 .sets) (c .before .before .before .before .before .before .before .before .before .before .before .before .before .before .good .0 .1 .1 .1 .1 .1 .0 .1 .0 .1)) (c .before .before .before .before .before .before .before .before .before .before .before .before .before .before .args .plan .now) (c .before .before .before .before .before .before .before .before .before .plan-refusal .ensures) (c .before .before .before .before .before .before .before .if1 .left) (c .before .before .before .plan-lines .ensures .0) (c .before .before .before .plan-lines .ensures .1)
+returns-2 c = quick-accepted (c .before .before .before .before .before .before .before .before .before .before .before .before .before .before .args .t1) (full (c .before .before .before .before .before .before .before .before .before .before .before .before .before .before .args .t1 .sets) (c .before .before .before .before .before .before .before .before .before .before .before .before .before .before .good .0 .1 .1 .1 .1 .1 .0 .1 .0 .1)) (c .before .before .before .before .before .before .before .before .before .before .before .before .before .before .args .plan .now) (c .before .before .before .before .before .before .before .before .before .plan-refusal .ensures) (c .before .before .before .before .before .before .before .if1 .left) (c .before .before .before .plan-lines .ensures .pairs-are) (c .before .before .before .plan-lines .ensures .plan-is)
 
 pub quick-spec : {M : Type 1} → statement M
 quick-spec =

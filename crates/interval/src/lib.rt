@@ -1,0 +1,122 @@
+// The table of best sharing: the most pairs of each interval of tips, from the lines summed by lowest and highest tip.
+ghost use mathlib.Core.Path.{_≡_};
+ghost use Prim.Native.Nat.{_+_, _*_, _≤_, _<_, max};
+ghost use lib.ListN.{length};
+ghost use Rattle.model.specs.Count.{largest};
+ghost use Rattle.model.specs.Interval.{table as tableOf};
+ghost use Rattle.spans.specs.Spans.{sums as sumsOf};
+ghost use Rattle.interval.specs.Cells.{splitBy, Small, splitAt, Row, gainsOf, none, cellBy, Cell, Spread, Runs, Columns};
+
+fn larger(x: u32, y: u32) -> u32
+    ensures { λ r. ⌜ r ≡ max x y ⌝ }
+{
+    if x < y { y } else { x }
+}
+
+fn split_by(base: u32, gain: u32, sum: u32, left: u32, right: u32) -> u32
+    requires { ⌜ Small base gain sum left right ⌝ }
+    ensures { λ r. ⌜ r ≡ splitBy base gain sum left right ⌝ }
+{
+    let p = gain + sum - base;
+    (p * p - p) / 2 + (left + right)
+}
+
+fn largest_split(
+    first: u32,
+    base: u32,
+    gains: &[u32],
+    sums: &[u32],
+    lefts: &[u32],
+    rights: &[u32],
+) -> u32
+    requires { ⌜ Row base (now gains) (now sums) (now lefts) (now rights) ⌝ }
+    ensures { λ r. ⌜ r ≡ max first (largest (splitAt base (now (gains .entry)) (now (sums .entry)) (now (lefts .entry)) (now (rights .entry))) (length (now (gains .entry)))) ⌝ }
+{
+    let mut best = first;
+    let mut i = 0;
+    while i < gains.len() {
+        best = larger(best, split_by(base, gains[i], sums[i], lefts[i], rights[i]));
+        i += 1;
+    }
+    best
+}
+
+fn none_yet() -> [u32; 65]
+    ensures { λ r. ⌜ r ≡ none ⌝ }
+{
+    [0u32; 65]
+}
+
+fn spread(sums: &[u32], b: usize, gains: &mut [u32])
+    requires { ⌜ Spread (now sums) b (now gains) ⌝ }
+    ensures { λ _. ⌜ now (gains .exit) ≡ gainsOf (now (sums .entry)) b (now (gains .entry)) ⌝ }
+{
+    let end = b + 1;
+    let mut c = 0;
+    while c < end {
+        let next = (c + 1) * 65;
+        gains[c] = sums[next + end] - sums[next + c];
+        c += 1;
+    }
+}
+
+fn cell(
+    m: usize,
+    a: usize,
+    b: usize,
+    sums: &[u32],
+    gains: &[u32],
+    column: &[u32],
+    table: &[u32],
+) -> u32
+    requires { ⌜ Cell m a b (now sums) (now gains) (now column) (now table) ⌝ }
+    ensures { λ r. ⌜ r ≡ cellBy m a b (now (sums .entry)) (now (gains .entry)) (now (column .entry)) (now (table .entry)) ⌝ }
+{
+    let row = a * 65;
+    let next = a + 1;
+    let end = b + 1;
+    let next_sum = row + next;
+    let end_sum = row + end;
+    let first_cell = a * m + a;
+    let end_cell = a * m + b;
+    let next_right = a + 2;
+    let end_right = b + 2;
+    let base = sums[end_sum];
+    let first = split_by(base, gains[a], sums[row + a], 0, column[next]);
+    largest_split(
+        first,
+        base,
+        &gains[next..end],
+        &sums[next_sum..end_sum],
+        &table[first_cell..end_cell],
+        &column[next_right..end_right],
+    )
+}
+
+fn fill_column(m: usize, b: usize, lines: &[u64], sums: &[u32], table: &mut [u32])
+    requires { ⌜ Runs m (now lines) × (now sums ≡ sumsOf (now lines)) × (b < m) × Columns m (now lines) (now table) b ⌝ }
+    ensures { λ _. ⌜ Columns m (now (lines .entry)) (now (table .exit)) (b + 1) ⌝ }
+{
+    let mut gains = none_yet();
+    spread(sums, b, &mut gains);
+    let mut column = none_yet();
+    let mut a = b + 1;
+    while 0 < a {
+        a -= 1;
+        let best = cell(m, a, b, sums, &gains, &column, table);
+        table[a * m + b] = best;
+        column[a] = best;
+    }
+}
+
+pub fn fill_table(m: usize, lines: &[u64], sums: &[u32], table: &mut [u32])
+    requires { ⌜ Runs m (now lines) × (now sums ≡ sumsOf (now lines)) × (length (now table) ≡ m * m) ⌝ }
+    ensures { λ _. ⌜ now (table .exit) ≡ tableOf m (now (lines .entry)) ⌝ }
+{
+    spans::clear(table);
+    let mut b = 0;
+    while b < m {
+        fill_column(m, b, lines, sums, table);
+        b += 1;
+    }
+}
