@@ -6,20 +6,25 @@ use mathlib.Core.List.{List, _++_, map}
 use native.Mathlib.Omega.{arith}
 use lib.Dec.{T, ltb}
 use lib.ListN.{length, take, drop, length-map}
+use native.Mathlib.Nat.{le-trans, mul-le-mul-left, mul-le-mul-right}
 use lib.Seq.{take-at}
 use borrow.Author.Tests.{ltb-false}
 use Rattle.model.specs.Count.{All}
 use Rattle.model.specs.Plan.{Domain, Valid, pairs}
 use Rattle.model.specs.Greedy.{quickPlan}
 use Rattle.model.proofs.Valid.{valid-length}
+use Rattle.model.specs.Interval.{isRun, C, bestPlan, table}
 use Rattle.model.proofs.Greedy.{quick-valid, quick-half}
+use Rattle.model.proofs.Best.{best-valid, best-pairs, best}
+use Rattle.interval.specs.Cells.{Runs}
+use Rattle.job.proofs.Fails.{none-fails}
 use Rattle.board.specs.declared.Stage.the-variants.{Closed}
 use Rattle.board.specs.declared.Refusal.{Refusal}
 use Rattle.board.specs.declared.Board.{Board}
 use Rattle.board.specs.declared.Shared.{Shared}
-use Rattle.board.specs.Refusal.{accepts, when}
+use Rattle.board.specs.Refusal.{none, accepts, orElse, when}
 use Rattle.board.specs.Board.{linesOf, stateRefusal}
-use Rattle.board.specs.Sharing.{sharedBy, lentBy, quickRefusal, quickOf, quickBuffer, HandedOut, HalfRule}
+use Rattle.board.specs.Sharing.{sharedBy, lentBy, quickRefusal, quickOf, quickBuffer, notRun, runRefusal, bestRefusal, bestOf, bestBuffer, bestTable, HandedOut, HalfRule, BestRule}
 use Rattle.board.proofs.Sets.{lines-count}
 use Rattle.board.proofs.Refusals.{Ready, state-none, or-none, when-none, refused, accepted}
 
@@ -82,5 +87,92 @@ module _ (b : Board) (full : length (b .sets) ≡ 512) (old : List ℕ) {d : Ref
             plan = λ _. handed-out b (lines-count b full (s .count-most)) old r o (quick-valid (s .domains)) q;
             half = λ _ other v. rw q (quick-half (s .domains) v);
           },
+        ),
+      )
+
+-- ---- best sharing
+
+-- the places of a table are few
+pub square-most : (m : ℕ) → m ≤ 64 → m * m ≤ 4096
+square-most m h = le-trans (mul-le-mul-left m h) (mul-le-mul-right 64 h)
+
+-- what is known where best sharing is not refused
+pub record Bestable (b : Board) (room places : ℕ) : Type 0 where
+  pub ready : Ready Closed b
+  pub bytes : b .count ≤ room
+  pub cells : b .rack * b .rack ≤ places
+  pub runs : Runs (b .rack) (linesOf b)
+
+run-none : (b : Board) → (runRefusal b) .number ≡ 0 → b .count ≤ notRun b
+run-none b = by (ltb (notRun b) (b .count)) refl
+  where
+    by : (t : Bool) → ltb (notRun b) (b .count) ≡ t → (cond {A = Refusal} t (record { number = 25; place = notRun b }) none) .number ≡ 0 → b .count ≤ notRun b
+    by true e z = absurd (omega (arith, z))
+    by false e z = ltb-false (notRun b) (b .count) e
+
+pub best-known : {b : Board} {room places : ℕ} {d : Refusal} → length (b .sets) ≡ 512 → d ≡ bestRefusal b room places → d .number ≡ 0 → Bestable b room places
+unfolding bestRefusal
+best-known {b} {room} {places} full e z =
+    let short = when (ltb places (b .rack * b .rack)) 5 in
+    let (plan, rest) = or-none (quickRefusal b room) (orElse short (runRefusal b)) (ap (λ r. r .number) (sym e) ∙ z) in
+    let (table, run) = or-none short (runRefusal b) rest in
+    let (ready, bytes) = plan-none b room plan in
+    let s = ready .sound in
+    let count = lines-count b full (s .count-most) in
+    record {
+      ready = ready;
+      bytes = bytes;
+      cells = ltb-false places (b .rack * b .rack) (when-none (ltb places (b .rack * b .rack)) 5 (λ y. omega arith) table);
+      runs = record {
+        some = s .rack-least;
+        rack = s .rack-most;
+        few = omega (arith, count, s .count-most);
+        domains = s .domains;
+        runs = none-fails isRun (linesOf b) (omega (arith, count, run-none b run));
+      };
+    }
+
+module _ (b : Board) (full : length (b .sets) ≡ 512) (old cells : List ℕ) {d : Refusal} (e : d ≡ bestRefusal b (length old) (length cells)) where
+  abbrev laid : List ℕ
+  laid = bestPlan (b .rack) (linesOf b)
+
+  abbrev filled : List ℕ
+  filled = table (b .rack) (linesOf b)
+
+  -- the four clauses of best sharing, refused and accepted
+  pub best-refused : (d .number ≡ 0 → ⊥)
+      → (_≡_ {A = Shared} (record { board = b; number = d .number; place = d .place; pairs = 0 }) (bestOf b (length old) (length cells)))
+      × ((old ≡ bestBuffer b old (length cells))
+      × ((cells ≡ bestTable b (length old) cells) × BestRule b old (record { board = b; number = d .number; place = d .place; pairs = 0 })))
+  unfolding bestOf bestBuffer bestTable
+  best-refused n = (
+    shared-refused e n b (C (linesOf b) 0 (b .rack)),
+    (
+      lent-refused e n (b .count) laid old,
+      (lent-refused e n (b .rack * b .rack) filled cells, record { plan = λ z. absurd (n z); best = λ z. absurd (n z) }),
+    ),
+  )
+
+  pub best-accepted : d .number ≡ 0 → {p : ℕ} {out grid : List ℕ} → p ≡ C (linesOf b) 0 (b .rack) → out ≡ laid ++ drop (b .count) old
+      → grid ≡ filled ++ drop (b .rack * b .rack) cells
+      → (_≡_ {A = Shared} (record { board = b; number = 0; place = 0; pairs = p }) (bestOf b (length old) (length cells)))
+      × ((out ≡ bestBuffer b old (length cells))
+      × ((grid ≡ bestTable b (length old) cells) × BestRule b out (record { board = b; number = 0; place = 0; pairs = p })))
+  unfolding bestOf bestBuffer bestTable
+  best-accepted z {p} {out} {grid} q o g =
+      let k = best-known full e z in
+      let r = k .runs in
+      let s : Shared = record { board = b; number = 0; place = 0; pairs = p } in
+      let counted : p ≡ pairs laid = q ∙ sym (best-pairs (r .rack) (r .domains) (r .runs)) in (
+        shared-accepted e z b (C (linesOf b) 0 (b .rack)) q,
+        (
+          o ∙ lent-accepted e z (b .count) laid old refl,
+          (
+            g ∙ lent-accepted e z (b .rack * b .rack) filled cells refl,
+            record {
+              plan = λ _. rw o (handed-out b (lines-count b full (k .ready .sound .count-most)) old s refl (best-valid (r .rack) (r .domains) (r .runs)) counted);
+              best = λ _ other v. rw counted (best (r .rack) (r .domains) (r .runs) v);
+            },
+          ),
         ),
       )

@@ -4,6 +4,7 @@ ghost use lib.ListN.{length};
 ghost use Rattle.board.specs.Refusal.{refuse};
 ghost use Rattle.board.specs.Board.{stageRefusal, stateRefusal, addRefusal, noSets, openOf, addOf, closeOf};
 
+mod best_call;
 mod common_call;
 mod file_call;
 mod quick_call;
