@@ -13,7 +13,14 @@ ghost use Rattle.model.specs.Interval.{C, bestPlan, table as tableOf};
 ghost use Rattle.interval.specs.Cells.{Runs};
 ghost use Rattle.board.specs.Sharing.{bestRefusal, bestOf, bestBuffer, bestTable, BestRule};
 
-fn best_refusal(rack: usize, stage: Stage, count: usize, sets: &[u64], room: usize, places: usize) -> Refusal
+fn best_refusal(
+    rack: usize,
+    stage: Stage,
+    count: usize,
+    sets: &[u64],
+    room: usize,
+    places: usize,
+) -> Refusal
     requires { ⌜ length (now sets) ≡ 512 ⌝ }
     ensures { λ r. ⌜ r ≡ bestRefusal (record { rack = rack; stage = stage; count = count; sets = now (sets .entry) }) room places ⌝ }
 {
@@ -42,7 +49,12 @@ fn best_lines(rack: usize, count: usize, sets: &[u64], plan: &mut [u8], table: &
     ensures table { λ _. ⌜ now (table .exit) ≡ tableOf rack (take count (now (sets .entry))) ++ drop (rack * rack) (now (table .entry)) ⌝ }
 {
     let square = rack * rack;
-    best::plan_lines(rack, &sets[..count], &mut plan[..count], &mut table[..square])
+    best::plan_lines(
+        rack,
+        &sets[..count],
+        &mut plan[..count],
+        &mut table[..square],
+    )
 }
 
 impl Board {
@@ -53,7 +65,14 @@ impl Board {
         ensures rule { λ r. ⌜ BestRule self (now (plan .exit)) r ⌝ }
     {
         let count = self.count;
-        let refusal = best_refusal(self.rack, self.stage, count, &self.sets, plan.len(), table.len());
+        let refusal = best_refusal(
+            self.rack,
+            self.stage,
+            count,
+            &self.sets,
+            plan.len(),
+            table.len(),
+        );
         if refusal.number != 0 {
             return Shared {
                 board: self,

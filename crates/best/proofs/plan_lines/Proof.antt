@@ -13,7 +13,7 @@ slice-aggregate-sum-spans : tie.Need-slice-aggregate-sum-spans
 slice-aggregate-sum-spans c = search needs
 
 sum-spans-requires : tie.Need-sum-spans-requires
-sum-spans-requires c κs = 
+sum-spans-requires c κs =
     let r = c .before .before .before .before .pre .0 in
     record { size = search needs; few = r .few; domains = wider (r .rack) (r .domains) }
 
@@ -45,7 +45,7 @@ same-length-2 : tie.Need-same-length-2
 same-length-2 c = search needs
 
 returns : tie.Need-returns
-returns c = 
+returns c =
     let lines = c .before .before .before .before .before .before .before .before .before .before .before .before .before .before .before .before .before .before .args .lines .now in
     let e = c .before .before .before .before .before .before .before .before .before .fill-table .ensures in
     (ap (λ t. getD t (c .before .before .before .before .before .before .before .before .before .before .before .before .before .before .before .before .before .before .args .m - 1) 0) e ∙ table-last (c .before .before .before .before .before .before .before .before .before .before .before .before .before .before .before .before .before .before .args .m) lines (c .before .before .before .before .before .before .before .before .before .before .before .before .before .before .before .before .before .before .pre .0 .some), (c .before .before .before .plan-lines .ensures, e))

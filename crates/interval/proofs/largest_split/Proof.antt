@@ -10,10 +10,10 @@ use Rattle.interval.proofs.largest_split.Statement.{statement}
 use Rattle.interval.proofs.largest_split.Tie as tie
 
 abbrev Inv-loop : tie.InvT-loop
-Inv-loop first base gains sums lefts rights best₀ i₀ best i = (i ≤ length gains) × (best ≡ max first (largest (splitAt base gains sums lefts rights) i))
+Inv-loop first base allows sums lefts rights best₀ i₀ best i = (i ≤ length allows) × (best ≡ max first (largest (splitAt base allows sums lefts rights) i))
 
 abbrev μ-loop : tie.MeasureT-loop
-μ-loop first base gains sums lefts rights best₀ i₀ best i = length gains - i
+μ-loop first base allows sums lefts rights best₀ i₀ best i = length allows - i
 
 loop-holds : tie.Need-loop-holds Inv-loop μ-loop
 unfolding largest
@@ -58,12 +58,12 @@ loop-less c = search needs
 loop-again : tie.Need-loop-again Inv-loop μ-loop
 loop-again c =
     let args = c .before .before .before .before .before .before .before .before .before .before .before .before .args in
-    let f = splitAt (args .base) (args .gains .now) (args .sums .now) (args .lefts .now) (args .rights .now) in
+    let f = splitAt (args .base) (args .allows .now) (args .sums .now) (args .lefts .now) (args .rights .now) in
     (search needs, omega (arith, c .before .before .before .before .before .before .before .loop .inv .1, c .before .split-by .ensures, c .larger .ensures, largest-more f (c .before .before .before .before .before .before .before .loop .i)))
 
 returns : tie.Need-returns Inv-loop μ-loop
 returns c =
-    let e : c .before .loop .i ≡ length (c .before .before .before .before .before .before .args .gains .now) = omega arith in
+    let e : c .before .loop .i ≡ length (c .before .before .before .before .before .before .args .allows .now) = omega arith in
     rw (← e) (c .before .loop .inv .1)
 
 pub largest-split-spec : {M : Type 1} → statement M

@@ -13,20 +13,20 @@ sub-p : tie.Need-sub-p
 sub-p c = search needs
 
 mul-result : tie.Need-mul-result
-mul-result c = record { fits = omega (arith, square-few (c .args .gain + c .args .sum - c .args .base) (omega arith)) }
+mul-result c = record { fits = omega (arith, square-few (c .args .allow + c .args .sum - c .args .base) (omega arith)) }
 
 sub-result : tie.Need-sub-result
-sub-result c = omega (arith, square-few (c .args .gain + c .args .sum - c .args .base) (omega arith))
+sub-result c = omega (arith, square-few (c .args .allow + c .args .sum - c .args .base) (omega arith))
 
 add-result : tie.Need-add-result
 add-result c = search needs
 
 add-result-2 : tie.Need-add-result-2
-add-result-2 c = record { fits = omega (arith, square-few (c .args .gain + c .args .sum - c .args .base) (omega arith)) }
+add-result-2 c = record { fits = omega (arith, square-few (c .args .allow + c .args .sum - c .args .base) (omega arith)) }
 
 returns : tie.Need-returns
 unfolding splitBy
-returns c = omega (arith, choose2-halves (c .args .gain + c .args .sum - c .args .base))
+returns c = omega (arith, choose2-halves (c .args .allow + c .args .sum - c .args .base))
 
 pub split-by-spec : {M : Type 1} → statement M
 split-by-spec =

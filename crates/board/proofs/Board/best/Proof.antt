@@ -18,7 +18,7 @@ returns : tie.Need-returns
 returns c = best-refused (c .before .before .before .before .before .before .before .before .args .t1) (full (c .before .before .before .before .before .before .before .before .args .t1 .sets) (c .before .before .before .before .before .before .before .before .good .0 .1 .1 .1 .1 .1 .0 .1 .0 .1)) (c .before .before .before .before .before .before .before .before .args .plan .now) (c .before .before .before .before .before .before .before .before .args .table .now) (c .before .before .best-refusal .ensures) (c .if1 .taken)
 
 best-lines-requires : tie.Need-best-lines-requires
-best-lines-requires c κs = 
+best-lines-requires c κs =
     let k = known (c .before .before .before .before .before) in
     (omega (arith, full (c .before .before .before .before .before .before .before .before .before .before .before .before .before .args .t1 .sets) (c .before .before .before .before .before .before .before .before .before .before .before .before .before .good .0 .1 .1 .1 .1 .1 .0 .1 .0 .1), k .ready .sound .count-most), k .runs, k .bytes, k .cells)
 
@@ -29,7 +29,7 @@ same-length-2 : tie.Need-same-length-2
 same-length-2 c = search needs
 
 returns-2 : tie.Need-returns-2
-returns-2 c = 
+returns-2 c =
     let e = c .before .before .before .before .best-lines .ensures in
     best-accepted (c .before .before .before .before .before .before .before .before .before .before .before .before .before .before .before .before .before .before .args .t1) (full (c .before .before .before .before .before .before .before .before .before .before .before .before .before .before .before .before .before .before .args .t1 .sets) (c .before .before .before .before .before .before .before .before .before .before .before .before .before .before .before .before .before .before .good .0 .1 .1 .1 .1 .1 .0 .1 .0 .1)) (c .before .before .before .before .before .before .before .before .before .before .before .before .before .before .before .before .before .before .args .plan .now) (c .before .before .before .before .before .before .before .before .before .before .before .before .before .before .before .before .before .before .args .table .now) (c .before .before .before .before .before .before .before .before .before .before .before .before .best-refusal .ensures) (c .before .before .before .before .before .before .before .before .before .before .if1 .left) (e .0) (e .1 .0) (e .1 .1)
 

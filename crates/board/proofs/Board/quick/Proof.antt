@@ -41,7 +41,7 @@ slice-aggregate-plan-lines-2 : tie.Need-slice-aggregate-plan-lines-2
 slice-aggregate-plan-lines-2 c = sym (bytes (c .before .before .before))
 
 plan-lines-requires : tie.Need-plan-lines-requires
-plan-lines-requires c κs = 
+plan-lines-requires c κs =
     let s = known (c .before .before .before) .0 .sound in
     record {
       some = s .rack-least;

@@ -1,30 +1,34 @@
+use Prim.Native.Nat.{_≤_}
+use lib.ListN.{length}
+use Rattle.job.specs.Job.{fileLength}
+use Rattle.board.specs.declared.Stage.the-variants.{Closed}
+use Rattle.board.proofs.Sets.{full}
+use Rattle.board.proofs.Refusals.{Ready}
+use Rattle.board.proofs.JobFileRule.{write-known, write-refused, write-accepted}
 use borrow.Author.Needs.{needs}
 use Rattle.board.proofs.Board.write.Statement.{statement}
 use Rattle.board.proofs.Board.write.Tie as tie
-use Rattle.board.proofs.Board.write.Reads as reads
-use Rattle.board.proofs.Board.write.Lts as lts
-use Rattle.board.proofs.file_call.write_lines.Reads as write-lines-reads
-use Rattle.board.proofs.file_call.write_refusal.Reads as write-refusal-reads
 
--- src/file_call.rt:97:13
+-- the board is sound and closed, and the output has room for the file
+known : (c : tie.Else1) → Ready Closed (c .before .before .before .before .before .before .before .args .t1) × (fileLength (c .before .before .before .before .before .before .before .args .t1 .count) ≤ length (c .before .before .before .before .before .before .before .args .out .now))
+known c = write-known (c .before .before .write-refusal .ensures) (c .if1 .left)
+
 write-refusal-requires : tie.Need-write-refusal-requires
 write-refusal-requires c κs = search needs
 
--- src/file_call.rt:99:13
 returns : tie.Need-returns
-returns c = ?
+returns c = write-refused (c .before .before .before .before .before .before .before .args .t1) (c .before .before .before .before .before .before .before .args .out .now) (c .before .before .write-refusal .ensures) (c .if1 .taken)
 
--- src/file_call.rt:106:13
 write-lines-requires : tie.Need-write-lines-requires
-write-lines-requires c κs = ?
+write-lines-requires c κs =
+    let (r, l) = known (c .before .before .before .before) in
+    (r .sound .count-most, full (c .before .before .before .before .before .before .before .before .before .before .before .args .t1 .sets) (c .before .before .before .before .before .before .before .before .before .before .before .good .0 .1 .1 .1 .1 .1 .0 .1 .0 .1), l)
 
--- src/file_call.rt:91:5
 same-length : tie.Need-same-length
 same-length c = search needs
 
--- src/file_call.rt:91:5
 returns-2 : tie.Need-returns-2
-returns-2 c = ?
+returns-2 c = write-accepted (c .before .before .before .before .before .before .before .before .before .before .before .before .before .before .args .t1) (c .before .before .before .before .before .before .before .before .before .before .before .before .before .before .args .out .now) (c .before .before .before .before .before .before .before .before .before .write-refusal .ensures) (full (c .before .before .before .before .before .before .before .before .before .before .before .before .before .before .args .t1 .sets) (c .before .before .before .before .before .before .before .before .before .before .before .before .before .before .good .0 .1 .1 .1 .1 .1 .0 .1 .0 .1)) (c .before .before .before .before .before .before .before .if1 .left) (c .before .before .write-lines .ensures .0) (c .before .before .write-lines .ensures .1)
 
 pub write-spec : {M : Type 1} → statement M
 write-spec =

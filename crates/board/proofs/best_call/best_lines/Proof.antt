@@ -25,7 +25,7 @@ slice-aggregate-plan-lines-3 : tie.Need-slice-aggregate-plan-lines-3
 slice-aggregate-plan-lines-3 c = sym (length-take-le (c .before .before .before .before .before .before .args .rack * c .before .before .before .before .before .before .args .rack) (c .before .before .before .before .before .before .args .table .now) (c .before .before .before .before .before .before .pre .3))
 
 plan-lines-requires : tie.Need-plan-lines-requires
-plan-lines-requires c κs = 
+plan-lines-requires c κs =
     let a = c .before .before .before .before .before .before .args in
     let p = c .before .before .before .before .before .before .pre in
     (p .1, length-take-le (a .count) (a .plan .now) (p .2) ∙ sym (length-take-le (a .count) (a .sets .now) (p .0)), length-take-le (a .rack * a .rack) (a .table .now) (p .3))
@@ -37,7 +37,7 @@ same-length-2 : tie.Need-same-length-2
 same-length-2 c = search needs
 
 returns : tie.Need-returns
-returns c = 
+returns c =
     let e = c .before .before .before .before .plan-lines .ensures in
     (e .0, (rw (e .1 .0), rw (e .1 .1)))
 

@@ -1,38 +1,42 @@
+use mathlib.Core.Path.{_≡_, sym, ap, ap₂, _∙_}
+use mathlib.Core.List.{_++_}
+use native.Mathlib.Omega.{arith}
+use lib.ListN.{length, take, drop}
+use lib.Seq.{length-take-le}
+use Rattle.job.specs.Job.{fileLength}
 use borrow.Author.Needs.{needs}
 use Rattle.board.proofs.file_call.write_lines.Statement.{statement}
 use Rattle.board.proofs.file_call.write_lines.Tie as tie
-use Rattle.board.proofs.file_call.write_lines.Reads as reads
-use Rattle.board.proofs.file_call.write_lines.Lts as lts
-use Rattle.job.proofs.file_length.Reads as file-length-reads
-use Rattle.job.proofs.write_file.Reads as write-file-reads
 
--- src/file_call.rt:56:9
+-- the lines are as many as the count, and their place in the output has the bytes of their file
+lines : (c : tie.After-file-length) → length (take (c .before .before .before .args .count) (c .before .before .before .args .sets .now)) ≡ c .before .before .before .args .count
+lines c = length-take-le (c .before .before .before .args .count) (c .before .before .before .args .sets .now) (omega arith)
+
+place : (c : tie.After-file-length) → length (take (c .file-length .result) (c .before .before .before .args .out .now)) ≡ c .file-length .result
+place c = length-take-le (c .file-length .result) (c .before .before .before .args .out .now) (omega arith)
+
 file-length-requires : tie.Need-file-length-requires
 file-length-requires c κs = search needs
 
--- src/file_call.rt:57:27
 slice-aggregate-write-file : tie.Need-slice-aggregate-write-file
-slice-aggregate-write-file c = ?
+slice-aggregate-write-file c = sym (lines (c .before))
 
--- src/file_call.rt:57:43
 slice-relend-prefix-write-file : tie.Need-slice-relend-prefix-write-file
 slice-relend-prefix-write-file c = search needs
 
--- src/file_call.rt:57:43
 slice-aggregate-write-file-2 : tie.Need-slice-aggregate-write-file-2
-slice-aggregate-write-file-2 c = ?
+slice-aggregate-write-file-2 c = sym (place (c .before .before))
 
--- src/file_call.rt:57:5
 write-file-requires : tie.Need-write-file-requires
-write-file-requires c κs = ?
+write-file-requires c κs = place (c .before .before) ∙ c .before .before .file-length .ensures ∙ ap fileLength (sym (lines (c .before .before)))
 
--- src/file_call.rt:51:1
 same-length : tie.Need-same-length
 same-length c = search needs
 
--- src/file_call.rt:51:1
 returns : tie.Need-returns
-returns c = ?
+returns c =
+    let e = c .before .before .before .before .before .file-length .ensures in
+    (e, ap₂ (λ x n. x ++ drop n (c .before .before .before .before .before .before .before .before .args .out .now)) (c .before .before .write-file .ensures) e)
 
 pub write-lines-spec : {M : Type 1} → statement M
 write-lines-spec =

@@ -1,39 +1,36 @@
+use mathlib.Core.Path.{_∙_}
+use native.Mathlib.Omega.{arith}
+use borrow.Author.Tests.{lt-ltb, le-ltb}
+use Rattle.job.specs.Job.{fileLength}
+use Rattle.board.specs.JobFile.{writeRefusal}
+use Rattle.board.proofs.Refusals.{or-first, or-next, state-known}
 use borrow.Author.Needs.{needs}
 use Rattle.board.proofs.file_call.write_refusal.Statement.{statement}
 use Rattle.board.proofs.file_call.write_refusal.Tie as tie
-use Rattle.board.proofs.file_call.write_refusal.Reads as reads
-use Rattle.board.proofs.file_call.write_refusal.Lts as lts
-use Rattle.board.proofs.refuse.Reads as refuse-reads
-use Rattle.board.proofs.state_refusal.Reads as state-refusal-reads
-use Rattle.job.proofs.file_length.Reads as file-length-reads
 
--- src/file_call.rt:40:9
 state-refusal-requires : tie.Need-state-refusal-requires
 state-refusal-requires c κs = search needs
 
--- src/file_call.rt:42:9
 returns : tie.Need-returns
-returns c = ?
+unfolding writeRefusal
+returns c = or-first (c .before .before .state-refusal .ensures) _ (c .if1 .taken)
 
--- src/file_call.rt:44:15
 file-length-requires : tie.Need-file-length-requires
-file-length-requires c κs = ?
+file-length-requires c κs = omega (arith, state-known (c .before .before .state-refusal .ensures) (c .if1 .left) .sound .count-most)
 
--- src/file_call.rt:45:9
 refuse-requires : tie.Need-refuse-requires
 refuse-requires c κs = search needs
 
--- src/file_call.rt:45:9
 returns-2 : tie.Need-returns-2
-returns-2 c = ?
+unfolding writeRefusal
+returns-2 c = or-next (c .before .before .before .before .before .state-refusal .ensures) _ (c .before .before .before .if1 .left) (c .refuse .ensures ∙ rw (lt-ltb (c .before .before .before .before .before .before .before .args .room) (fileLength (c .before .before .before .before .before .before .before .args .count)) (rw (c .before .before .file-length .ensures) at (c .before .if2 .taken))))
 
--- src/file_call.rt:47:5
 refuse-requires-2 : tie.Need-refuse-requires-2
 refuse-requires-2 c κs = search needs
 
--- src/file_call.rt:36:1
 returns-3 : tie.Need-returns-3
-returns-3 c = ?
+unfolding writeRefusal
+returns-3 c = or-next (c .before .before .before .before .before .state-refusal .ensures) _ (c .before .before .before .if1 .left) (c .refuse2 .ensures ∙ rw (le-ltb (c .before .before .before .before .before .before .before .args .room) (fileLength (c .before .before .before .before .before .before .before .args .count)) (rw (c .before .before .file-length .ensures) at (c .before .if2 .left))))
 
 pub write-refusal-spec : {M : Type 1} → statement M
 write-refusal-spec =

@@ -1,0 +1,187 @@
+-- The answers of reading and writing a job file by cases on the refusal, and what holds between the two.
+use Prim.Native.Nat.{ℕ, zero, suc, _≤_, _<_}
+use mathlib.Core.Path.{_≡_, refl, sym, ap, ap₂, _∙_}
+use mathlib.Core.List.{List, _∷_, _++_}
+use native.Mathlib.Omega.{arith}
+use lib.Dec.{T, T-not, eqb→eq, ltb}
+use lib.ListN.{length, take, drop, getD, replicate, length-replicate, length-drop, take-append-drop, List·getD-append}
+use lib.Seq.{take-at, drop-at}
+use borrow.Author.Tests.{ltb-false}
+use Rattle.model.specs.Count.{All, none, more, firstFail}
+use Rattle.model.specs.Plan.{isEmpty, isDomain}
+use Rattle.model.proofs.Lists.{all-drop, each-iff}
+use Rattle.job.specs.Job.{Bytes, fileLength, fileOf, rackIn, countIn, setsIn, headerNumber, setNumber, badIn, readNumber}
+use Rattle.job.proofs.Fails.{fails-at, set-number}
+use Rattle.job.proofs.Header.{good-header}
+use Rattle.job.proofs.Reading.{length-setsIn, length-fileOf, read-refused, read-bad, read-clean, read-iff, rack-of-file, count-of-file, sets-of-file, read-of-file, file-again}
+use Rattle.sound.proofs.Laws.{sound-iff}
+use Rattle.board.specs.declared.Stage.the-variants.{Closed}
+use Rattle.board.specs.declared.Refusal.{Refusal}
+use Rattle.board.specs.declared.Board.{Board}
+use Rattle.board.specs.declared.Answer.{Answer}
+use Rattle.board.specs.declared.Written.{Written}
+use Rattle.board.specs.Refusal.{none as unrefused, when}
+use Rattle.board.specs.Board.{linesOf, sound, stateRefusal, answer, noSets, emptyBoard}
+use Rattle.board.specs.JobFile.{readRefusal, boardIn, readOf, ReadRule, writeRefusal, writeOf, writeBuffer, WriteRule}
+use Rattle.board.proofs.Sets.{lines-count}
+use Rattle.board.proofs.Refusals.{Ready, state-none, or-none, when-none, refused, accepted, by-number}
+
+-- ---- empty sets
+
+abbrev Empty : List ℕ → Type 0
+Empty = All (λ s. T (isEmpty s))
+
+replicate-empty : (n : ℕ) → Empty (replicate n 0)
+replicate-empty zero = none
+replicate-empty (suc n) = more tt (replicate-empty n)
+
+no-sets-empty : Empty noSets
+unfolding noSets
+no-sets-empty = replicate-empty 512
+
+pub length-no-sets : length noSets ≡ 512
+unfolding noSets
+length-no-sets = length-replicate {A = ℕ} 512 0
+
+-- as many empty sets are the same
+same-empty : {xs ys : List ℕ} → Empty xs → Empty ys → length xs ≡ length ys → xs ≡ ys
+same-empty none none e = refl
+same-empty none (more t ts) e = absurd (omega arith)
+same-empty (more t ts) none e = absurd (omega arith)
+same-empty (more {x} t ts) (more {x = y} u us) e = ap₂ _∷_ (eqb→eq x 0 t ∙ sym (eqb→eq y 0 u)) (same-empty ts us (omega arith))
+
+-- the sets of a sound board after its lines are those of a board without lines
+rest-empty : (b : Board) → length (b .sets) ≡ 512 → Ready Closed b → drop (b .count) (b .sets) ≡ drop (b .count) noSets
+rest-empty b full r =
+    let n = b .count in
+    same-empty (each-iff isEmpty (drop n (b .sets)) .0 (r .sound .rest)) (all-drop n no-sets-empty) (length-drop n (b .sets) ∙ omega (arith, full, length-no-sets, length-drop n noSets))
+
+-- ---- reading
+
+module _ (file : List ℕ) where
+  lines-in : linesOf (boardIn file) ≡ setsIn file
+  lines-in = take-at (setsIn file) (drop (countIn file) noSets) (countIn file) (length-setsIn file)
+
+  sound-in : readNumber file ≡ 0 → T (sound (boardIn file))
+  sound-in z =
+      let (g, h) = read-iff file .0 z in
+      let n = countIn file in
+      sound-iff (rackIn file) n (boardIn file .sets) .1 (record {
+        rack-least = g .rackLow;
+        rack-most = g .rackHigh;
+        count-most = g .fewLines;
+        domains = rw lines-in h;
+        rest = rw (drop-at (setsIn file) (drop n noSets) n (length-setsIn file)) (each-iff isEmpty (drop n noSets) .1 (all-drop n no-sets-empty));
+      })
+
+  pub read-rule : Bytes file → ReadRule file (readOf file)
+  unfolding readOf
+  read-rule bytes = record {
+    gives-sound = λ z. let (q, e) = known z in rw e (sound-in q);
+    gives-closed = λ z. let (q, e) = known z in rw e refl;
+    writes-back = λ z. let (q, e) = known z in rw (e, lines-in) (file-again file bytes (good-header file (read-iff file .0 q .0)));
+  }
+    where
+      known : (readOf file) .number ≡ 0 → (readNumber file ≡ 0) × (readOf file ≡ answer (boardIn file) unrefused)
+      known z = let q = by-number (readRefusal file) (λ (x : Answer). x .number) _ _ refl z in (q, accepted _ _ {d = readRefusal file} refl q)
+
+  -- a bad line has a refusal
+  bad-number : badIn file < countIn file → setNumber (rackIn file) (getD (setsIn file) (badIn file) 0) ≡ 0 → ⊥
+  unfolding badIn
+  bad-number h z =
+      let test = isDomain (rackIn file) in
+      let s = getD (setsIn file) (badIn file) 0 in
+      T-not (test s) (fails-at test (setsIn file) (omega (arith, length-setsIn file))) (set-number (rackIn file) s .0 z)
+
+  -- the answers that the code gives: to a header that is refused, to a bad line, and to a file without one
+  pub read-stopped : {x : ℕ} → x ≡ headerNumber file → (x ≡ 0 → ⊥) → answer (emptyBoard 1) (record { number = x; place = 0 }) ≡ readOf file
+  unfolding readOf
+  read-stopped {x} e n =
+      let (p, q) = read-refused file (λ z. n (e ∙ z)) in
+      let f : _≡_ {A = Refusal} (record { number = x; place = 0 }) (readRefusal file) = rw (e, p, q) refl in
+      ap (answer (emptyBoard 1)) f ∙ sym (refused _ _ f n)
+
+  module _ (z : headerNumber file ≡ 0) {m n i : ℕ} {out empty : List ℕ} (rack : m ≡ rackIn file) (count : n ≡ countIn file)
+      (rest : empty ≡ noSets) (lines : out ≡ setsIn file) (bad : i ≡ firstFail (isDomain m) (take n (out ++ drop n empty))) where
+    length-out : length out ≡ n
+    length-out = ap length lines ∙ length-setsIn file ∙ sym count
+
+    first-bad : i ≡ badIn file
+    unfolding badIn
+    first-bad = bad ∙ ap₂ (λ r s. firstFail (isDomain r) s) rack (take-at out (drop n empty) n length-out ∙ lines)
+
+    pub read-stopped-at : i < n → {x : ℕ} → x ≡ setNumber m (getD (out ++ drop n empty) i 0) → answer (emptyBoard 1) (record { number = x; place = i }) ≡ readOf file
+    unfolding readOf
+    read-stopped-at l {x} e =
+        let l' : badIn file < countIn file = omega (arith, first-bad, count) in
+        let s = getD (setsIn file) (badIn file) 0 in
+        let (p, q) = read-bad file z l' in
+        let here : getD (out ++ drop n empty) i 0 ≡ s = List·getD-append out (drop n empty) 0 i (omega (arith, length-out)) ∙ ap₂ (λ y j. getD y j 0) lines first-bad in
+        let number : x ≡ readNumber file = e ∙ ap₂ setNumber rack here ∙ sym p in
+        let f : _≡_ {A = Refusal} (record { number = x; place = i }) (readRefusal file) = rw (number, first-bad, q) refl in
+        ap (answer (emptyBoard 1)) f ∙ sym (refused _ _ f (λ y. bad-number l' (sym p ∙ sym number ∙ y)))
+
+    pub read-through : n ≤ i → answer (record { rack = m; stage = Closed; count = n; sets = out ++ drop n empty }) unrefused ≡ readOf file
+    unfolding readOf
+    read-through l =
+        let (p, q) = read-clean file z (omega (arith, first-bad, count)) in
+        rw (rack, count, lines, rest) (sym (accepted _ _ {d = readRefusal file} refl p))
+
+-- ---- writing
+
+-- what is known where writing is not refused: the board is sound and closed, and the output has room for the file
+pub write-known : {b : Board} {room : ℕ} {d : Refusal} → d ≡ writeRefusal b room → d .number ≡ 0 → Ready Closed b × (fileLength (b .count) ≤ room)
+unfolding writeRefusal
+write-known {b} {room} e z =
+    let short = ltb room (fileLength (b .count)) in
+    let (state, long) = or-none (stateRefusal Closed b) (when short 11) (ap (λ r. r .number) (sym e) ∙ z) in
+    (state-none Closed b state, ltb-false room (fileLength (b .count)) (when-none short 11 (λ y. omega arith) long))
+
+abbrev file : Board → List ℕ
+file b = fileOf (b .rack) (linesOf b)
+
+module _ (b : Board) (full : length (b .sets) ≡ 512) (r : Ready Closed b) where
+  few : length (linesOf b) ≡ b .count
+  few = lines-count b full (r .sound .count-most)
+
+  -- the file of a sound and closed board has that board in it
+  same-board : boardIn (file b) ≡ b
+  same-board =
+      let s = r .sound in
+      let short : length (linesOf b) ≤ 512 = omega (arith, few, s .count-most) in
+      let m = rack-of-file (b .rack) (linesOf b) (s .rack-least) (s .rack-most) short in
+      let n = count-of-file (b .rack) (linesOf b) (s .rack-least) (s .rack-most) short ∙ few in
+      let lines = sets-of-file (b .rack) (linesOf b) (s .rack-least) (s .rack-most) short (s .domains) in
+      let sets : boardIn (file b) .sets ≡ b .sets = ap₂ (λ l k. l ++ drop k noSets) lines n ∙ ap (λ l. linesOf b ++ l) (sym (rest-empty b full r)) ∙ take-append-drop (b .count) (b .sets) in
+      rw (sets, m, n, r .stage)
+
+  read-back : readOf (file b) ≡ answer b unrefused
+  unfolding readOf
+  read-back =
+      let s = r .sound in
+      let z = read-of-file (b .rack) (linesOf b) (s .rack-least) (s .rack-most) (omega (arith, few, s .count-most)) (s .domains) in
+      accepted _ _ {d = readRefusal (file b)} refl z ∙ ap (λ x. answer x unrefused) same-board
+
+  -- the file at the front of an output
+  read-front : (rest : List ℕ) (n : ℕ) → n ≡ fileLength (b .count) → readOf (take n (file b ++ rest)) ≡ answer b unrefused
+  read-front rest n e = ap readOf (take-at (file b) rest n (length-fileOf (b .rack) (linesOf b) ∙ ap fileLength few ∙ sym e)) ∙ read-back
+
+-- the three clauses of writing, refused and accepted
+module _ (b : Board) (old : List ℕ) {d : Refusal} (e : d ≡ writeRefusal b (length old)) where
+  pub write-refused : (d .number ≡ 0 → ⊥)
+      → (_≡_ {A = Written} (record { board = b; number = d .number; place = d .place; bytes = 0 }) (writeOf b (length old)))
+      × ((old ≡ writeBuffer b old) × WriteRule b old (record { board = b; number = d .number; place = d .place; bytes = 0 }))
+  unfolding writeOf writeBuffer
+  write-refused n = (
+    ap (λ (q : Refusal). record { board = b; number = q .number; place = q .place; bytes = 0 }) e ∙ sym (refused _ _ e n),
+    (sym (refused _ _ e n), record { reads-back = λ z. absurd (n z) }),
+  )
+
+  pub write-accepted : length (b .sets) ≡ 512 → d .number ≡ 0 → {n : ℕ} {out : List ℕ} → n ≡ fileLength (b .count) → out ≡ file b ++ drop (fileLength (b .count)) old
+      → (_≡_ {A = Written} (record { board = b; number = 0; place = 0; bytes = n }) (writeOf b (length old)))
+      × ((out ≡ writeBuffer b old) × WriteRule b out (record { board = b; number = 0; place = 0; bytes = n }))
+  unfolding writeOf writeBuffer
+  write-accepted full z {n} {out} p q = (
+    rw p (sym (accepted _ _ e z)),
+    (q ∙ sym (accepted _ _ e z), record { reads-back = λ _. rw q (read-front b full (write-known e z .0) (drop (fileLength (b .count)) old) n p) }),
+  )
