@@ -1,0 +1,184 @@
+//! One call made in both implementations on equal buffers, and compared whole.
+
+use std::fmt;
+
+use second::interface;
+
+use crate::library::on_slices;
+use crate::random::Random;
+
+/// Junk before and after each buffer, so that a write outside it is seen.
+const GUARD: usize = 32;
+
+/// A call with the lengths of the buffers it is lent.
+#[derive(Clone, Copy, PartialEq, Eq, Debug)]
+pub enum Call {
+    Read { answer: usize },
+    Common { answer: usize },
+    Keep { k: u16, out: usize, answer: usize },
+    Quick { plan: usize, answer: usize },
+    Best { plan: usize, table: usize, answer: usize },
+    Report { out: usize },
+}
+
+/// The names of the calls, in the order of their columns.
+pub const CALL_NAMES: [&str; 6] = ["read", "common", "keep", "quick", "best", "report"];
+
+impl Call {
+    /// Where the call stands among the names.
+    pub fn column(&self) -> usize {
+        match self {
+            Call::Read { .. } => 0,
+            Call::Common { .. } => 1,
+            Call::Keep { .. } => 2,
+            Call::Quick { .. } => 3,
+            Call::Best { .. } => 4,
+            Call::Report { .. } => 5,
+        }
+    }
+}
+
+/// A lent buffer with junk in it and around it, beginning at any address that fits its cells.
+#[derive(Clone, PartialEq)]
+struct Lent<T> {
+    cells: Vec<T>,
+    start: usize,
+    length: usize,
+}
+
+impl<T: Copy> Lent<T> {
+    fn junk<const N: usize>(random: &mut Random, length: usize, cells: fn(u64) -> [T; N]) -> Lent<T> {
+        let start = GUARD + random.below(16);
+        let mut junk = Vec::with_capacity(start + length + GUARD + N);
+        while junk.len() < start + length + GUARD {
+            junk.extend(cells(random.number()));
+        }
+        Lent { cells: junk, start, length }
+    }
+
+    fn inside(&mut self) -> &mut [T] {
+        &mut self.cells[self.start..self.start + self.length]
+    }
+}
+
+/// Everything that one call can reach.
+#[derive(Clone, PartialEq)]
+struct Buffers {
+    file: Lent<u8>,
+    bytes: Lent<u8>,
+    table: Lent<u32>,
+    answer: Lent<u64>,
+}
+
+impl Buffers {
+    fn new(file: &[u8], call: &Call, junk: u64) -> Buffers {
+        let (bytes, table, answer) = match *call {
+            Call::Read { answer } | Call::Common { answer } => (0, 0, answer),
+            Call::Keep { out, answer, .. } => (out, 0, answer),
+            Call::Quick { plan, answer } => (plan, 0, answer),
+            Call::Best { plan, table, answer } => (plan, table, answer),
+            Call::Report { out } => (out, 0, 0),
+        };
+        let mut random = Random::new(junk);
+        let mut buffers = Buffers {
+            file: Lent::junk(&mut random, file.len(), u64::to_le_bytes),
+            bytes: Lent::junk(&mut random, bytes, u64::to_le_bytes),
+            table: Lent::junk(&mut random, table, |number| [number as u32, (number >> 32) as u32]),
+            answer: Lent::junk(&mut random, answer, |number| [number]),
+        };
+        buffers.file.inside().copy_from_slice(file);
+        buffers
+    }
+}
+
+fn call_library(call: &Call, lent: &mut Buffers) -> u64 {
+    let (file, bytes) = (lent.file.inside(), lent.bytes.inside());
+    let (table, answer) = (lent.table.inside(), lent.answer.inside());
+    match *call {
+        Call::Read { .. } => on_slices::read(file, answer).into(),
+        Call::Common { .. } => on_slices::common(file, answer).into(),
+        Call::Keep { k, .. } => on_slices::keep(file, k, bytes, answer).into(),
+        Call::Quick { .. } => on_slices::quick(file, bytes, answer).into(),
+        Call::Best { .. } => on_slices::best(file, bytes, table, answer).into(),
+        Call::Report { .. } => on_slices::report(file, bytes) as u64,
+    }
+}
+
+fn call_second(call: &Call, lent: &mut Buffers) -> u64 {
+    let (file, bytes) = (lent.file.inside(), lent.bytes.inside());
+    let (table, answer) = (lent.table.inside(), lent.answer.inside());
+    match *call {
+        Call::Read { .. } => interface::read(file, answer).into(),
+        Call::Common { .. } => interface::common(file, answer).into(),
+        Call::Keep { k, .. } => interface::keep(file, k, bytes, answer).into(),
+        Call::Quick { .. } => interface::quick(file, bytes, answer).into(),
+        Call::Best { .. } => interface::best(file, bytes, table, answer).into(),
+        Call::Report { .. } => interface::report(file, bytes) as u64,
+    }
+}
+
+/// What both implementations gave.
+pub struct Outcome {
+    /// The returned number, for a report its length.
+    pub returned: u64,
+    /// The bytes of the plan or output after the call.
+    pub bytes: Vec<u8>,
+    /// The answer after the call.
+    pub answer: Vec<u64>,
+}
+
+/// A difference, with all that is needed to see it again.
+pub struct Difference {
+    pub file: Vec<u8>,
+    pub what: String,
+}
+
+impl fmt::Display for Difference {
+    fn fmt(&self, to: &mut fmt::Formatter) -> fmt::Result {
+        writeln!(to, "DIFFERENCE: {}", self.what)?;
+        writeln!(to, "job file, {} bytes:", self.file.len())?;
+        for row in self.file.chunks(32) {
+            for byte in row {
+                write!(to, "{byte:02x}")?;
+            }
+            writeln!(to)?;
+        }
+        Ok(())
+    }
+}
+
+/// Makes one call in both implementations.
+pub fn compare(file: &[u8], call: &Call, junk: u64) -> Result<Outcome, Difference> {
+    let mut of_library = Buffers::new(file, call, junk);
+    let mut of_second = of_library.clone();
+    let library = call_library(call, &mut of_library);
+    let second = call_second(call, &mut of_second);
+    if library != second || of_library != of_second {
+        let mut what = format!("{call:?}, junk {junk}\nreturned: library {library}, second {second}");
+        what += &first_difference("file", &of_library.file, &of_second.file);
+        what += &first_difference("answer", &of_library.answer, &of_second.answer);
+        what += &first_difference("plan or output", &of_library.bytes, &of_second.bytes);
+        what += &first_difference("table", &of_library.table, &of_second.table);
+        return Err(Difference { file: file.to_vec(), what });
+    }
+    Ok(Outcome {
+        returned: second,
+        bytes: of_second.bytes.inside().to_vec(),
+        answer: of_second.answer.inside().to_vec(),
+    })
+}
+
+/// The first place where two buffers differ; below 0 and past the length it lies outside the lent part.
+fn first_difference<T: Copy + PartialEq + fmt::Display>(name: &str, library: &Lent<T>, second: &Lent<T>) -> String {
+    let cells = library.cells.iter().zip(&second.cells);
+    match cells.clone().position(|(library, second)| library != second) {
+        None => String::new(),
+        Some(cell) => {
+            let place = cell as i64 - library.start as i64;
+            let length = library.length;
+            let number = cells.filter(|(library, second)| library != second).count();
+            let (library, second) = (library.cells[cell], second.cells[cell]);
+            format!("\n{name}: place {place} of {length}: library {library}, second {second}; {number} places differ")
+        }
+    }
+}

@@ -1,0 +1,151 @@
+//! What was compared, counted by call and refusal number, and what must have occurred.
+
+use std::collections::BTreeMap;
+use std::fmt;
+
+use crate::check::CALL_NAMES;
+
+/// The row of a report whose output was too short.
+pub const SHORT_REPORT: u32 = u32::MAX;
+
+/// The refusals of reading a file.
+const OF_READING: [u32; 8] = [1, 2, 3, 6, 7, 8, 9, 10];
+
+/// Things that must occur beside the refusals.
+#[derive(Clone, Copy, PartialEq, Eq, PartialOrd, Ord, Debug)]
+pub enum Event {
+    RackOf1,
+    RackOf64,
+    NoLines,
+    Lines512,
+    SeveralCommonTips,
+    PrunedAtMarginZero,
+    SameAtMarginZero,
+    LineLacksCommonTip,
+    SameAboveMarginZero,
+    KAboveLines,
+    BestAboveQuick,
+    BestOtherPlanSamePairs,
+    PairsAbove16Bits,
+    EveryPlanTried,
+}
+
+const EVENTS: [(Event, &str); 14] = [
+    (Event::RackOf1, "boards with rack 1"),
+    (Event::RackOf64, "boards with rack 64"),
+    (Event::NoLines, "boards without lines"),
+    (Event::Lines512, "boards with 512 lines"),
+    (Event::SeveralCommonTips, "boards with several common tips"),
+    (Event::PrunedAtMarginZero, "keep at margin 0, some line loses tips"),
+    (Event::SameAtMarginZero, "keep at margin 0, no line changes"),
+    (Event::LineLacksCommonTip, "keep at margin 0, a line has only some common tips"),
+    (Event::SameAboveMarginZero, "keep above margin 0"),
+    (Event::KAboveLines, "keep with k above the number of lines"),
+    (Event::BestAboveQuick, "boards where best has more pairs than quick"),
+    (Event::BestOtherPlanSamePairs, "boards where best has another plan of equal pairs"),
+    (Event::PairsAbove16Bits, "boards where quick has more than 65,535 pairs"),
+    (Event::EveryPlanTried, "boards solved by trying every plan"),
+];
+
+/// The counts of a run.
+#[derive(Default)]
+pub struct Tally {
+    /// Cases: one call on one file with one set of buffers.
+    pub cases: u64,
+    /// Job files, good and damaged.
+    pub files: u64,
+    /// Good job files.
+    pub boards: u64,
+    calls: BTreeMap<(u32, usize), u64>,
+    events: BTreeMap<Event, u64>,
+}
+
+impl Tally {
+    pub fn count_call(&mut self, number: u32, column: usize) {
+        self.cases += 1;
+        *self.calls.entry((number, column)).or_default() += 1;
+    }
+
+    pub fn count_event(&mut self, event: Event) {
+        *self.events.entry(event).or_default() += 1;
+    }
+
+    fn calls(&self, number: u32, column: usize) -> u64 {
+        self.calls.get(&(number, column)).copied().unwrap_or(0)
+    }
+
+    fn events(&self, event: Event) -> u64 {
+        self.events.get(&event).copied().unwrap_or(0)
+    }
+
+    /// What must occur and did not.
+    pub fn missing(&self) -> Vec<String> {
+        let mut missing = Vec::new();
+        for (column, name) in CALL_NAMES.iter().enumerate() {
+            for number in needed(column) {
+                if self.calls(number, column) == 0 {
+                    missing.push(format!("{name} with {}", row_name(number)));
+                }
+            }
+        }
+        for (event, name) in EVENTS {
+            if self.events(event) == 0 {
+                missing.push(name.to_string());
+            }
+        }
+        missing
+    }
+}
+
+/// The numbers that a call must have given.
+fn needed(column: usize) -> Vec<u32> {
+    let mut numbers = vec![0];
+    numbers.extend(OF_READING);
+    let own: &[u32] = match CALL_NAMES[column] {
+        "keep" => &[11, 26, 100],
+        "quick" => &[4, 100],
+        "best" => &[4, 5, 25, 100],
+        "report" => &[SHORT_REPORT],
+        _ => &[100],
+    };
+    numbers.extend(own);
+    numbers
+}
+
+fn row_name(number: u32) -> String {
+    if number == SHORT_REPORT {
+        "short out".to_string()
+    } else {
+        number.to_string()
+    }
+}
+
+impl fmt::Display for Tally {
+    fn fmt(&self, to: &mut fmt::Formatter) -> fmt::Result {
+        write!(to, "{:>9}", "number")?;
+        for name in CALL_NAMES {
+            write!(to, "{name:>10}")?;
+        }
+        writeln!(to)?;
+        let mut rows: Vec<u32> = (0..CALL_NAMES.len()).flat_map(needed).collect();
+        rows.extend(self.calls.keys().map(|&(number, _)| number));
+        rows.sort_unstable();
+        rows.dedup();
+        for number in rows {
+            write!(to, "{:>9}", row_name(number))?;
+            for column in 0..CALL_NAMES.len() {
+                let calls = self.calls(number, column);
+                if calls == 0 && !needed(column).contains(&number) {
+                    write!(to, "{:>10}", "")?;
+                } else {
+                    write!(to, "{calls:>10}")?;
+                }
+            }
+            writeln!(to)?;
+        }
+        for (event, name) in EVENTS {
+            writeln!(to, "{:>9} {name}", self.events(event))?;
+        }
+        Ok(())
+    }
+}

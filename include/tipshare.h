@@ -1,0 +1,168 @@
+/*
+ * Choosing suction tips for the lines of a parts list.
+ *
+ * A job file holds the bytes "TIP", the version 1 (16 bits), the rack size m
+ * (8 bits, 1 to 64), the number of lines n (16 bits, 0 to 512) and n sets of
+ * tips (64 bits each, bit t for tip t), all big-endian: 8 + 8 * n bytes.
+ * Tips are numbered 0 to m - 1, lines 0 to n - 1. A plan puts each line on one
+ * tip of its set. A pair is two different lines on one tip.
+ *
+ * Every length counts elements, not bytes. No pointer may be null, not even
+ * with length 0, and no two buffers of one call may overlap. A call keeps
+ * nothing after it returns, so calls on different buffers may run at one time.
+ *
+ * All functions but tipshare_report return 0 when the call is accepted, else a
+ * number of the table below. They write the first 4 places of answer, also on
+ * a refusal, and none past them. Only with answer_len below 4 nothing at all
+ * is written and the number is 100.
+ *
+ * A refused call writes to no buffer but answer: answer[0] is the line that
+ * the refusal is about, or 0, and the other places are 0, except that 26
+ * carries its margin in answer[1].
+ *
+ * Where several refusals apply, the first in this order is given: 100, then
+ * 6, 7, 8, 1, 9, 10, then 2 or 3 of the first bad line, then those of the call
+ * in the order named with it.
+ *
+ *   No.  What is wrong                         What to do
+ *   ---  ------------------------------------  --------------------------------
+ *     1  the rack size is 0 or above 64        put 1 to 64 in byte 5
+ *     2  line answer[0] has no tip             give that line a tip
+ *     3  line answer[0] has a tip outside      take it out of that line, or
+ *        the rack                              name a larger rack in byte 5
+ *     4  plan is shorter than n bytes          lend n; 512 always do
+ *     5  table is shorter than m * m places    lend m * m; 4096 always do
+ *     6  the file is shorter than 8 bytes      hand over the whole file
+ *     7  the file does not begin with "TIP"    hand over a job file
+ *     8  the version is not 1                  write the file as version 1
+ *     9  the file names more than 512 lines    split the parts list
+ *    10  the length is not 8 + 8 * n bytes     hand over the whole file and no
+ *                                              more, or correct n
+ *    11  out is shorter than 8 + 8 * n bytes   lend file_len; 4104 always do
+ *    25  line answer[0], the first such, is    use tipshare_quick, which takes
+ *        no run: it lacks a tip between its    any lines
+ *        lowest and its highest
+ *    26  no plan has at most k lines off its   raise k by at least -margin, the
+ *        most used tip; answer[1] is the       margin being (int64_t)answer[1]
+ *        margin, below zero
+ *   100  answer has fewer than 4 places        lend 4
+ */
+#ifndef TIPSHARE_H
+#define TIPSHARE_H
+
+#include <stddef.h>
+#include <stdint.h>
+
+#ifdef __cplusplus
+extern "C" {
+#endif
+
+#define TIPSHARE_MOST_TIPS 64       /* the largest rack size */
+#define TIPSHARE_MOST_LINES 512     /* the most lines, and a plan that always does */
+#define TIPSHARE_MOST_PLACES 4096   /* a table that always does */
+#define TIPSHARE_LONGEST_FILE 4104  /* the longest good job file, in bytes */
+#define TIPSHARE_ANSWER_PLACES 4    /* the places of an answer */
+#define TIPSHARE_REPORT_SPACE 16384 /* the bytes that a report needs lent */
+
+#define TIPSHARE_ACCEPTED 0
+#define TIPSHARE_RACK_SIZE 1
+#define TIPSHARE_EMPTY_LINE 2
+#define TIPSHARE_TIP_OUTSIDE 3
+#define TIPSHARE_SHORT_PLAN 4
+#define TIPSHARE_SHORT_TABLE 5
+#define TIPSHARE_SHORT_FILE 6
+#define TIPSHARE_WRONG_MARK 7
+#define TIPSHARE_WRONG_VERSION 8
+#define TIPSHARE_FILE_LINES 9
+#define TIPSHARE_FILE_LENGTH 10
+#define TIPSHARE_SHORT_OUTPUT 11
+#define TIPSHARE_NO_RUN 25
+#define TIPSHARE_NO_PLAN 26
+#define TIPSHARE_SHORT_ANSWER 100
+
+/*
+ * Reads a job file.
+ * file: file_len bytes, any number. answer: at least 4 places.
+ * Accepted: answer is 0, the rack size m, the number of lines n, 0.
+ * Refused (1, 2, 3, 6 to 10): answer is the line, 0, 0, 0.
+ */
+uint32_t tipshare_read(const uint8_t *file, size_t file_len,
+                       uint64_t *answer, size_t answer_len);
+
+/*
+ * Finds the tips that most lines can use.
+ * file: file_len bytes, any number. answer: at least 4 places.
+ * Accepted: answer is 0, the most lines that one tip can take (0 without
+ * lines), the least number of lines off such a tip, and the set of all such
+ * tips (bit t for tip t; empty without lines).
+ * Refused (1, 2, 3, 6 to 10): answer is the line, 0, 0, 0.
+ */
+uint32_t tipshare_common(const uint8_t *file, size_t file_len,
+                         uint64_t *answer, size_t answer_len);
+
+/*
+ * Takes from each line the tips that it has in no plan with at most k lines off
+ * the tip used most, and writes the board that is left as a job file.
+ * file: file_len bytes, any number. k: 0 to 65535. out: at least 8 + 8 * n
+ * bytes. answer: at least 4 places.
+ * Accepted: the first 8 + 8 * n bytes of out are the job file, the rest of out
+ * is untouched; answer is 0, the margin (the most lines that one tip can take,
+ * minus n, plus k), the number of bytes written, 0. Above margin 0 the job file
+ * is the one handed in.
+ * Refused (1, 2, 3, 6 to 10, then 26, then 11): out is untouched; answer is the
+ * line, 0, 0, 0, but for 26 it is 0, the margin as a 64-bit two's complement
+ * number, 0, 0.
+ */
+uint32_t tipshare_keep(const uint8_t *file, size_t file_len, uint16_t k,
+                       uint8_t *out, size_t out_len,
+                       uint64_t *answer, size_t answer_len);
+
+/*
+ * Plans by rounds: each round takes the tip that most unplanned lines allow,
+ * the lowest number on a tie, and plans all of those lines on it. The plan has
+ * at least half as many pairs as any other.
+ * file: file_len bytes, any number. plan: at least n bytes. answer: at least 4
+ * places.
+ * Accepted: plan[i] is the tip of line i, for i below n, the rest of plan is
+ * untouched; answer is 0, the number of pairs in the plan, 0, 0.
+ * Refused (1, 2, 3, 6 to 10, then 4): plan is untouched; answer is the line, 0,
+ * 0, 0.
+ */
+uint32_t tipshare_quick(const uint8_t *file, size_t file_len,
+                        uint8_t *plan, size_t plan_len,
+                        uint64_t *answer, size_t answer_len);
+
+/*
+ * Plans with the most pairs, where every line is a run: it has every tip
+ * between its lowest and its highest.
+ * file: file_len bytes, any number. plan: at least n bytes. table: at least
+ * m * m places. answer: at least 4 places.
+ * Accepted: plan[i] is the tip of line i, for i below n; table[a * m + b] is
+ * the most pairs among the lines that lie within the tips a to b, for a up to
+ * b, and 0 for a above b; the rest of plan and table is untouched; answer is 0,
+ * the number of pairs in the plan, 0, 0.
+ * Refused (1, 2, 3, 6 to 10, then 4, 5, 25): plan and table are untouched;
+ * answer is the line, 0, 0, 0.
+ */
+uint32_t tipshare_best(const uint8_t *file, size_t file_len,
+                       uint8_t *plan, size_t plan_len,
+                       uint32_t *table, size_t table_len,
+                       uint64_t *answer, size_t answer_len);
+
+/*
+ * Writes the text that the program tipshare prints for the file.
+ * file: file_len bytes, any number; past 4105 only the first 4105 count, as
+ * the program takes no more. out: at least 16384 bytes.
+ * Writes the text to the beginning of out, with no zero byte after it, and
+ * returns its length, never 0; the rest of out is untouched. A refused file
+ * gives the line "refused" with its number.
+ * With out_len below 16384 it writes nothing and returns 0.
+ */
+size_t tipshare_report(const uint8_t *file, size_t file_len,
+                       uint8_t *out, size_t out_len);
+
+#ifdef __cplusplus
+}
+#endif
+
+#endif

@@ -1,0 +1,306 @@
+//! Parts lists as text: `rack M` first, then one line a part, as `C1 height=0.9 : 0 2 4-6`, and `#` comments.
+
+use std::cmp::Ordering;
+use std::collections::HashMap;
+use std::fmt;
+
+use crate::job::Job;
+use crate::{MOST_LINES, MOST_TIPS};
+
+/// A parts list that keeps every rule.
+#[derive(Clone, PartialEq, Debug)]
+pub struct List {
+    pub rack: usize,
+    pub parts: Vec<Part>,
+    /// Everything above the first part, as it stands in the list.
+    head: String,
+    /// Everything below the last part.
+    tail: String,
+}
+
+/// One part of the list.
+#[derive(Clone, PartialEq, Debug)]
+pub struct Part {
+    pub name: Option<String>,
+    /// Numbers to sort by, as `height=0.9`.
+    pub columns: Vec<(String, f64)>,
+    /// The tips that can pick it, bit t for tip t.
+    pub tips: u64,
+    /// Its line in the text, counted from 1.
+    pub line: usize,
+    /// Its line as it stands in the list, below the comments between it and the part above.
+    text: String,
+}
+
+/// What is wrong, and on which line of the text, counted from 1.
+#[derive(Clone, PartialEq, Eq, Debug)]
+pub struct Fault {
+    pub line: usize,
+    pub what: What,
+}
+
+/// What can be wrong with a line.
+#[derive(Clone, PartialEq, Eq, Debug)]
+pub enum What {
+    NotText,
+    ControlCharacter,
+    NoRack,
+    RackWords(String),
+    RackSize(String),
+    RackAgain,
+    NoColon,
+    ColonAgain,
+    UnknownWord(String),
+    ColumnName(String),
+    ColumnValue(String),
+    ColumnAgain(String),
+    NameAgain { name: String, line: usize },
+    UnknownTip(String),
+    RangeBackwards { first: String, last: String },
+    TipOutside { tip: String, rack: usize },
+    TipAgain(usize),
+    NoTip,
+    TooManyParts,
+    NoColumn(String),
+}
+
+impl fmt::Display for What {
+    fn fmt(&self, to: &mut fmt::Formatter) -> fmt::Result {
+        match self {
+            What::NotText => write!(to, "not UTF-8 text; save the list as plain text"),
+            What::ControlCharacter => write!(to, "a control character; save the list as plain text"),
+            What::NoRack => write!(to, "no rack; begin the list with `rack M`, M being the number of tips, 1 to 64"),
+            What::RackWords(line) => {
+                write!(to, "unknown words in `{line}`; write `rack M`, M being the number of tips")
+            }
+            What::RackSize(size) => write!(to, "rack {size} is out of range; a rack has 1 to 64 tips"),
+            What::RackAgain => write!(to, "a second rack; name it once, at the beginning of the list"),
+            What::NoColon => write!(to, "no colon; write `NAME : TIPS`, or `: TIPS` without a name"),
+            What::ColonAgain => write!(to, "a second colon; write one part a line"),
+            What::UnknownWord(word) => {
+                write!(to, "unknown word `{word}`; after the name write only columns, as height=0.9")
+            }
+            What::ColumnName(word) => write!(to, "no column name in `{word}`; write it as height=0.9"),
+            What::ColumnValue(word) => write!(to, "no number in `{word}`; write it as height=0.9"),
+            What::ColumnAgain(column) => write!(to, "a second {column}; give each column once"),
+            What::NameAgain { name, line } => {
+                write!(to, "the name {name} stands on line {line} already; give each part its own name")
+            }
+            What::UnknownTip(word) => {
+                write!(to, "unknown word `{word}`; write tips as numbers and ranges with spaces between, as 0 2 4-6")
+            }
+            What::RangeBackwards { first, last } => {
+                write!(to, "the range {first}-{last} runs backwards; write {last}-{first}")
+            }
+            What::TipOutside { tip, rack } => write!(
+                to,
+                "tip {tip} is outside the rack, whose tips are 0 to {}; take it out, or name a larger rack",
+                rack - 1
+            ),
+            What::TipAgain(tip) => write!(to, "tip {tip} stands twice; name each tip once"),
+            What::NoTip => write!(to, "no tip after the colon; name one at least"),
+            What::TooManyParts => write!(to, "part {}; a list has {MOST_LINES} at most, split it", MOST_LINES + 1),
+            What::NoColumn(column) => write!(to, "no {column}; give every part a {column} to sort by it"),
+        }
+    }
+}
+
+impl List {
+    /// Reads a list, or gives what is wrong, at most one fault a line.
+    pub fn read(bytes: &[u8]) -> Result<List, Vec<Fault>> {
+        let mut reading = Reading::new();
+        let mut faults = Vec::new();
+        let lines = lines_of(bytes);
+        for (line, &bytes) in (1..).zip(&lines) {
+            if let Err(what) = reading.take(line, bytes) {
+                faults.push(Fault { line, what });
+            }
+        }
+        if !reading.has_rack {
+            faults.push(Fault { line: lines.len().max(1), what: What::NoRack });
+        }
+        if !faults.is_empty() {
+            return Err(faults);
+        }
+        Ok(List { tail: reading.above, ..reading.list })
+    }
+
+    /// The job of this list, a line a part.
+    pub fn job(&self) -> Job {
+        Job { rack: self.rack, sets: self.parts.iter().map(|part| part.tips).collect() }
+    }
+
+    /// The text of the list, sorted by a column; parts with equal numbers stay in their order.
+    pub fn sorted_by(&self, column: &str) -> Result<String, Vec<Fault>> {
+        let mut numbered = Vec::new();
+        let mut faults = Vec::new();
+        for part in &self.parts {
+            match part.columns.iter().find(|(name, _)| name == column) {
+                Some((_, number)) => numbered.push((number, part)),
+                None => faults.push(Fault { line: part.line, what: What::NoColumn(column.into()) }),
+            }
+        }
+        if !faults.is_empty() {
+            return Err(faults);
+        }
+        numbered.sort_by(|(one, _), (other, _)| one.partial_cmp(other).unwrap_or(Ordering::Equal));
+        let parts: String = numbered.iter().map(|(_, part)| part.text.as_str()).collect();
+        Ok(format!("{}{parts}{}", self.head, self.tail))
+    }
+}
+
+/// A list of which the lines up to some line are read.
+struct Reading {
+    list: List,
+    has_rack: bool,
+    /// The parts so far, those with a fault too.
+    count: usize,
+    /// The line of each name.
+    names: HashMap<String, usize>,
+    /// The text below the last part.
+    above: String,
+}
+
+impl Reading {
+    fn new() -> Reading {
+        // Until the rack is known, every tip that a rack can have is inside.
+        let list = List { rack: MOST_TIPS, parts: Vec::new(), head: String::new(), tail: String::new() };
+        Reading { list, has_rack: false, count: 0, names: HashMap::new(), above: String::new() }
+    }
+
+    fn take(&mut self, line: usize, bytes: &[u8]) -> Result<(), What> {
+        let text = text_of(bytes)?;
+        let content = text.split('#').next().unwrap_or_default().trim();
+        if content.is_empty() {
+            self.above += &format!("{text}\n");
+            return Ok(());
+        }
+        if !self.has_rack {
+            self.has_rack = true;
+            self.above += &format!("{text}\n");
+            self.list.rack = rack_of(content)?;
+            return Ok(());
+        }
+        self.count += 1;
+        if self.count == MOST_LINES + 1 {
+            return Err(What::TooManyParts);
+        }
+        let part = part_of(content, self.list.rack)?;
+        if let Some(name) = &part.name {
+            if let Some(&line) = self.names.get(name) {
+                return Err(What::NameAgain { name: name.clone(), line });
+            }
+            self.names.insert(name.clone(), line);
+        }
+        if self.list.parts.is_empty() {
+            // What stands above the first part stays on top when the list is sorted.
+            self.list.head = std::mem::take(&mut self.above);
+        }
+        let above = std::mem::take(&mut self.above);
+        self.list.parts.push(Part { line, text: format!("{above}{text}\n"), ..part });
+        Ok(())
+    }
+}
+
+/// The lines of a text, without what ends them.
+fn lines_of(bytes: &[u8]) -> Vec<&[u8]> {
+    let bytes = bytes.strip_prefix("\u{FEFF}".as_bytes()).unwrap_or(bytes);
+    let bytes = bytes.strip_suffix(b"\n").unwrap_or(bytes);
+    if bytes.is_empty() {
+        return Vec::new();
+    }
+    bytes.split(|&byte| byte == b'\n').map(|line| line.strip_suffix(b"\r").unwrap_or(line)).collect()
+}
+
+fn text_of(line: &[u8]) -> Result<&str, What> {
+    let text = std::str::from_utf8(line).map_err(|_| What::NotText)?;
+    if text.chars().any(|c| c.is_control() && c != '\t') {
+        return Err(What::ControlCharacter);
+    }
+    Ok(text)
+}
+
+/// A number in digits alone, the largest there is where it does not fit.
+fn number_of(word: &str) -> Option<usize> {
+    let is_digits = !word.is_empty() && word.bytes().all(|byte| byte.is_ascii_digit());
+    is_digits.then(|| word.parse().unwrap_or(usize::MAX))
+}
+
+/// A number as `0.9`, `12` or `-3.25`.
+fn decimal_of(word: &str) -> Option<f64> {
+    let unsigned = word.strip_prefix('-').unwrap_or(word);
+    let (whole, part) = unsigned.split_once('.').unwrap_or((unsigned, "0"));
+    number_of(whole).and(number_of(part)).and(word.parse().ok())
+}
+
+fn rack_of(content: &str) -> Result<usize, What> {
+    let words: Vec<&str> = content.split_whitespace().collect();
+    if words[0] != "rack" {
+        return Err(What::NoRack);
+    }
+    let [_, size] = words[..] else {
+        return Err(What::RackWords(content.into()));
+    };
+    match number_of(size) {
+        None => Err(What::RackWords(content.into())),
+        Some(rack) if rack == 0 || rack > MOST_TIPS => Err(What::RackSize(size.into())),
+        Some(rack) => Ok(rack),
+    }
+}
+
+/// The part of a line, which has no place in the list yet.
+fn part_of(content: &str, rack: usize) -> Result<Part, What> {
+    let Some((before, after)) = content.split_once(':') else {
+        let is_rack = content.split_whitespace().next() == Some("rack");
+        return Err(if is_rack { What::RackAgain } else { What::NoColon });
+    };
+    if after.contains(':') {
+        return Err(What::ColonAgain);
+    }
+    let mut name = None;
+    let mut columns: Vec<(String, f64)> = Vec::new();
+    for (place, word) in before.split_whitespace().enumerate() {
+        let Some((column, value)) = word.split_once('=') else {
+            if place > 0 {
+                return Err(What::UnknownWord(word.into()));
+            }
+            name = Some(word.to_string());
+            continue;
+        };
+        if column.is_empty() {
+            return Err(What::ColumnName(word.into()));
+        }
+        if columns.iter().any(|(earlier, _)| earlier == column) {
+            return Err(What::ColumnAgain(column.into()));
+        }
+        let number = decimal_of(value).ok_or_else(|| What::ColumnValue(word.into()))?;
+        columns.push((column.into(), number));
+    }
+    Ok(Part { name, columns, tips: tips_of(after, rack)?, line: 0, text: String::new() })
+}
+
+fn tips_of(text: &str, rack: usize) -> Result<u64, What> {
+    let mut set = 0;
+    for word in text.split_whitespace() {
+        let (first, last) = word.split_once('-').unwrap_or((word, word));
+        let (Some(low), Some(high)) = (number_of(first), number_of(last)) else {
+            return Err(What::UnknownTip(word.into()));
+        };
+        if low > high {
+            return Err(What::RangeBackwards { first: first.into(), last: last.into() });
+        }
+        if high >= rack {
+            return Err(What::TipOutside { tip: last.into(), rack });
+        }
+        for tip in low..=high {
+            if set >> tip & 1 == 1 {
+                return Err(What::TipAgain(tip));
+            }
+            set |= 1 << tip;
+        }
+    }
+    if set == 0 {
+        return Err(What::NoTip);
+    }
+    Ok(set)
+}

@@ -1,0 +1,140 @@
+//! Job files: made from lists and back, and refused by the numbers of the second implementation.
+
+use parts::job::Job;
+use parts::list::List;
+
+/// The example of the rules: rack 3, lines {0} and {1,2}.
+const EXAMPLE: [u8; 24] = *b"TIP\x00\x01\x03\x00\x02\x00\x00\x00\x00\x00\x00\x00\x01\x00\x00\x00\x00\x00\x00\x00\x06";
+
+fn make(text: &str) -> Vec<u8> {
+    List::read(text.as_bytes()).unwrap_or_else(|faults| panic!("{text:?}: {faults:?}")).job().write()
+}
+
+fn show(file: &[u8]) -> String {
+    Job::read(file).expect("a good file").in_words()
+}
+
+/// Seeded numbers, by a linear congruence.
+struct Random(u64);
+
+impl Random {
+    fn below(&mut self, bound: u64) -> u64 {
+        self.0 = self.0.wrapping_mul(6_364_136_223_846_793_005).wrapping_add(1_442_695_040_888_963_407);
+        (self.0 >> 33) % bound
+    }
+}
+
+#[test]
+fn example_is_made_and_shown() {
+    assert_eq!(make("rack 3\nC1 : 0\nC2 : 1-2\n"), EXAMPLE);
+    assert_eq!(show(&EXAMPLE), "rack 3\n0 : 0\n1 : 1-2\n");
+}
+
+#[test]
+fn ends_of_the_format_are_made_and_shown() {
+    assert_eq!(make("rack 1\n"), b"TIP\x00\x01\x01\x00\x00");
+    assert_eq!(show(b"TIP\x00\x01\x40\x00\x00"), "rack 64\n");
+    let longest = make(&("rack 64\n".to_string() + &": 0 63\n".repeat(512)));
+    assert_eq!((longest.len(), &longest[..8]), (4104, &b"TIP\x00\x01\x40\x02\x00"[..]));
+    assert_eq!(&longest[4096..], b"\x80\x00\x00\x00\x00\x00\x00\x01");
+    assert_eq!(show(&longest).lines().last(), Some("511 : 0 63"));
+}
+
+#[test]
+fn text_to_job_to_text_to_job_is_stable() {
+    let mut random = Random(1);
+    for round in 0..500 {
+        let rack = 1 + round % 64;
+        let mut text = format!("# seeded\nrack {rack}\n");
+        for part in 0..random.below(if round % 50 == 0 { 513 } else { 12 }) {
+            let tips: Vec<u64> = (0..rack).filter(|_| random.below(3) > 0).collect();
+            let mut words: Vec<String> = tips.iter().map(u64::to_string).collect();
+            if words.is_empty() {
+                words.push((rack - 1).to_string());
+            }
+            if random.below(2) == 0 {
+                words.reverse();
+            }
+            if random.below(2) == 0 {
+                text += &format!("P{part} height=0.{part} ");
+            }
+            text += &format!(": {} # {part}\n", words.join("  "));
+        }
+        let file = make(&text);
+        let shown = show(&file);
+        assert_eq!(make(&shown), file, "{text}");
+        assert_eq!(show(&make(&shown)), shown);
+        assert_eq!(Job::read(&file).unwrap().write(), file);
+    }
+}
+
+#[test]
+fn damaged_files_are_refused_as_by_the_second_implementation() {
+    let mut random = Random(2);
+    let longest = make(&("rack 64\n".to_string() + &": 0 63\n".repeat(512)));
+    let mut numbers = std::collections::BTreeMap::new();
+    let mut check = |file: &[u8]| {
+        let expected = second::read(file);
+        let (number, line) = match Job::read(file) {
+            Ok(job) => {
+                assert_eq!((job.rack, &job.sets[..]), (expected.board.rack, &expected.board.sets[..job.sets.len()]));
+                (0, 0)
+            }
+            Err(refusal) => (refusal.number, refusal.line),
+        };
+        assert_eq!((number, line), (expected.number, expected.place), "{file:?}");
+        *numbers.entry(number).or_insert(0) += 1;
+    };
+    check(&longest);
+    check(&[&longest[..], &[0]].concat());
+    check(&[b"TIP\x00\x01\x40\x02\x01", &longest[8..], &[1; 8]].concat());
+    for length in 0..=EXAMPLE.len() {
+        check(&EXAMPLE[..length]);
+    }
+    for place in 0..EXAMPLE.len() {
+        for byte in 0..=255 {
+            let mut file = EXAMPLE;
+            file[place] = byte;
+            check(&file);
+        }
+    }
+    for _ in 0..20_000 {
+        let mut file = EXAMPLE.to_vec();
+        for _ in 0..1 + random.below(3) {
+            let place = random.below(file.len() as u64) as usize;
+            file[place] = random.below(256) as u8;
+        }
+        file.truncate(24 - if random.below(4) == 0 { random.below(24) as usize } else { 0 });
+        check(&file);
+    }
+    assert_eq!(numbers.into_keys().collect::<Vec<u32>>(), [0, 1, 2, 3, 6, 7, 8, 9, 10]);
+}
+
+#[test]
+fn every_refusal_says_what_to_do() {
+    let with = |place: usize, byte: u8| {
+        let mut file = EXAMPLE.to_vec();
+        file[place] = byte;
+        file
+    };
+    let cases = [
+        (with(5, 0), "refused 1: the rack size is 0; put 1 to 64 in byte 5"),
+        (with(5, 65), "refused 1: the rack size is 65; put 1 to 64 in byte 5"),
+        (with(23, 0), "refused 2: line 1 has no tip; give that line a tip"),
+        (with(15, 8), "refused 3: line 0 has a tip outside the rack of 3; take it out, or name a larger rack"),
+        (EXAMPLE[..7].to_vec(), "refused 6: the file has 7 bytes and needs 8 at least; hand over the whole file"),
+        (
+            with(2, b'Q'),
+            "refused 7: the file does not begin with TIP; hand over a job file, such as `parts make` writes",
+        ),
+        (with(4, 2), "refused 8: the version is 2; write the file as version 1"),
+        (with(6, 2), "refused 9: the file names 514 lines and 512 is the most; split the parts list"),
+        (
+            EXAMPLE[..20].to_vec(),
+            "refused 10: the file names 2 lines, which take 24 bytes, and has 20; hand over the whole file and no more",
+        ),
+    ];
+    for (file, words) in cases {
+        assert_eq!(Job::read(&file).unwrap_err().in_words(&file), words);
+    }
+}

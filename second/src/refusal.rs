@@ -1,0 +1,43 @@
+//! The numbers of refused calls.
+
+/// The call was accepted.
+pub const NONE: u32 = 0;
+
+/// The rack size is 0 or above 64.
+pub const RACK_SIZE: u32 = 1;
+/// A line's set is empty.
+pub const EMPTY_LINE: u32 = 2;
+/// A line's set has a tip outside the rack.
+pub const TIP_OUTSIDE: u32 = 3;
+/// The plan buffer is shorter than the number of lines.
+pub const SHORT_PLAN: u32 = 4;
+/// The table is shorter than the square of the rack size.
+pub const SHORT_TABLE: u32 = 5;
+/// The file is shorter than its head of 8 bytes.
+pub const SHORT_FILE: u32 = 6;
+/// The file's mark is not TIP.
+pub const WRONG_MARK: u32 = 7;
+/// The file's version is not 1.
+pub const WRONG_VERSION: u32 = 8;
+/// The file's number of lines is above 512.
+pub const FILE_LINES: u32 = 9;
+/// The file's length is not the one for its number of lines.
+pub const FILE_LENGTH: u32 = 10;
+/// The output for a file is too short.
+pub const SHORT_OUTPUT: u32 = 11;
+
+/// The board is not sound.
+pub const NOT_SOUND: u32 = 21;
+/// Add or close on a closed board.
+pub const CLOSED: u32 = 22;
+/// Common tip, keep, a plan or write on an open board.
+pub const OPEN: u32 = 23;
+/// Add on a board of 512 lines.
+pub const FULL: u32 = 24;
+/// Best sharing, and some line is no run.
+pub const NO_RUN: u32 = 25;
+/// Keep, and the margin is below zero.
+pub const NO_PLAN: u32 = 26;
+
+/// The answer of a call of the C interface has fewer than 4 places.
+pub const SHORT_ANSWER: u32 = 100;

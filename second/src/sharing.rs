@@ -1,0 +1,154 @@
+//! Quick sharing by rounds, and best sharing of runs.
+
+use crate::board::{has, Answer, Board, Stage, MOST_TIPS};
+use crate::refusal;
+
+/// The number of pairs in a plan: two different lines on one tip, counted once.
+pub fn pairs_in(plan: &[u8]) -> u32 {
+    let mut pairs = 0;
+    for (line, tip) in plan.iter().enumerate() {
+        for other in &plan[..line] {
+            pairs += u32::from(other == tip);
+        }
+    }
+    pairs
+}
+
+/// Whether the distance from the lowest tip to the highest, plus one, is the number of tips.
+fn is_run(set: u64) -> bool {
+    let mut lowest = MOST_TIPS;
+    let mut highest = 0;
+    let mut number = 0;
+    for tip in 0..MOST_TIPS {
+        if has(set, tip) {
+            lowest = lowest.min(tip);
+            highest = tip;
+            number += 1;
+        }
+    }
+    highest + 1 == lowest + number
+}
+
+/// The set of the tips from first to last.
+fn tips_from_to(first: usize, last: usize) -> u64 {
+    let mut set = 0;
+    for tip in first..=last {
+        set |= 1 << tip;
+    }
+    set
+}
+
+/// The number of lines lying within the stretch that allow the tip.
+fn lines_taken(board: &Board, stretch: u64, tip: usize) -> u32 {
+    let mut taken = 0;
+    for &set in board.lines() {
+        taken += u32::from(set & !stretch == 0 && has(set, tip));
+    }
+    taken
+}
+
+/// The pairs of a stretch when its tip c is chosen: those on c and the most of the two stretches beside it.
+fn pairs_choosing(board: &Board, table: &[u32], a: usize, b: usize, stretch: u64, c: usize) -> u32 {
+    let taken = lines_taken(board, stretch, c);
+    let on_tip = if taken == 0 { 0 } else { taken * (taken - 1) / 2 };
+    let below = if c > a { table[a * board.rack + c - 1] } else { 0 };
+    let above = if c < b { table[(c + 1) * board.rack + b] } else { 0 };
+    on_tip + below + above
+}
+
+/// Lays the lines lying within the stretch a to b: first those on its tip, then the two stretches beside it.
+fn lay_stretch(board: &Board, table: &[u32], plan: &mut [u8], a: usize, b: usize) {
+    let stretch = tips_from_to(a, b);
+    let mut c = a;
+    while pairs_choosing(board, table, a, b, stretch, c) != table[a * board.rack + b] {
+        c += 1;
+    }
+    for line in 0..board.count {
+        if board.sets[line] & !stretch == 0 && has(board.sets[line], c) {
+            plan[line] = c as u8;
+        }
+    }
+    if c > a {
+        lay_stretch(board, table, plan, a, c - 1);
+    }
+    if c < b {
+        lay_stretch(board, table, plan, c + 1, b);
+    }
+}
+
+impl Board {
+    /// Quick sharing: each round plans all lines of the tip that most unplanned lines allow.
+    pub fn quick(self, plan: &mut [u8]) -> Answer<u32> {
+        let number = self.refusal_in(Stage::Closed);
+        if number != refusal::NONE {
+            return Answer::refused(self, number);
+        }
+        if plan.len() < self.count {
+            return Answer::refused(self, refusal::SHORT_PLAN);
+        }
+        let mut planned = vec![false; self.count];
+        while planned.contains(&false) {
+            let mut chosen = 0;
+            let mut most = 0;
+            for tip in 0..self.rack {
+                let mut allowing = 0;
+                for line in 0..self.count {
+                    if !planned[line] && has(self.sets[line], tip) {
+                        allowing += 1;
+                    }
+                }
+                // Only a larger number replaces the tip, so a tie goes to the lowest.
+                if allowing > most {
+                    most = allowing;
+                    chosen = tip;
+                }
+            }
+            for line in 0..self.count {
+                if !planned[line] && has(self.sets[line], chosen) {
+                    planned[line] = true;
+                    plan[line] = chosen as u8;
+                }
+            }
+        }
+        let pairs = pairs_in(&plan[..self.count]);
+        Answer::accepted(self, pairs)
+    }
+
+    /// Best sharing of lines that are runs; the table ends with the most pairs of each stretch.
+    pub fn best(self, plan: &mut [u8], table: &mut [u32]) -> Answer<u32> {
+        let number = self.refusal_in(Stage::Closed);
+        if number != refusal::NONE {
+            return Answer::refused(self, number);
+        }
+        let m = self.rack;
+        if plan.len() < self.count {
+            return Answer::refused(self, refusal::SHORT_PLAN);
+        }
+        if table.len() < m * m {
+            return Answer::refused(self, refusal::SHORT_TABLE);
+        }
+        for line in 0..self.count {
+            if !is_run(self.sets[line]) {
+                return Answer::refused_at(self, refusal::NO_RUN, line);
+            }
+        }
+        for place in 0..m * m {
+            table[place] = 0;
+        }
+        // Shorter stretches first: a stretch rests on those beside its tip.
+        for width in 1..=m {
+            for a in 0..=m - width {
+                let b = a + width - 1;
+                let stretch = tips_from_to(a, b);
+                let mut most = 0;
+                for c in a..=b {
+                    most = most.max(pairs_choosing(&self, table, a, b, stretch, c));
+                }
+                table[a * m + b] = most;
+            }
+        }
+        lay_stretch(&self, table, plan, 0, m - 1);
+        let pairs = table[m - 1];
+        Answer::accepted(self, pairs)
+    }
+}
