@@ -1,11 +1,11 @@
-// The occurrences of all tips in one array of 64 counts, and what is read from it.
+// The occurrences of all tips in one array of 64 counts, what is read from it, and the pairs among counted lines.
 ghost use mathlib.Core.Path.{_≡_};
 ghost use mathlib.Core.Bool.{cond, _&&_};
 ghost use Prim.Native.Nat.{_+_, _-_, _^_, _≤_, _<_, max};
 ghost use lib.Dec.{ltb, eqb};
 ghost use lib.ListN.{length, getD};
 ghost use Rattle.model.specs.Count.{listOf, largest, lowestAt};
-ghost use Rattle.model.specs.Plan.{has, occ};
+ghost use Rattle.model.specs.Plan.{has, occ, choose2};
 ghost use Rattle.model.specs.CommonTip.{setOf};
 ghost use Rattle.counts.specs.Counts.{Addable, Removable};
 
@@ -122,4 +122,15 @@ pub fn tips_at(counts: &[u32], rack: usize, n: u32) -> u64
         t += 1;
     }
     set
+}
+
+// The pairs among p lines.
+pub fn pairs_among(p: u32) -> u32
+    requires { ⌜ p ≤ 512 ⌝ }
+    ensures { λ r. ⌜ r ≡ choose2 p ⌝ }
+{
+    if p == 0 {
+        return 0;
+    }
+    p * (p - 1) / 2
 }

@@ -3,19 +3,8 @@ ghost use mathlib.Core.Path.{_≡_};
 ghost use Prim.Native.Nat.{_≤_, _<_};
 ghost use lib.ListN.{length};
 ghost use Rattle.model.specs.Count.{listOf};
-ghost use Rattle.model.specs.Plan.{occ, choose2};
+ghost use Rattle.model.specs.Plan.{occ};
 ghost use Rattle.greedy.specs.Rounds.{Shareable, Shared, Counted, LineTaken, Taken};
-
-// The pairs among p lines.
-fn pairs_among(p: u32) -> u32
-    requires { ⌜ p ≤ 512 ⌝ }
-    ensures { λ r. ⌜ r ≡ choose2 p ⌝ }
-{
-    if p == 0 {
-        return 0;
-    }
-    p * (p - 1) / 2
-}
 
 // A line that has the tip is planned on it: its tips come off the counts, and its set becomes empty.
 fn take_line(tip: usize, i: usize, left: &mut [u64], plan: &mut [u8], counts: &mut [u32])
@@ -54,7 +43,7 @@ fn take_rounds(rack: usize, left: &mut [u64], plan: &mut [u8], counts: &mut [u32
         if lines == 0 {
             return shared;
         }
-        shared += pairs_among(lines);
+        shared += counts::pairs_among(lines);
         take_lines(tip, left, plan, counts);
     }
 }

@@ -4,21 +4,10 @@ ghost use Prim.Native.Nat.{_+_, _*_, _≤_, _<_};
 ghost use mathlib.Core.List.{map};
 ghost use lib.ListN.{length, replicate};
 ghost use Rattle.model.specs.Count.{All};
-ghost use Rattle.model.specs.Plan.{Domain, choose2};
+ghost use Rattle.model.specs.Plan.{Domain};
 ghost use Rattle.model.specs.Interval.{bestPlan};
 ghost use Rattle.layout.specs.Picks.{cell, splitBy, pickBy, Ready, Filled};
 ghost use Rattle.layout.specs.Owners.{ownerOf, owned, laid};
-
-// The pairs among p lines.
-fn pairs_among(p: u32) -> u32
-    requires { ⌜ p ≤ 512 ⌝ }
-    ensures { λ r. ⌜ r ≡ choose2 p ⌝ }
-{
-    if p == 0 {
-        return 0;
-    }
-    p * (p - 1) / 2
-}
 
 // The most pairs of the interval of first tip a and width w, from the table; 0 for one of no width.
 fn cell_at(m: usize, table: &[u32], a: usize, w: usize) -> u32
@@ -36,7 +25,7 @@ fn split_at(m: usize, sums: &[u32], table: &[u32], a: usize, w: usize, i: usize)
     requires { ⌜ Filled m (now sums) (now table) × (a + w ≤ m) × (i < w) ⌝ }
     ensures { λ r. ⌜ r ≡ splitBy m (now (sums .entry)) (now (table .entry)) a w i ⌝ }
 {
-    let here = pairs_among(spans::inside_at(sums, a, w, a + i));
+    let here = counts::pairs_among(spans::inside_at(sums, a, w, a + i));
     let before = cell_at(m, table, a, i);
     let after = cell_at(m, table, a + i + 1, w - (i + 1));
     here + (before + after)
