@@ -1,0 +1,360 @@
+/*
+ * Tip sharing by hand in plain C++, with the steps meant for the proved library: counts are made tip by tip and taken
+ * down as lines are planned; best sharing counts lines by lowest and highest tip, sums the counts in two directions
+ * and has m^3/6 steps. The contiguous inner loops are written so that the compiler puts them into vector instructions.
+ */
+#include "baseline.h"
+
+#include "job.h"
+
+namespace {
+
+using namespace job;
+
+/*
+ * The number of lines that allow each tip, held so that the largest of these numbers names the busiest tip and, on a
+ * tie, the lowest: 64 for each line, plus 63 less the tip. 512 lines would pass 16 bits, so they start from the least.
+ */
+struct Occurrences {
+    static constexpr int kLeast = -32768;
+    alignas(16) int16_t of[kMostTips];
+
+    void clear()
+    {
+        for (size_t tip = 0; tip < kMostTips; tip++) {
+            of[tip] = static_cast<int16_t>(kLeast + 63 - static_cast<int>(tip));
+        }
+    }
+
+    void put(size_t tip) { of[tip] = static_cast<int16_t>(of[tip] + 64); }
+
+    void take(size_t tip) { of[tip] = static_cast<int16_t>(of[tip] - 64); }
+
+    /* The busiest tip and its lines as one number: lines * 64 + 63 - tip. */
+    unsigned busiest() const
+    {
+        int16_t largest = of[0];
+        for (size_t tip = 0; tip < kMostTips; tip++) {
+            largest = of[tip] > largest ? of[tip] : largest;
+        }
+        return static_cast<unsigned>(largest - kLeast);
+    }
+
+    /* The tips with as many lines as this, which is above 0. */
+    uint64_t tips_with(unsigned lines) const
+    {
+        uint64_t tips = 0;
+        for (size_t tip = 0; tip < kMostTips; tip++) {
+            tips |= uint64_t{static_cast<unsigned>(of[tip] - kLeast) >> 6 == lines} << tip;
+        }
+        return tips;
+    }
+};
+
+struct Common {
+    uint32_t top;
+    uint64_t tips;
+};
+
+Common common_tip(const Occurrences &occurrences)
+{
+    const unsigned top = occurrences.busiest() >> 6;
+    return {top, top == 0 ? 0 : occurrences.tips_with(top)};
+}
+
+void count_all(const uint64_t *sets, size_t count, Occurrences &occurrences)
+{
+    occurrences.clear();
+    for (size_t line = 0; line < count; line++) {
+        for (uint64_t rest = sets[line]; rest != 0; rest &= rest - 1) {
+            occurrences.put(lowest(rest));
+        }
+    }
+}
+
+/* The lines of each tip as a set of lines, 64 lines a word. */
+struct LinesOf {
+    static constexpr size_t kWords = kMostLines / 64;
+    uint64_t word[kMostTips][kWords];
+};
+
+void count_and_list(const uint64_t *sets, const Job &job, Occurrences &occurrences, LinesOf &lines_of)
+{
+    occurrences.clear();
+    memset(lines_of.word, 0, job.rack * sizeof lines_of.word[0]);
+    for (size_t line = 0; line < job.count; line++) {
+        const uint64_t bit = uint64_t{1} << line % 64;
+        for (uint64_t rest = sets[line]; rest != 0; rest &= rest - 1) {
+            occurrences.put(lowest(rest));
+            lines_of.word[lowest(rest)][line / 64] |= bit;
+        }
+    }
+}
+
+/* Quick sharing; gives the number of pairs. The occurrences are those of all lines and are used up. */
+uint32_t quick(const uint64_t *sets, const Job &job, Occurrences &occurrences, const LinesOf &lines_of,
+               uint8_t *__restrict plan)
+{
+    const size_t words = (job.count + 63) / 64;
+    uint64_t unplanned[LinesOf::kWords];
+    memset(unplanned, 0xFF, sizeof unplanned);
+    uint32_t pairs = 0;
+    for (size_t left = job.count; left != 0;) {
+        const unsigned busiest = occurrences.busiest();
+        const unsigned tip = 63 - busiest % 64;
+        pairs += pairs_on(busiest / 64);
+        left -= busiest / 64;
+        for (size_t word = 0; word < words; word++) {
+            uint64_t lines = lines_of.word[tip][word] & unplanned[word];
+            unplanned[word] ^= lines;
+            for (; lines != 0; lines &= lines - 1) {
+                const size_t line = 64 * word + lowest(lines);
+                plan[line] = static_cast<uint8_t>(tip);
+                // After the last round no count is needed.
+                for (uint64_t rest = left != 0 ? sets[line] : 0; rest != 0; rest &= rest - 1) {
+                    occurrences.take(lowest(rest));
+                }
+            }
+        }
+    }
+    return pairs;
+}
+
+/*
+ * The table of best sharing, row by row from the last. A stretch and its tip are held in one number, pairs * 64 + 63
+ * less the tip, so that the largest is the lowest tip with the most pairs.
+ */
+struct Stretches {
+    static constexpr size_t kStep = 8;
+    static constexpr int32_t kNever = -(1 << 30);
+
+    size_t rack;
+    // The rack in whole steps.
+    size_t width;
+    // within[a][b] is the number of lines lying within a to b.
+    alignas(16) int16_t within[kMostTips + 1][kMostTips];
+    // most[a][b] is 64 times the pairs of a to b; where a is past b + 1 it is too low to be chosen.
+    alignas(16) int32_t most[kMostTips + 1][kMostTips];
+    alignas(16) int32_t keys[kMostTips][kMostTips];
+
+    explicit Stretches(size_t rack) : rack(rack), width((rack + kStep - 1) / kStep * kStep) {}
+
+    int tip_of(int a, int b) const { return 63 - keys[a][b] % 64; }
+
+    void count(const uint64_t *sets, size_t count)
+    {
+        memset(within, 0, (rack + 1) * sizeof within[0]);
+        for (size_t line = 0; line < count; line++) {
+            within[lowest(sets[line])][highest_of_run(sets[line])]++;
+        }
+        // First along each row, then down from row to row.
+        for (size_t a = 0; a < rack; a++) {
+            int16_t sum = 0;
+            for (size_t b = a; b < rack; b++) {
+                sum = static_cast<int16_t>(sum + within[a][b]);
+                within[a][b] = sum;
+            }
+        }
+        for (size_t a = rack - 1; a-- > 0;) {
+            for (size_t b = 0; b < width; b++) {
+                within[a][b] = static_cast<int16_t>(within[a][b] + within[a + 1][b]);
+            }
+        }
+    }
+
+    void fill(uint32_t *__restrict table)
+    {
+        clear_below(rack);
+        for (size_t a = rack; a-- > 0;) {
+            int32_t *__restrict const row = keys[a];
+            for (size_t b = 0; b < width; b++) {
+                row[b] = kNever;
+            }
+            int32_t pairs_left = 0;
+            int16_t lines_left = 0;
+            for (size_t c = a; c < rack; c++) {
+                // A line within a to b that allows c lies neither left of c nor right of it.
+                const int32_t with_c = 64 * pairs_left + 63 - static_cast<int32_t>(c);
+                const int16_t *const all = within[a];
+                const int16_t *const lines_right = within[c + 1];
+                const int32_t *const most_right = most[c + 1];
+                for (size_t step = c / kStep * kStep; step < width; step += kStep) {
+                    for (size_t b = step; b < step + kStep; b++) {
+                        const int16_t lines = static_cast<int16_t>(all[b] - lines_left - lines_right[b]);
+                        const int16_t others = static_cast<int16_t>(32 * (lines - 1));
+                        const int32_t key = int32_t{lines} * others + with_c + most_right[b];
+                        row[b] = row[b] > key ? row[b] : key;
+                    }
+                }
+                pairs_left = row[c] / 64;
+                lines_left = all[c];
+            }
+            clear_below(a);
+            for (size_t b = a; b < rack; b++) {
+                most[a][b] = row[b] & ~63;
+            }
+            for (size_t b = 0; b < a; b++) {
+                table[a * rack + b] = 0;
+            }
+            for (size_t b = a; b < rack; b++) {
+                table[a * rack + b] = static_cast<uint32_t>(row[b] / 64);
+            }
+        }
+    }
+
+    /* The part of row a where the stretch is empty, and that before it. */
+    void clear_below(size_t a)
+    {
+        for (size_t b = 0; b < width; b++) {
+            most[a][b] = b + 1 < a ? kNever : 0;
+        }
+    }
+};
+
+uint32_t best(const uint64_t *sets, const Job &job, uint8_t *plan, uint32_t *table)
+{
+    Stretches stretches(job.rack);
+    stretches.count(sets, job.count);
+    stretches.fill(table);
+    lay_best(sets, job.count, job.rack, [&](int a, int b) { return stretches.tip_of(a, b); }, plan);
+    return table[job.rack - 1];
+}
+
+}  // namespace
+
+extern "C" {
+
+uint32_t baseline_read(const uint8_t *file, size_t file_len, uint64_t *answer, size_t answer_len)
+{
+    if (answer_len < TIPSHARE_ANSWER_PLACES) {
+        return TIPSHARE_SHORT_ANSWER;
+    }
+    const Job job = read_only(file, file_len);
+    return answered(answer, job.number, job.line, job.rack, job.count, 0);
+}
+
+uint32_t baseline_common(const uint8_t *file, size_t file_len, uint64_t *answer, size_t answer_len)
+{
+    if (answer_len < TIPSHARE_ANSWER_PLACES) {
+        return TIPSHARE_SHORT_ANSWER;
+    }
+    uint64_t sets[kMostLines];
+    const Job job = read_sets(file, file_len, sets);
+    if (job.number != TIPSHARE_ACCEPTED) {
+        return refused(answer, job.number, job.line);
+    }
+    Occurrences occurrences;
+    count_all(sets, job.count, occurrences);
+    const Common common = common_tip(occurrences);
+    return answered(answer, TIPSHARE_ACCEPTED, 0, common.top, job.count - common.top, common.tips);
+}
+
+uint32_t baseline_keep(const uint8_t *file, size_t file_len, uint16_t k, uint8_t *out, size_t out_len,
+                       uint64_t *answer, size_t answer_len)
+{
+    if (answer_len < TIPSHARE_ANSWER_PLACES) {
+        return TIPSHARE_SHORT_ANSWER;
+    }
+    uint64_t sets[kMostLines];
+    const Job job = read_sets(file, file_len, sets);
+    if (job.number != TIPSHARE_ACCEPTED) {
+        return refused(answer, job.number, job.line);
+    }
+    Occurrences occurrences;
+    count_all(sets, job.count, occurrences);
+    const Common common = common_tip(occurrences);
+    const int64_t margin = int64_t{common.top} - static_cast<int64_t>(job.count) + k;
+    if (margin < 0) {
+        return answered(answer, TIPSHARE_NO_PLAN, 0, static_cast<uint64_t>(margin), 0, 0);
+    }
+    if (out_len < file_len) {
+        return refused(answer, TIPSHARE_SHORT_OUTPUT);
+    }
+    if (margin > 0) {
+        memcpy(out, file, file_len);
+    } else {
+        memcpy(out, file, kHead);
+        for (size_t line = 0; line < job.count; line++) {
+            const uint64_t set = sets[line];
+            const uint64_t kept = __builtin_bswap64((set & common.tips) == common.tips ? common.tips : set);
+            memcpy(out + kHead + 8 * line, &kept, sizeof kept);
+        }
+    }
+    return answered(answer, TIPSHARE_ACCEPTED, 0, static_cast<uint64_t>(margin), file_len, 0);
+}
+
+uint32_t baseline_quick(const uint8_t *file, size_t file_len, uint8_t *plan, size_t plan_len, uint64_t *answer,
+                        size_t answer_len)
+{
+    if (answer_len < TIPSHARE_ANSWER_PLACES) {
+        return TIPSHARE_SHORT_ANSWER;
+    }
+    uint64_t sets[kMostLines];
+    const Job job = read_sets(file, file_len, sets);
+    if (job.number != TIPSHARE_ACCEPTED) {
+        return refused(answer, job.number, job.line);
+    }
+    if (plan_len < job.count) {
+        return refused(answer, TIPSHARE_SHORT_PLAN);
+    }
+    Occurrences occurrences;
+    LinesOf lines_of;
+    count_and_list(sets, job, occurrences, lines_of);
+    return answered(answer, TIPSHARE_ACCEPTED, 0, quick(sets, job, occurrences, lines_of, plan), 0, 0);
+}
+
+uint32_t baseline_best(const uint8_t *file, size_t file_len, uint8_t *plan, size_t plan_len, uint32_t *table,
+                       size_t table_len, uint64_t *answer, size_t answer_len)
+{
+    if (answer_len < TIPSHARE_ANSWER_PLACES) {
+        return TIPSHARE_SHORT_ANSWER;
+    }
+    uint64_t sets[kMostLines];
+    const Job job = read_sets(file, file_len, sets);
+    if (job.number != TIPSHARE_ACCEPTED) {
+        return refused(answer, job.number, job.line);
+    }
+    if (plan_len < job.count) {
+        return refused(answer, TIPSHARE_SHORT_PLAN);
+    }
+    if (table_len < job.rack * job.rack) {
+        return refused(answer, TIPSHARE_SHORT_TABLE);
+    }
+    const size_t no_run = first_no_run(sets, job.count);
+    if (no_run < job.count) {
+        return refused(answer, TIPSHARE_NO_RUN, no_run);
+    }
+    return answered(answer, TIPSHARE_ACCEPTED, 0, best(sets, job, plan, table), 0, 0);
+}
+
+size_t baseline_report(const uint8_t *file, size_t file_len, uint8_t *out, size_t out_len)
+{
+    if (out_len < TIPSHARE_REPORT_SPACE) {
+        return 0;
+    }
+    uint64_t sets[kMostLines];
+    const Job job = read_sets(file, report_length(file_len), sets);
+    if (job.number != TIPSHARE_ACCEPTED) {
+        return write_refusal(out, job.number);
+    }
+    uint8_t quick_plan[kMostLines];
+    uint8_t best_plan[kMostLines];
+    uint32_t table[TIPSHARE_MOST_PLACES];
+    Occurrences occurrences;
+    LinesOf lines_of;
+    count_and_list(sets, job, occurrences, lines_of);
+    const Common common = common_tip(occurrences);
+    Found found{};
+    found.off = static_cast<uint32_t>(job.count) - common.top;
+    found.common = common.tips;
+    found.quick = quick(sets, job, occurrences, lines_of, quick_plan);
+    found.quick_plan = quick_plan;
+    found.runs = first_no_run(sets, job.count) == job.count;
+    if (found.runs) {
+        found.best = best(sets, job, best_plan, table);
+        found.best_plan = best_plan;
+    }
+    return write_report(out, job, found);
+}
+
+}  // extern "C"

@@ -1,0 +1,143 @@
+#include "boards.h"
+
+#include <algorithm>
+#include <functional>
+#include <utility>
+
+namespace {
+
+/* A splitmix64 generator. */
+class Random {
+public:
+    explicit Random(uint64_t seed) : state(seed) {}
+
+    uint64_t number()
+    {
+        state += 0x9E3779B97F4A7C15;
+        uint64_t mixed = state;
+        mixed = (mixed ^ mixed >> 30) * 0xBF58476D1CE4E5B9;
+        mixed = (mixed ^ mixed >> 27) * 0x94D049BB133111EB;
+        return mixed ^ mixed >> 31;
+    }
+
+    size_t from_to(size_t first, size_t last) { return first + number() % (last - first + 1); }
+
+private:
+    uint64_t state;
+};
+
+/* The set of one line. */
+using Line = std::function<uint64_t(Random &random, size_t rack, size_t line)>;
+
+uint64_t run(size_t first, size_t tips) { return ~uint64_t{0} >> (64 - tips) << first; }
+
+/* A run of least to most tips anywhere in the rack. */
+Line run_of(size_t least, size_t most)
+{
+    return [=](Random &random, size_t rack, size_t) {
+        const size_t tips = random.from_to(least, std::min(most, rack));
+        return run(random.from_to(0, rack - tips), tips);
+    };
+}
+
+uint64_t few_tips(Random &random, size_t rack, size_t)
+{
+    uint64_t set = 0;
+    for (size_t tips = random.from_to(1, 3); tips > 0; tips--) {
+        set |= uint64_t{1} << random.from_to(0, rack - 1);
+    }
+    return set;
+}
+
+uint64_t many_tips(Random &random, size_t rack, size_t)
+{
+    return (random.number() & run(0, rack)) | uint64_t{1} << random.from_to(0, rack - 1);
+}
+
+uint64_t all_tips(Random &, size_t rack, size_t) { return run(0, rack); }
+
+uint64_t one_tip_in_turn(Random &, size_t rack, size_t line) { return uint64_t{1} << line % rack; }
+
+/* Every tip but the last, and a single line with only that one. */
+uint64_t all_but_one(Random &, size_t rack, size_t line)
+{
+    return line == 0 ? uint64_t{1} << (rack - 1) : run(0, rack - 1);
+}
+
+/* The run between two seeded tips. */
+uint64_t any_run(Random &random, size_t rack, size_t)
+{
+    const size_t first = random.from_to(0, rack - 1);
+    const size_t second = random.from_to(0, rack - 1);
+    return run(std::min(first, second), std::max(first, second) - std::min(first, second) + 1);
+}
+
+uint16_t least_bound(const std::vector<uint64_t> &sets)
+{
+    size_t top = 0;
+    for (size_t tip = 0; tip < 64; tip++) {
+        const auto has = [=](uint64_t set) { return (set >> tip & 1) == 1; };
+        top = std::max<size_t>(top, static_cast<size_t>(std::count_if(sets.begin(), sets.end(), has)));
+    }
+    return static_cast<uint16_t>(sets.size() - top);
+}
+
+bool is_run(uint64_t set) { return (set & (set + (set & -set))) == 0; }
+
+File file_of(const std::vector<uint64_t> &sets, size_t rack)
+{
+    std::vector<uint8_t> bytes{'T', 'I', 'P', 0, 1, static_cast<uint8_t>(rack)};
+    bytes.push_back(static_cast<uint8_t>(sets.size() >> 8));
+    bytes.push_back(static_cast<uint8_t>(sets.size()));
+    for (const uint64_t set : sets) {
+        for (int shift = 56; shift >= 0; shift -= 8) {
+            bytes.push_back(static_cast<uint8_t>(set >> shift));
+        }
+    }
+    return {std::move(bytes), least_bound(sets)};
+}
+
+Boards boards_of(std::string name, std::string description, size_t lines, size_t rack, const Line &line_of)
+{
+    Boards boards{std::move(name), std::move(description), lines, rack, true, {}};
+    for (size_t file = 0; file < kFilesEach; file++) {
+        Random random(1000 * file + lines + rack);
+        std::vector<uint64_t> sets;
+        for (size_t line = 0; line < lines; line++) {
+            sets.push_back(line_of(random, rack, line));
+        }
+        for (size_t line = lines; line > 1; line--) {
+            std::swap(sets[line - 1], sets[random.from_to(0, line - 1)]);
+        }
+        boards.runs = boards.runs && std::all_of(sets.begin(), sets.end(), is_run);
+        boards.files.push_back(file_of(sets, rack));
+    }
+    return boards;
+}
+
+}  // namespace
+
+std::vector<Boards> main_boards()
+{
+    return {
+        boards_of("few-tips", "1 to 3 tips a line, anywhere in the rack", 512, 64, few_tips),
+        boards_of("many-tips", "each tip with an even chance, about 32 a line", 512, 64, many_tips),
+        boards_of("short-runs", "runs of 1 to 4 tips", 512, 64, run_of(1, 4)),
+        boards_of("long-runs", "runs of 16 to 48 tips", 512, 64, run_of(16, 48)),
+        boards_of("any-runs", "runs between two seeded tips", 512, 64, any_run),
+        boards_of("all-tips", "worst for common and keep: every line has every tip; quick has one round", 512, 64,
+                  all_tips),
+        boards_of("all-but-one", "worst for quick by counts: 511 lines have every tip but one, and one line only that",
+                  512, 64, all_but_one),
+        boards_of("one-tip", "worst for quick by rounds: one tip a line, 8 lines a tip, 64 rounds", 512, 64,
+                  one_tip_in_turn),
+        boards_of("small", "each tip with an even chance", 20, 8, many_tips),
+        boards_of("small-runs", "runs of 1 to 4 tips", 20, 8, run_of(1, 4)),
+        boards_of("no-lines", "what a call costs without any line", 0, 64, any_run),
+    };
+}
+
+Boards growth_board(size_t lines, size_t rack)
+{
+    return boards_of("any-runs", "runs between two seeded tips", lines, rack, any_run);
+}

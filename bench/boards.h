@@ -1,0 +1,31 @@
+/* The boards that are measured: seeded job files, the same on every machine. */
+#pragma once
+
+#include <cstddef>
+#include <cstdint>
+#include <string>
+#include <vector>
+
+/* A job file, with the bound that keep is called with: the least that is accepted, so that it strikes tips. */
+struct File {
+    std::vector<uint8_t> bytes;
+    uint16_t k;
+};
+
+/* Many boards of one description: of a few, the processor soon foresees every branch, which it cannot of a new one. */
+struct Boards {
+    std::string name;
+    std::string description;
+    size_t lines;
+    size_t rack;
+    bool runs;
+    std::vector<File> files;
+};
+
+constexpr size_t kFilesEach = 64;
+
+/* The boards of the main table. */
+std::vector<Boards> main_boards();
+
+/* Runs of any length, to see how time grows with the number of lines and the rack. */
+Boards growth_board(size_t lines, size_t rack);

@@ -1,0 +1,318 @@
+/*
+ * What the hand-written implementations share: reading a job file, answering, and the text of a report.
+ * The rules are those of include/tipshare.h.
+ */
+#pragma once
+
+#include <array>
+#include <cstddef>
+#include <cstdint>
+#include <cstring>
+
+#include "tipshare.h"
+
+namespace job {
+
+constexpr size_t kHead = 8;
+constexpr size_t kMostTips = TIPSHARE_MOST_TIPS;
+constexpr size_t kMostLines = TIPSHARE_MOST_LINES;
+
+/* A job file that was accepted, or the number and the line of its refusal. */
+struct Job {
+    uint32_t number;
+    uint32_t line;
+    size_t rack;
+    size_t count;
+};
+
+inline uint64_t raw_set(const uint8_t *file, size_t line)
+{
+    uint64_t raw;
+    memcpy(&raw, file + kHead + 8 * line, sizeof raw);
+    return raw;
+}
+
+inline unsigned lowest(uint64_t set) { return static_cast<unsigned>(__builtin_ctzll(set)); }
+
+/* The highest tip of a run, by its lowest: trailing zeros are quicker than leading ones on plain x86-64. */
+inline unsigned highest_of_run(uint64_t set) { return lowest(set) + lowest(~(set >> lowest(set) >> 1)); }
+
+/* The tips that a rack of this size has not. */
+inline uint64_t outside(size_t rack) { return rack == 64 ? 0 : ~uint64_t{0} << rack; }
+
+inline uint32_t pairs_on(uint32_t lines) { return lines * (lines - 1) / 2; }
+
+/* Checks the length and the first 8 bytes. */
+inline Job read_head(const uint8_t *file, size_t length)
+{
+    if (length < kHead) {
+        return {TIPSHARE_SHORT_FILE, 0, 0, 0};
+    }
+    if (memcmp(file, "TIP", 3) != 0) {
+        return {TIPSHARE_WRONG_MARK, 0, 0, 0};
+    }
+    if (file[3] != 0 || file[4] != 1) {
+        return {TIPSHARE_WRONG_VERSION, 0, 0, 0};
+    }
+    const size_t rack = file[5];
+    if (rack - 1 >= kMostTips) {
+        return {TIPSHARE_RACK_SIZE, 0, 0, 0};
+    }
+    const size_t count = size_t{file[6]} << 8 | file[7];
+    if (count > kMostLines) {
+        return {TIPSHARE_FILE_LINES, 0, 0, 0};
+    }
+    if (length != kHead + 8 * count) {
+        return {TIPSHARE_FILE_LENGTH, 0, 0, 0};
+    }
+    return {TIPSHARE_ACCEPTED, 0, rack, count};
+}
+
+/* The refusal of a file that is known to have a bad line. */
+[[gnu::noinline, gnu::cold]] inline Job first_bad_line(const uint8_t *file, const Job &job)
+{
+    const uint64_t bad = outside(job.rack);
+    for (uint32_t line = 0;; line++) {
+        const uint64_t set = __builtin_bswap64(raw_set(file, line));
+        if (set == 0) {
+            return {TIPSHARE_EMPTY_LINE, line, 0, 0};
+        }
+        if (set & bad) {
+            return {TIPSHARE_TIP_OUTSIDE, line, 0, 0};
+        }
+    }
+}
+
+/* Reads the file and lays the set of each line in sets. */
+inline Job read_sets(const uint8_t *file, size_t length, uint64_t *__restrict sets)
+{
+    const Job job = read_head(file, length);
+    if (job.number != TIPSHARE_ACCEPTED) {
+        return job;
+    }
+    uint64_t joined = 0;
+    unsigned empty = 0;
+#pragma GCC unroll 4
+    for (size_t line = 0; line < job.count; line++) {
+        const uint64_t set = __builtin_bswap64(raw_set(file, line));
+        sets[line] = set;
+        joined |= set;
+        empty += set < 1;
+    }
+    if ((joined & outside(job.rack)) != 0 || empty != 0) {
+        return first_bad_line(file, job);
+    }
+    return job;
+}
+
+/* Reads the file and keeps no set. */
+inline Job read_only(const uint8_t *file, size_t length)
+{
+    const Job job = read_head(file, length);
+    if (job.number != TIPSHARE_ACCEPTED) {
+        return job;
+    }
+    uint64_t joined = 0;
+    unsigned empty = 0;
+#pragma GCC unroll 4
+    for (size_t line = 0; line < job.count; line++) {
+        const uint64_t raw = raw_set(file, line);
+        joined |= raw;
+        empty += raw < 1;
+    }
+    if ((__builtin_bswap64(joined) & outside(job.rack)) != 0 || empty != 0) {
+        return first_bad_line(file, job);
+    }
+    return job;
+}
+
+/* The bytes of a file that a report takes: one more than the longest good file has. */
+inline size_t report_length(size_t length)
+{
+    return length < TIPSHARE_LONGEST_FILE + 1 ? length : TIPSHARE_LONGEST_FILE + 1;
+}
+
+inline uint32_t answered(uint64_t *answer, uint32_t number, uint64_t first, uint64_t second, uint64_t third,
+                         uint64_t fourth)
+{
+    answer[0] = first;
+    answer[1] = second;
+    answer[2] = third;
+    answer[3] = fourth;
+    return number;
+}
+
+inline uint32_t refused(uint64_t *answer, uint32_t number, uint64_t line = 0)
+{
+    return answered(answer, number, line, 0, 0, 0);
+}
+
+/* The line that is no run, or count. Adding its lowest tip carries a run past its highest and leaves no tip behind. */
+inline size_t first_no_run(const uint64_t *sets, size_t count)
+{
+    size_t line = 0;
+    while (line < count && (sets[line] & (sets[line] + (sets[line] & -sets[line]))) == 0) {
+        line++;
+    }
+    return line;
+}
+
+/*
+ * The tips chosen in best sharing are a tree: the tip of a stretch has those of the two stretches beside it below it.
+ * A line is laid by the first of its tips from the top. Of the tips above h (and h itself) that are not higher than
+ * h, a line whose highest tip is h has this one as the lowest in its set: all that is needed of the tree is that set
+ * of tips for each h. chosen(a, b) gives the tip of the stretch a to b.
+ */
+template <typename Chosen> struct Tree {
+    const Chosen &chosen;
+    uint64_t *below;
+
+    void lay(int a, int b, uint64_t passed)
+    {
+        while (a <= b) {
+            const int tip = chosen(a, b);
+            below[tip] = passed | uint64_t{1} << tip;
+            lay(a, tip - 1, passed);
+            passed |= uint64_t{1} << tip;
+            a = tip + 1;
+        }
+    }
+};
+
+template <typename Chosen>
+inline void lay_best(const uint64_t *sets, size_t count, size_t rack, const Chosen &chosen, uint8_t *__restrict plan)
+{
+    uint64_t below[kMostTips];
+    Tree<Chosen>{chosen, below}.lay(0, static_cast<int>(rack) - 1, 0);
+    for (size_t line = 0; line < count; line++) {
+        plan[line] = static_cast<uint8_t>(lowest(below[highest_of_run(sets[line])] & sets[line]));
+    }
+}
+
+/* The digits of a number below 1000 with their count behind them. */
+struct Digits {
+    char text[3];
+    uint8_t length;
+};
+
+constexpr std::array<Digits, kMostLines> digits_of_each()
+{
+    std::array<Digits, kMostLines> all{};
+    for (size_t number = 0; number < kMostLines; number++) {
+        Digits &digits = all[number];
+        const char hundreds = static_cast<char>('0' + number / 100);
+        const char tens = static_cast<char>('0' + number / 10 % 10);
+        const char ones = static_cast<char>('0' + number % 10);
+        if (number >= 100) {
+            digits = {{hundreds, tens, ones}, 3};
+        } else if (number >= 10) {
+            digits = {{tens, ones, 0}, 2};
+        } else {
+            digits = {{ones, 0, 0}, 1};
+        }
+    }
+    return all;
+}
+
+inline constexpr std::array<Digits, kMostLines> kDigits = digits_of_each();
+
+/* Writes text from place to place. */
+struct Text {
+    uint8_t *at;
+
+    template <size_t N> void words(const char (&text)[N])
+    {
+        memcpy(at, text, N - 1);
+        at += N - 1;
+    }
+
+    /* May write 3 bytes more than the digits: only where more text follows than that. */
+    void small(size_t number)
+    {
+        memcpy(at, &kDigits[number], sizeof(Digits));
+        at += kDigits[number].length;
+    }
+
+    /* May write 1 byte more than the digits. */
+    void tip(size_t number)
+    {
+        memcpy(at, &kDigits[number], 2);
+        at += kDigits[number].length;
+    }
+
+    void number(uint32_t value)
+    {
+        uint8_t digits[10];
+        size_t first = sizeof digits;
+        do {
+            digits[--first] = static_cast<uint8_t>('0' + value % 10);
+            value /= 10;
+        } while (value != 0);
+        memcpy(at, digits + first, sizeof digits - first);
+        at += sizeof digits - first;
+    }
+};
+
+/* What a report tells; best_plan only counts with runs. */
+struct Found {
+    uint32_t off;
+    uint64_t common;
+    uint32_t quick;
+    bool runs;
+    uint32_t best;
+    const uint8_t *quick_plan;
+    const uint8_t *best_plan;
+};
+
+inline size_t write_refusal(uint8_t *out, uint32_t number)
+{
+    Text text{out};
+    text.words("refused ");
+    text.number(number);
+    text.words("\n");
+    return static_cast<size_t>(text.at - out);
+}
+
+inline size_t write_report(uint8_t *out, const Job &job, const Found &found)
+{
+    Text text{out};
+    text.words("lines ");
+    text.number(static_cast<uint32_t>(job.count));
+    text.words(" rack ");
+    text.number(static_cast<uint32_t>(job.rack));
+    text.words("\noff ");
+    text.number(found.off);
+    text.words(" tips");
+    for (uint64_t rest = found.common; rest != 0; rest &= rest - 1) {
+        text.words(" ");
+        text.tip(lowest(rest));
+    }
+    text.words("\nquick ");
+    text.number(found.quick);
+    if (found.runs) {
+        text.words("\nbest ");
+        text.number(found.best);
+        text.words("\n");
+        for (size_t line = 0; line < job.count; line++) {
+            text.words("line ");
+            text.small(line);
+            text.words(" quick ");
+            text.tip(found.quick_plan[line]);
+            text.words(" best ");
+            text.tip(found.best_plan[line]);
+            text.words("\n");
+        }
+    } else {
+        text.words("\nbest none\n");
+        for (size_t line = 0; line < job.count; line++) {
+            text.words("line ");
+            text.small(line);
+            text.words(" quick ");
+            text.tip(found.quick_plan[line]);
+            text.words(" best -\n");
+        }
+    }
+    return static_cast<size_t>(text.at - out);
+}
+
+}  // namespace job

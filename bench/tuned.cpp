@@ -1,0 +1,547 @@
+/*
+ * Tip sharing by hand, tuned: how far the same job can be taken with the instructions of every x86-64 processor.
+ *
+ * Occurrences are counted for 64 tips at once: bit t of plane i is bit i of the count of tip t. Quick sharing finds
+ * the lines of a tip in the transposed board. Best sharing goes by the length of the stretch, four stretches at once.
+ * Sets are used as they stand in the file: the bit of tip t there is bit t ^ 56 of a 64-bit number.
+ */
+#include "tuned.h"
+
+#include <emmintrin.h>
+
+#include "job.h"
+
+namespace {
+
+using namespace job;
+
+/* Two sets side by side. */
+typedef uint64_t Two __attribute__((vector_size(16)));
+
+inline Two two_at(const uint8_t *at)
+{
+    Two two;
+    memcpy(&two, at, sizeof two);
+    return two;
+}
+
+/* Adds three planes: low gets the sum, and the carry is returned. */
+template <typename Word> inline Word add(Word &low, Word second, Word third)
+{
+    const Word either = low ^ second;
+    const Word carry = (low & second) | (either & third);
+    low = either ^ third;
+    return carry;
+}
+
+/* How many of some sets have each tip. */
+struct Planes {
+    // 10 planes count to 512.
+    static constexpr size_t kPlanes = 10;
+    static constexpr size_t kBlock = 16;
+    uint64_t plane[kPlanes];
+    // The planes from here on are 0.
+    size_t used;
+
+    /* Counts this many sets; after them zeros must follow up to a whole block. */
+    void count(const uint64_t *sets, size_t number)
+    {
+        // The planes that the number needs; a block has 4 at least.
+        used = number < kBlock / 2 ? 4 : 64 - static_cast<size_t>(__builtin_clzll(number));
+        Two sum[kPlanes] = {};
+        for (size_t done = 0; done < number; done += kBlock) {
+            add_block(sum, used, reinterpret_cast<const uint8_t *>(sets + done));
+        }
+        join(sum);
+    }
+
+    /* Counts the sets of a file. */
+    void count_file(const uint8_t *file, size_t lines)
+    {
+        used = kPlanes;
+        Two sum[kPlanes] = {};
+        const size_t whole = lines / kBlock * kBlock;
+        for (size_t done = 0; done < whole; done += kBlock) {
+            add_block(sum, kPlanes, file + kHead + 8 * done);
+        }
+        if (whole < lines) {
+            uint8_t rest[8 * kBlock] = {};
+            memcpy(rest, file + kHead + 8 * whole, 8 * (lines - whole));
+            add_block(sum, kPlanes, rest);
+        }
+        join(sum);
+    }
+
+    [[gnu::always_inline]] static void add_block(Two *sum, size_t planes, const uint8_t *sets)
+    {
+        const Two two1 = add(sum[0], two_at(sets), two_at(sets + 16));
+        const Two two2 = add(sum[0], two_at(sets + 32), two_at(sets + 48));
+        const Two four1 = add(sum[1], two1, two2);
+        const Two two3 = add(sum[0], two_at(sets + 64), two_at(sets + 80));
+        const Two two4 = add(sum[0], two_at(sets + 96), two_at(sets + 112));
+        const Two four2 = add(sum[1], two3, two4);
+        Two carry = add(sum[2], four1, four2);
+        for (size_t i = 3; i < planes; i++) {
+            const Two next = sum[i] & carry;
+            sum[i] ^= carry;
+            carry = next;
+        }
+    }
+
+    void join(const Two *sum)
+    {
+        uint64_t carry = 0;
+        for (size_t i = 0; i < used; i++) {
+            plane[i] = sum[i][0];
+            carry = add(plane[i], uint64_t{sum[i][1]}, carry);
+        }
+    }
+
+    /* Takes off counts that are not above these. */
+    void take(const Planes &other)
+    {
+        uint64_t borrow = 0;
+        for (size_t i = 0; i < used; i++) {
+            const uint64_t from = plane[i];
+            plane[i] = from ^ other.plane[i] ^ borrow;
+            borrow = (~from & (other.plane[i] | borrow)) | (other.plane[i] & borrow);
+        }
+    }
+
+    /* The largest count, and the tips that have it as they stand in a file. */
+    unsigned largest(uint64_t &tips) const
+    {
+        unsigned most = 0;
+        tips = ~uint64_t{0};
+        for (size_t i = used; i-- > 0;) {
+            const uint64_t these = tips & plane[i];
+            most = 2 * most + (these != 0);
+            tips = these != 0 ? these : tips;
+        }
+        return most;
+    }
+};
+
+/* Checks a file; two lines at once. */
+Job check(const uint8_t *file, size_t length)
+{
+    const Job job = read_head(file, length);
+    if (job.number != TIPSHARE_ACCEPTED) {
+        return job;
+    }
+    const __m128i zero = _mm_setzero_si128();
+    __m128i joined = zero;
+    __m128i empty = zero;
+    size_t line = 0;
+    for (; line + 4 <= job.count; line += 4) {
+        const __m128i first = _mm_loadu_si128(reinterpret_cast<const __m128i *>(file + kHead + 8 * line));
+        const __m128i second = _mm_loadu_si128(reinterpret_cast<const __m128i *>(file + kHead + 8 * line + 16));
+        joined = _mm_or_si128(joined, _mm_or_si128(first, second));
+        // The four low halves, and the four high halves: a line is empty where both are.
+        const __m128 low = _mm_shuffle_ps(_mm_castsi128_ps(first), _mm_castsi128_ps(second), 0x88);
+        const __m128 high = _mm_shuffle_ps(_mm_castsi128_ps(first), _mm_castsi128_ps(second), 0xDD);
+        const __m128i halves = _mm_castps_si128(_mm_or_ps(low, high));
+        empty = _mm_or_si128(empty, _mm_cmpeq_epi32(halves, zero));
+    }
+    uint64_t all = static_cast<uint64_t>(_mm_cvtsi128_si64(_mm_or_si128(joined, _mm_unpackhi_epi64(joined, joined))));
+    bool bad = _mm_movemask_epi8(empty) != 0;
+    for (; line < job.count; line++) {
+        const uint64_t raw = raw_set(file, line);
+        all |= raw;
+        bad |= raw == 0;
+    }
+    if (bad || (__builtin_bswap64(all) & outside(job.rack)) != 0) {
+        return first_bad_line(file, job);
+    }
+    return job;
+}
+
+/*
+ * The lines of each tip as a set of lines, 64 lines a word: the board transposed, 128 lines at once. Row t ^ 56 has
+ * the lines of tip t.
+ */
+struct LinesOf {
+    static constexpr size_t kPairs = kMostLines / 128;
+    Two rows[kPairs][64];
+
+    template <int By> static void swap(Two &first, Two &second, uint64_t mask)
+    {
+        const Two moved = ((first >> By) ^ second) & Two{mask, mask};
+        first ^= moved << By;
+        second ^= moved;
+    }
+
+    /* Three rounds of exchange among eight rows. */
+    template <int By> static void turn(Two (&row)[8], uint64_t far, uint64_t middle, uint64_t near)
+    {
+        for (size_t i = 0; i < 4; i++) {
+            swap<4 * By>(row[i], row[i + 4], far);
+        }
+        for (size_t i = 0; i < 2; i++) {
+            swap<2 * By>(row[i], row[i + 2], middle);
+            swap<2 * By>(row[i + 4], row[i + 6], middle);
+        }
+        for (size_t i = 0; i < 8; i += 2) {
+            swap<By>(row[i], row[i + 1], near);
+        }
+    }
+
+    void fill(const uint8_t *file, size_t lines)
+    {
+        for (size_t pair = 0; 128 * pair < lines; pair++) {
+            const uint8_t *sets = file + kHead + 8 * 128 * pair;
+            const size_t here = lines - 128 * pair;
+            uint8_t padded[8 * 128];
+            if (here < 128) {
+                memcpy(padded, sets, 8 * here);
+                memset(padded + 8 * here, 0, 8 * (128 - here));
+                sets = padded;
+            }
+            fill_pair(rows[pair], sets);
+        }
+    }
+
+    static void fill_pair(Two *rows, const uint8_t *sets)
+    {
+        for (size_t i = 0; i < 8; i++) {
+            Two row[8];
+            for (size_t j = 0; j < 8; j++) {
+                const __m128i first = _mm_loadl_epi64(reinterpret_cast<const __m128i *>(sets + 8 * (8 * j + i)));
+                const __m128i second = _mm_loadl_epi64(reinterpret_cast<const __m128i *>(sets + 8 * (64 + 8 * j + i)));
+                row[j] = reinterpret_cast<Two>(_mm_unpacklo_epi64(first, second));
+            }
+            turn<8>(row, 0x00000000FFFFFFFF, 0x0000FFFF0000FFFF, 0x00FF00FF00FF00FF);
+            for (size_t j = 0; j < 8; j++) {
+                rows[8 * j + i] = row[j];
+            }
+        }
+        for (size_t i = 0; i < 64; i += 8) {
+            Two row[8];
+            memcpy(row, rows + i, sizeof row);
+            turn<1>(row, 0x0F0F0F0F0F0F0F0F, 0x3333333333333333, 0x5555555555555555);
+            memcpy(rows + i, row, sizeof row);
+        }
+    }
+
+    uint64_t word(unsigned tip, size_t word) const { return rows[word / 2][tip ^ 56][word % 2]; }
+};
+
+/* Writes each line, and only these tips of a line that has all of them; two lines at once. */
+void strike(const uint8_t *__restrict file, size_t count, uint64_t tips, uint8_t *__restrict out)
+{
+    const __m128i all = _mm_set1_epi64x(static_cast<long long>(tips));
+    size_t line = 0;
+    for (; line + 2 <= count; line += 2) {
+        const size_t at = kHead + 8 * line;
+        const __m128i sets = _mm_loadu_si128(reinterpret_cast<const __m128i *>(file + at));
+        const __m128i halves = _mm_cmpeq_epi32(_mm_and_si128(sets, all), all);
+        const __m128i has_all = _mm_and_si128(halves, _mm_shuffle_epi32(halves, 0xB1));
+        // A line that has them all keeps what it shares with them, any other line everything.
+        const __m128i kept = _mm_andnot_si128(_mm_andnot_si128(all, has_all), sets);
+        _mm_storeu_si128(reinterpret_cast<__m128i *>(out + at), kept);
+    }
+    if (line < count) {
+        const uint64_t set = raw_set(file, line);
+        const uint64_t kept = (set & tips) == tips ? tips : set;
+        memcpy(out + kHead + 8 * line, &kept, sizeof kept);
+    }
+}
+
+/* The lines of a tip among at most 64. */
+uint64_t lines_by_looking(const uint8_t *file, size_t count, unsigned tip)
+{
+    uint64_t lines = 0;
+    for (size_t line = 0; line < count; line++) {
+        lines |= (raw_set(file, line) >> (tip ^ 56) & 1) << line;
+    }
+    return lines;
+}
+
+/* Quick sharing; gives the number of pairs. The planes are those of all lines and are used up. */
+uint32_t quick(const uint8_t *file, const Job &job, Planes &planes, uint8_t *__restrict plan)
+{
+    // Fewer lines than this are looked through in each round.
+    constexpr size_t kManyLines = 48;
+    LinesOf lines_of;
+    if (job.count >= kManyLines) {
+        lines_of.fill(file, job.count);
+    }
+    const size_t words = (job.count + 63) / 64;
+    uint64_t unplanned[kMostLines / 64];
+    memset(unplanned, 0xFF, sizeof unplanned);
+    // The sets planned in a round, with room for the zeros behind them.
+    alignas(16) uint64_t taken[kMostLines + Planes::kBlock];
+    uint32_t pairs = 0;
+    for (size_t left = job.count; left != 0;) {
+        uint64_t tips;
+        const unsigned most = planes.largest(tips);
+        const unsigned tip = lowest(__builtin_bswap64(tips));
+        pairs += pairs_on(most);
+        left -= most;
+        size_t number = 0;
+        for (size_t word = 0; word < words; word++) {
+            uint64_t lines = job.count >= kManyLines ? lines_of.word(tip, word) : lines_by_looking(file, job.count, tip);
+            lines &= unplanned[word];
+            unplanned[word] ^= lines;
+            for (; lines != 0; lines &= lines - 1) {
+                const size_t line = 64 * word + lowest(lines);
+                plan[line] = static_cast<uint8_t>(tip);
+                taken[number++] = raw_set(file, line);
+            }
+        }
+        if (left != 0) {
+            memset(taken + number, 0, 8 * Planes::kBlock);
+            Planes gone;
+            gone.count(taken, number);
+            // No count of a later round is above that of this one.
+            planes.used = gone.used;
+            planes.take(gone);
+        }
+    }
+    return pairs;
+}
+
+/*
+ * The table of best sharing by length of the stretch and its first tip. A stretch of some length has left of its tip a
+ * stretch of d tips and right of it one of length - 1 - d, and of the lines within it those that are in neither allow
+ * the tip. All numbers stay below 2^24, where a float is exact, and the largest of two floats is one instruction.
+ *
+ * A stretch and its tip are one number, 128 * pairs + 63 - d, so that the largest is the lowest tip with the most
+ * pairs. With lines held eight times, (8 p - 4)^2 is 128 * p (p - 1) / 2 + 16.
+ */
+struct Stretches {
+    static constexpr size_t kStarts = 72;
+    typedef float Row[kStarts];
+
+    size_t rack;
+    // For each length: 8 * lines within; 128 * pairs; the same with what it adds as the left stretch; the whole number.
+    alignas(16) Row within[kMostTips + 1];
+    alignas(16) Row right[kMostTips + 1];
+    alignas(16) Row left[kMostTips + 1];
+    alignas(16) Row keys[kMostTips + 1];
+
+    explicit Stretches(size_t rack) : rack(rack) {}
+
+    int tip_of(int a, int b) const { return a + 63 - static_cast<int>(keys[b - a + 1][a]) % 128; }
+
+    void count(const uint64_t *sets, size_t count)
+    {
+        // Four stretches at a time reach past the last one.
+        for (size_t length = 0; length <= rack; length++) {
+            for (size_t a = 0; a < rack - length + 8; a += 4) {
+                _mm_store_ps(within[length] + a, _mm_setzero_ps());
+            }
+        }
+        for (size_t line = 0; line < count; line++) {
+            const unsigned first = lowest(sets[line]);
+            within[highest_of_run(sets[line]) - first + 1][first] += 8;
+        }
+    }
+
+    void fill()
+    {
+        for (size_t a = 0; a < kStarts; a++) {
+            left[0][a] = 63 - 16;
+            right[0][a] = 0;
+        }
+        for (size_t length = 1; length <= rack; length++) {
+            const __m128 as_left = _mm_set1_ps(63 - 16 - static_cast<float>(length));
+            const __m128i index = _mm_set1_epi32(127);
+            size_t a = 0;
+            for (; a <= rack - length; a += 4) {
+                __m128 lines = _mm_load_ps(within[length] + a);
+                if (length >= 2) {
+                    const float *const shorter = within[length - 1] + a;
+                    const __m128 either = _mm_add_ps(_mm_load_ps(shorter), _mm_loadu_ps(shorter + 1));
+                    lines = _mm_add_ps(lines, _mm_sub_ps(either, _mm_loadu_ps(within[length - 2] + a + 1)));
+                    _mm_store_ps(within[length] + a, lines);
+                }
+                const __m128 key = largest(length, a, _mm_sub_ps(lines, _mm_set1_ps(4)));
+                const __m128 most = _mm_cvtepi32_ps(_mm_andnot_si128(index, _mm_cvttps_epi32(key)));
+                _mm_store_ps(keys[length] + a, key);
+                _mm_store_ps(right[length] + a, most);
+                _mm_store_ps(left[length] + a, _mm_add_ps(most, as_left));
+            }
+            _mm_store_ps(right[length] + a, _mm_setzero_ps());
+        }
+    }
+
+    /* The largest number over the tips of each of four stretches. */
+    __m128 largest(size_t length, size_t a, __m128 lines) const
+    {
+        const float *const all_within = within[0];
+        const float *const all_left = left[0];
+        const float *const all_right = right[0];
+        size_t on_left = a;
+        size_t on_right = kStarts * (length - 1) + a + 1;
+        __m128 best = _mm_setzero_ps();
+#pragma GCC unroll 4
+        for (size_t d = 0; d < length; d++) {
+            const __m128 not_left = _mm_sub_ps(lines, _mm_load_ps(all_within + on_left));
+            const __m128 in_neither = _mm_sub_ps(not_left, _mm_loadu_ps(all_within + on_right));
+            const __m128 beside = _mm_add_ps(_mm_load_ps(all_left + on_left), _mm_loadu_ps(all_right + on_right));
+            best = _mm_max_ps(best, _mm_add_ps(_mm_mul_ps(in_neither, in_neither), beside));
+            on_left += kStarts;
+            on_right -= kStarts - 1;
+        }
+        return best;
+    }
+
+    void write(uint32_t *__restrict table) const
+    {
+        for (size_t a = 0; a < rack; a++) {
+            memset(table, 0, a * sizeof *table);
+            const float *most = right[1] + a;
+            for (size_t b = a; b < rack; b++) {
+                table[b] = static_cast<uint32_t>(static_cast<int32_t>(*most) / 128);
+                most += kStarts;
+            }
+            table += rack;
+        }
+    }
+};
+
+/* Best sharing without its table; gives the number of pairs. */
+uint32_t best(const uint64_t *sets, const Job &job, Stretches &stretches, uint8_t *plan)
+{
+    stretches.count(sets, job.count);
+    stretches.fill();
+    lay_best(sets, job.count, job.rack, [&](int a, int b) { return stretches.tip_of(a, b); }, plan);
+    return static_cast<uint32_t>(stretches.right[job.rack][0]) / 128;
+}
+
+}  // namespace
+
+extern "C" {
+
+uint32_t tuned_read(const uint8_t *file, size_t file_len, uint64_t *answer, size_t answer_len)
+{
+    if (answer_len < TIPSHARE_ANSWER_PLACES) {
+        return TIPSHARE_SHORT_ANSWER;
+    }
+    const Job job = check(file, file_len);
+    return answered(answer, job.number, job.line, job.rack, job.count, 0);
+}
+
+uint32_t tuned_common(const uint8_t *file, size_t file_len, uint64_t *answer, size_t answer_len)
+{
+    if (answer_len < TIPSHARE_ANSWER_PLACES) {
+        return TIPSHARE_SHORT_ANSWER;
+    }
+    const Job job = check(file, file_len);
+    if (job.number != TIPSHARE_ACCEPTED) {
+        return refused(answer, job.number, job.line);
+    }
+    Planes planes;
+    planes.count_file(file, job.count);
+    uint64_t tips;
+    const unsigned top = planes.largest(tips);
+    return answered(answer, TIPSHARE_ACCEPTED, 0, top, job.count - top, top == 0 ? 0 : __builtin_bswap64(tips));
+}
+
+uint32_t tuned_keep(const uint8_t *file, size_t file_len, uint16_t k, uint8_t *out, size_t out_len,
+                    uint64_t *answer, size_t answer_len)
+{
+    if (answer_len < TIPSHARE_ANSWER_PLACES) {
+        return TIPSHARE_SHORT_ANSWER;
+    }
+    const Job job = check(file, file_len);
+    if (job.number != TIPSHARE_ACCEPTED) {
+        return refused(answer, job.number, job.line);
+    }
+    Planes planes;
+    planes.count_file(file, job.count);
+    uint64_t tips;
+    const unsigned top = planes.largest(tips);
+    const int64_t margin = int64_t{top} - static_cast<int64_t>(job.count) + k;
+    if (margin < 0) {
+        return answered(answer, TIPSHARE_NO_PLAN, 0, static_cast<uint64_t>(margin), 0, 0);
+    }
+    if (out_len < file_len) {
+        return refused(answer, TIPSHARE_SHORT_OUTPUT);
+    }
+    if (margin > 0) {
+        memcpy(out, file, file_len);
+    } else {
+        memcpy(out, file, kHead);
+        strike(file, job.count, tips, out);
+    }
+    return answered(answer, TIPSHARE_ACCEPTED, 0, static_cast<uint64_t>(margin), file_len, 0);
+}
+
+uint32_t tuned_quick(const uint8_t *file, size_t file_len, uint8_t *plan, size_t plan_len, uint64_t *answer,
+                     size_t answer_len)
+{
+    if (answer_len < TIPSHARE_ANSWER_PLACES) {
+        return TIPSHARE_SHORT_ANSWER;
+    }
+    const Job job = check(file, file_len);
+    if (job.number != TIPSHARE_ACCEPTED) {
+        return refused(answer, job.number, job.line);
+    }
+    if (plan_len < job.count) {
+        return refused(answer, TIPSHARE_SHORT_PLAN);
+    }
+    Planes planes;
+    planes.count_file(file, job.count);
+    return answered(answer, TIPSHARE_ACCEPTED, 0, quick(file, job, planes, plan), 0, 0);
+}
+
+uint32_t tuned_best(const uint8_t *file, size_t file_len, uint8_t *plan, size_t plan_len, uint32_t *table,
+                    size_t table_len, uint64_t *answer, size_t answer_len)
+{
+    if (answer_len < TIPSHARE_ANSWER_PLACES) {
+        return TIPSHARE_SHORT_ANSWER;
+    }
+    uint64_t sets[kMostLines];
+    const Job job = read_sets(file, file_len, sets);
+    if (job.number != TIPSHARE_ACCEPTED) {
+        return refused(answer, job.number, job.line);
+    }
+    if (plan_len < job.count) {
+        return refused(answer, TIPSHARE_SHORT_PLAN);
+    }
+    if (table_len < job.rack * job.rack) {
+        return refused(answer, TIPSHARE_SHORT_TABLE);
+    }
+    const size_t no_run = first_no_run(sets, job.count);
+    if (no_run < job.count) {
+        return refused(answer, TIPSHARE_NO_RUN, no_run);
+    }
+    Stretches stretches(job.rack);
+    const uint32_t pairs = best(sets, job, stretches, plan);
+    stretches.write(table);
+    return answered(answer, TIPSHARE_ACCEPTED, 0, pairs, 0, 0);
+}
+
+size_t tuned_report(const uint8_t *file, size_t file_len, uint8_t *out, size_t out_len)
+{
+    if (out_len < TIPSHARE_REPORT_SPACE) {
+        return 0;
+    }
+    uint64_t sets[kMostLines];
+    const Job job = read_sets(file, report_length(file_len), sets);
+    if (job.number != TIPSHARE_ACCEPTED) {
+        return write_refusal(out, job.number);
+    }
+    uint8_t quick_plan[kMostLines];
+    uint8_t best_plan[kMostLines];
+    Planes planes;
+    planes.count_file(file, job.count);
+    uint64_t tips;
+    const unsigned top = planes.largest(tips);
+    Found found{};
+    found.off = static_cast<uint32_t>(job.count) - top;
+    found.common = top == 0 ? 0 : __builtin_bswap64(tips);
+    found.quick = quick(file, job, planes, quick_plan);
+    found.quick_plan = quick_plan;
+    found.runs = first_no_run(sets, job.count) == job.count;
+    if (found.runs) {
+        Stretches stretches(job.rack);
+        found.best = best(sets, job, stretches, best_plan);
+        found.best_plan = best_plan;
+    }
+    return write_report(out, job, found);
+}
+
+}  // extern "C"

@@ -1,0 +1,126 @@
+-- What the calls answer to a sound and closed board with buffers for the longest one, and the report made of their answers.
+use Prim.Native.Nat.{ℕ, _*_, _-_, _≤_}
+use mathlib.Core.Path.{_≡_, refl, ap, _∙_}
+use mathlib.Core.Logic.{⊎-elim}
+use mathlib.Core.Bool.{Bool, true, false, not, cond}
+use mathlib.Core.List.{List, _++_}
+use native.Mathlib.Omega.{arith}
+use lib.Dec.{T, ltb, eqb}
+use lib.ListN.{length, take, drop, length-map}
+use lib.Seq.{length-take-le, take-at}
+use borrow.Author.Tests.{lt-ltb, le-ltb}
+use Rattle.model.specs.Count.{each, firstFail}
+use Rattle.model.specs.Plan.{pairs}
+use Rattle.model.specs.CommonTip.{W}
+use Rattle.model.specs.Greedy.{quickPlan}
+use Rattle.model.specs.Interval.{isRun, C, bestPlan}
+use Rattle.model.proofs.Tests.{le-or-lt, true-T, T-true}
+use Rattle.model.proofs.Lists.{each-iff}
+use Rattle.job.proofs.Fails.{fails-none, none-fails}
+use Rattle.sound.proofs.Laws.{Sound, sound-iff}
+use Rattle.board.specs.declared.Stage.the-variants.{Closed}
+use Rattle.board.specs.declared.Refusal.{Refusal}
+use Rattle.board.specs.declared.Board.{Board}
+use Rattle.board.specs.declared.Common.{Common}
+use Rattle.board.specs.declared.Shared.{Shared}
+use Rattle.board.specs.Refusal.{none, orElse}
+use Rattle.board.specs.Board.{linesOf, sound}
+use Rattle.board.specs.Common.{topOf, commonOf}
+use Rattle.board.specs.Sharing.{sharedBy, lentBy, quickRefusal, quickOf, quickBuffer, notRun, runRefusal, bestRefusal, bestOf, bestBuffer}
+use Rattle.board.proofs.Sets.{lines-count}
+use Rattle.board.proofs.Refusals.{state-holds}
+use Rattle.board.proofs.SharingRule.{square-most}
+use Rattle.report.specs.Report.{Facts, pairsText, lineText, lineAt, bestText, reportOf}
+use Rattle.summary.specs.Summary.{factsOf}
+
+-- without runs the report does not tell the pairs and the plan of best sharing
+without-runs : (m o w p : ℕ) (quick : List ℕ) (x y : ℕ) (best other : List ℕ)
+    → reportOf (record { rack = m; off = o; tips = w; quickPairs = p; runs = false; bestPairs = x; quick = quick; best = best })
+    ≡ reportOf (record { rack = m; off = o; tips = w; quickPairs = p; runs = false; bestPairs = y; quick = quick; best = other })
+unfolding reportOf pairsText lineAt lineText bestText
+without-runs m o w p quick x y best other = refl
+
+module _ (b : Board) (full : length (b .sets) ≡ 512) (s : T (sound b)) (closed : b .stage ≡ Closed) where
+  known : Sound (b .rack) (b .count) (b .sets)
+  known = sound-iff (b .rack) (b .count) (b .sets) .0 s
+
+  pub few : b .count ≤ 512
+  few = known .count-most
+
+  lines : length (linesOf b) ≡ b .count
+  lines = lines-count b full few
+
+  common-answer : commonOf b ≡ record { board = b; number = 0; place = 0; top = topOf b; off = b .count - topOf b; tips = W (b .rack) (linesOf b) }
+  unfolding commonOf
+  common-answer = rw (state-holds Closed b s closed)
+
+  quick-accepts : quickRefusal b 512 ≡ none
+  unfolding quickRefusal orElse
+  quick-accepts = rw (state-holds Closed b s closed, le-ltb 512 (b .count) few)
+
+  quick-answer : quickOf b 512 ≡ record { board = b; number = 0; place = 0; pairs = pairs (quickPlan (b .rack) (linesOf b)) }
+  unfolding quickOf
+  quick-answer = rw quick-accepts
+
+  -- best sharing accepts where every line is a run; of its refusals only 25 is left
+  best-refuses : bestRefusal b 512 4096 ≡ cond (each isRun (linesOf b)) none (record { number = 25; place = notRun b })
+  unfolding bestRefusal orElse
+  best-refuses = rw (quick-accepts, le-ltb 4096 (b .rack * b .rack) (square-most (b .rack) (known .rack-most))) (by (each isRun (linesOf b)) refl)
+    where
+      by : (t : Bool) → each isRun (linesOf b) ≡ t → runRefusal b ≡ cond t none (record { number = 25; place = notRun b })
+      by true e = rw (le-ltb (notRun b) (b .count) (omega (arith, lines, fails-none isRun (each-iff isRun (linesOf b) .0 (T-true e)))))
+      by false e =
+          ⊎-elim (λ h. absurd (rw e at (each-iff isRun (linesOf b) .1 (none-fails isRun (linesOf b) (omega (arith, h, lines))))))
+          (λ h. rw (lt-ltb (notRun b) (b .count) h))
+          (le-or-lt (b .count) (notRun b))
+
+  quick-size : length (quickPlan (b .rack) (linesOf b)) ≡ b .count
+  unfolding quickPlan
+  quick-size = length-map (linesOf b) _ ∙ lines
+
+  best-size : length (bestPlan (b .rack) (linesOf b)) ≡ b .count
+  unfolding bestPlan
+  best-size = length-map (linesOf b) _ ∙ lines
+
+  module _ (p q cells : List ℕ) (p-size : length p ≡ 512) (q-size : length q ≡ 512) (places : length cells ≡ 4096) where
+    quick-plan : take (b .count) (quickBuffer b p) ≡ quickPlan (b .rack) (linesOf b)
+    unfolding quickBuffer
+    quick-plan = rw (p-size, quick-accepts) (take-at (quickPlan (b .rack) (linesOf b)) (drop (b .count) p) (b .count) quick-size)
+
+    -- the report made of the calls' answers and of the bytes of the lines in the plan buffers
+    pub same-report : {common : Common} {quick best : Shared} {quick-bytes best-bytes : List ℕ} → common ≡ commonOf b
+        → quick ≡ quickOf b (length p) → quick-bytes ≡ quickBuffer b p → best ≡ bestOf b (length q) (length cells) → best-bytes ≡ bestBuffer b q (length cells)
+        → reportOf (record {
+          rack = b .rack;
+          off = common .off;
+          tips = common .tips;
+          quickPairs = quick .pairs;
+          runs = eqb (best .number) 0;
+          bestPairs = best .pairs;
+          quick = take (b .count) quick-bytes;
+          best = take (b .count) best-bytes;
+        })
+        ≡ reportOf (factsOf b)
+    unfolding factsOf bestOf bestBuffer
+    same-report e f g h i = rw (e, f, g, h, i, p-size, q-size, places, common-answer, quick-answer, quick-plan, best-refuses) (by (each isRun (linesOf b)))
+      where
+        facts : Bool → ℕ → List ℕ → Facts
+        facts runs shared plan = record {
+          rack = b .rack;
+          off = b .count - topOf b;
+          tips = W (b .rack) (linesOf b);
+          quickPairs = pairs (quickPlan (b .rack) (linesOf b));
+          runs = runs;
+          bestPairs = shared;
+          quick = quickPlan (b .rack) (linesOf b);
+          best = plan;
+        }
+
+        by : (t : Bool) → (
+            let r : Refusal = cond t none (record { number = 25; place = notRun b }) in
+            let a = sharedBy b r (C (linesOf b) 0 (b .rack)) in
+            reportOf (facts (eqb (a .number) 0) (a .pairs) (take (b .count) (lentBy r (b .count) (bestPlan (b .rack) (linesOf b)) q)))
+            ≡ reportOf (facts t (C (linesOf b) 0 (b .rack)) (bestPlan (b .rack) (linesOf b)))
+            )
+        by true = rw (take-at (bestPlan (b .rack) (linesOf b)) (drop (b .count) q) (b .count) best-size)
+        by false = without-runs _ _ _ _ _ _ _ _ _
