@@ -36,7 +36,8 @@ struct Library {
 const Library kLibraries[] = {
     {"tipshare", "proved", tipshare_read, tipshare_common, tipshare_keep, tipshare_quick, tipshare_best,
      tipshare_report},
-    {"baseline", "same steps", baseline_read, baseline_common, baseline_keep, baseline_quick, baseline_best, baseline_report},
+    {"baseline", "same steps", baseline_read, baseline_common, baseline_keep, baseline_quick, baseline_best,
+     baseline_report},
     {"tuned", "tuned", tuned_read, tuned_common, tuned_keep, tuned_quick, tuned_best, tuned_report},
 };
 constexpr size_t kNumber = std::size(kLibraries);
@@ -402,6 +403,21 @@ int run_for_counting(const std::string &call, const std::string &board, const st
     return 2;
 }
 
+/* Whether the call and the board asked for are among those of the main table. */
+bool is_known(const Settings &settings)
+{
+    const std::vector<Boards> all = main_boards();
+    for (const NamedCall &named : kCalls) {
+        for (const Boards &boards : all) {
+            if (is_measured(named, boards, settings) &&
+                (settings.only_board.empty() || settings.only_board == boards.name)) {
+                return true;
+            }
+        }
+    }
+    return false;
+}
+
 /* The calls and boards of the main table, a pair a line. */
 int list()
 {
@@ -457,6 +473,9 @@ int main(int argc, char **argv)
         } else {
             return usage();
         }
+    }
+    if (!is_known(settings)) {
+        return usage();
     }
     Output output(settings.json);
     if (!settings.json) {

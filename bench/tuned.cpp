@@ -280,7 +280,8 @@ uint32_t quick(const uint8_t *file, const Job &job, Planes &planes, uint8_t *__r
         left -= most;
         size_t number = 0;
         for (size_t word = 0; word < words; word++) {
-            uint64_t lines = job.count >= kManyLines ? lines_of.word(tip, word) : lines_by_looking(file, job.count, tip);
+            const bool many = job.count >= kManyLines;
+            uint64_t lines = many ? lines_of.word(tip, word) : lines_by_looking(file, job.count, tip);
             lines &= unplanned[word];
             unplanned[word] ^= lines;
             for (; lines != 0; lines &= lines - 1) {

@@ -17,13 +17,13 @@ use Rattle.model.proofs.Tests.{le-or-lt, T-true, cond-case}
 use Rattle.model.proofs.CommonTip.{W-tips, least-off, within-iff}
 use Rattle.model.proofs.Exact.{prune-exact, prune-level, prune-else}
 use Rattle.sound.proofs.Laws.{Sound, sound-iff}
-use Rattle.board.specs.declared.Stage.the-variants.{Closed}
-use Rattle.board.specs.declared.Refusal.{Refusal}
+use Rattle.state.specs.declared.Stage.the-variants.{Closed}
+use Rattle.state.specs.declared.Refusal.{Refusal}
 use Rattle.board.specs.declared.Board.{Board}
 use Rattle.board.specs.declared.Common.{Common}
 use Rattle.board.specs.declared.Kept.{Kept}
 use Rattle.board.specs.Refusal.{accepts, orElse, when}
-use Rattle.board.specs.Board.{linesOf, sound, stateRefusal}
+use Rattle.board.specs.Board.{linesOf, sound, held, stateRefusal}
 use Rattle.board.specs.Common.{topOf, commonOf, CommonRule, marginOf, isNegative, keepRefusal, keptBoard, keepOf, KeepRule}
 use Rattle.board.proofs.Margin.{negative-iff, zero-iff}
 use Rattle.board.proofs.Sets.{lines-count}
@@ -40,23 +40,23 @@ module _ (b : Board) (full : length (b .sets) ≡ 512) where
       r : Refusal
       r = stateRefusal Closed b
 
-      known : (commonOf b) .number ≡ 0 → Ready Closed b × (commonOf b ≡ record { board = b; number = 0; place = 0; top = topOf b; off = b .count - topOf b; tips = W (b .rack) (linesOf b) })
-      known z = let q = by-number r (λ (x : Common). x .number) _ _ refl z in (state-none Closed b q, accepted _ _ {d = r} refl q)
+      known : (commonOf b) .number ≡ 0 → Ready Closed (held b) × (commonOf b ≡ record { board = b; number = 0; place = 0; top = topOf b; off = b .count - topOf b; tips = W (b .rack) (linesOf b) })
+      known z = let q = by-number r (λ (x : Common). x .number) _ _ refl z in (state-none Closed (held b) q, accepted _ _ {d = r} refl q)
 
 module _ (b : Board) (k : ℕ) (full : length (b .sets) ≡ 512) where
   keep : Refusal
   keep = keepRefusal b k
 
   -- what is known where keep is accepted: the board is sound and closed, and some plan is within k
-  keep-none : keep .number ≡ 0 → Ready Closed b × (length (linesOf b) ≤ topOf b + k)
+  keep-none : keep .number ≡ 0 → Ready Closed (held b) × (length (linesOf b) ≤ topOf b + k)
   unfolding keep keepRefusal
   keep-none z =
       let (state, below) = or-none (stateRefusal Closed b) (when (isNegative (marginOf b k)) 26) z in
       let f : isNegative (marginOf b k) ≡ false = when-none (isNegative (marginOf b k)) 26 (λ y. omega arith) below in
-      (state-none Closed b state, ⊎-elim (λ h. h) (λ h. absurd (true≢false (sym (negative-iff (b .rack) (linesOf b) k .1 h) ∙ f))) (le-or-lt (length (linesOf b)) (topOf b + k)))
+      (state-none Closed (held b) state, ⊎-elim (λ h. h) (λ h. absurd (true≢false (sym (negative-iff (b .rack) (linesOf b) k .1 h) ∙ f))) (le-or-lt (length (linesOf b)) (topOf b + k)))
 
   -- the lines of the pruned board are the pruned lines, and those after them are as they were
-  module _ (r : Ready Closed b) (h : length (linesOf b) ≤ topOf b + k) where
+  module _ (r : Ready Closed (held b)) (h : length (linesOf b) ≤ topOf b + k) where
     exact : Exact (b .rack) (linesOf b) k (prune (b .rack) (linesOf b) k)
     exact = prune-exact k (r .sound .rack-least) (r .sound .domains) h
 
@@ -87,7 +87,7 @@ module _ (b : Board) (k : ℕ) (full : length (b .sets) ≡ 512) where
       let d = sound-iff (b .rack) (b .count) (b .sets) .0 s in
       let some = within-iff (d .rack-least) (d .domains) k in
       let neg = negative-iff (b .rack) (linesOf b) k in
-      rw (state-holds Closed b s e) (
+      rw (state-holds Closed (held b) s e) (
         λ z plan v w. omega (arith, neg .0 (when-taken (isNegative (marginOf b k)) 26 (omega (arith, z))), some .0 (plan, v, w)),
         λ f. rw (neg .1 (⊎-elim (λ h. let (plan, v, w) = some .1 h in absurd (f plan v w)) (λ h. h) (le-or-lt (length (linesOf b)) (topOf b + k)))) refl,
       )

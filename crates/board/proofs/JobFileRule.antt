@@ -3,10 +3,9 @@ use Prim.Native.Nat.{ℕ, zero, suc, _≤_, _<_}
 use mathlib.Core.Path.{_≡_, refl, sym, ap, ap₂, _∙_}
 use mathlib.Core.List.{List, _∷_, _++_}
 use native.Mathlib.Omega.{arith}
-use lib.Dec.{T, T-not, eqb→eq, ltb}
+use lib.Dec.{T, T-not, eqb→eq}
 use lib.ListN.{length, take, drop, getD, replicate, length-replicate, length-drop, take-append-drop, List·getD-append}
 use lib.Seq.{take-at, drop-at}
-use borrow.Author.Tests.{ltb-false}
 use Rattle.model.specs.Count.{All, none, more, firstFail}
 use Rattle.model.specs.Plan.{isEmpty, isDomain}
 use Rattle.model.proofs.Lists.{all-drop, each-iff}
@@ -15,16 +14,16 @@ use Rattle.job.proofs.Fails.{fails-at, set-number}
 use Rattle.job.proofs.Header.{good-header}
 use Rattle.job.proofs.Reading.{length-setsIn, length-fileOf, read-refused, read-bad, read-clean, read-iff, rack-of-file, count-of-file, sets-of-file, read-of-file, file-again}
 use Rattle.sound.proofs.Laws.{sound-iff}
-use Rattle.board.specs.declared.Stage.the-variants.{Closed}
-use Rattle.board.specs.declared.Refusal.{Refusal}
+use Rattle.state.specs.declared.Stage.the-variants.{Closed}
+use Rattle.state.specs.declared.Refusal.{Refusal}
 use Rattle.board.specs.declared.Board.{Board}
 use Rattle.board.specs.declared.Answer.{Answer}
 use Rattle.board.specs.declared.Written.{Written}
-use Rattle.board.specs.Refusal.{none as unrefused, when}
-use Rattle.board.specs.Board.{linesOf, sound, stateRefusal, answer, noSets, emptyBoard}
+use Rattle.board.specs.Refusal.{none as unrefused}
+use Rattle.board.specs.Board.{linesOf, sound, held, answer, noSets, emptyBoard}
 use Rattle.board.specs.JobFile.{readRefusal, boardIn, readOf, ReadRule, writeRefusal, writeOf, writeBuffer, WriteRule}
 use Rattle.board.proofs.Sets.{lines-count}
-use Rattle.board.proofs.Refusals.{Ready, state-none, or-none, when-none, refused, accepted, by-number}
+use Rattle.board.proofs.Refusals.{Ready, write-known, refused, accepted, by-number}
 
 -- ---- empty sets
 
@@ -51,7 +50,7 @@ same-empty (more t ts) none e = absurd (omega arith)
 same-empty (more {x} t ts) (more {x = y} u us) e = ap₂ _∷_ (eqb→eq x 0 t ∙ sym (eqb→eq y 0 u)) (same-empty ts us (omega arith))
 
 -- the sets of a sound board after its lines are those of a board without lines
-rest-empty : (b : Board) → length (b .sets) ≡ 512 → Ready Closed b → drop (b .count) (b .sets) ≡ drop (b .count) noSets
+rest-empty : (b : Board) → length (b .sets) ≡ 512 → Ready Closed (held b) → drop (b .count) (b .sets) ≡ drop (b .count) noSets
 rest-empty b full r =
     let n = b .count in
     same-empty (each-iff isEmpty (drop n (b .sets)) .0 (r .sound .rest)) (all-drop n no-sets-empty) (length-drop n (b .sets) ∙ omega (arith, full, length-no-sets, length-drop n noSets))
@@ -129,18 +128,10 @@ module _ (file : List ℕ) where
 
 -- ---- writing
 
--- what is known where writing is not refused: the board is sound and closed, and the output has room for the file
-pub write-known : {b : Board} {room : ℕ} {d : Refusal} → d ≡ writeRefusal b room → d .number ≡ 0 → Ready Closed b × (fileLength (b .count) ≤ room)
-unfolding writeRefusal
-write-known {b} {room} e z =
-    let short = ltb room (fileLength (b .count)) in
-    let (state, long) = or-none (stateRefusal Closed b) (when short 11) (ap (λ r. r .number) (sym e) ∙ z) in
-    (state-none Closed b state, ltb-false room (fileLength (b .count)) (when-none short 11 (λ y. omega arith) long))
-
 abbrev file : Board → List ℕ
 file b = fileOf (b .rack) (linesOf b)
 
-module _ (b : Board) (full : length (b .sets) ≡ 512) (r : Ready Closed b) where
+module _ (b : Board) (full : length (b .sets) ≡ 512) (r : Ready Closed (held b)) where
   few : length (linesOf b) ≡ b .count
   few = lines-count b full (r .sound .count-most)
 

@@ -8,10 +8,10 @@ use Rattle.model.specs.CommonTip.{setOf, top, W, margin, covers, narrowed, kept
 use Rattle.model.specs.Greedy.{busiest, rounds, first, quickPlan}
 use Rattle.model.specs.Interval.{low, high, isRun, lies, inside, most, C, tipBy, lowestPick, bestPlan, table}
 use Rattle.sound.specs.Sound.{countOk, soundSets}
-use Rattle.board.specs.Refusal.{orElse}
-use Rattle.board.specs.Board.{stageRefusal, stateRefusal}
+use Rattle.state.specs.Refusal.{orElse}
+use Rattle.state.specs.State.{stageRefusal, stateRefusal, quickRefusal, bestRefusal}
 use Rattle.board.specs.Common.{commonOf, keepRefusal, keepOf}
-use Rattle.board.specs.Sharing.{quickRefusal, quickOf, quickBuffer, bestRefusal, bestOf, bestBuffer, bestTable}
+use Rattle.board.specs.Sharing.{quickOf, quickBuffer, bestOf, bestBuffer, bestTable}
 use Rattle.board.specs.Rows.{run, rows, Right}
 
 pub starred : Right rows

@@ -3,16 +3,17 @@ use Prim.Native.Nat.{ℕ}
 use mathlib.Core.Path.{_≡_}
 use mathlib.Core.Bool.{cond}
 use mathlib.Core.List.{List, _++_}
-use lib.Dec.{T, ltb}
+use lib.Dec.{T}
 use lib.ListN.{length, take, drop}
 use Rattle.job.specs.Job.{rackIn, countIn, setsIn, readNumber, readPlace, fileLength, fileOf}
-use Rattle.board.specs.declared.Stage.the-variants.{Closed}
-use Rattle.board.specs.declared.Refusal.{Refusal}
+use Rattle.state.specs.declared.Stage.the-variants.{Closed}
+use Rattle.state.specs.declared.Refusal.{Refusal}
+use Rattle.state.specs.State
 use Rattle.board.specs.declared.Board.{Board}
 use Rattle.board.specs.declared.Answer.{Answer}
 use Rattle.board.specs.declared.Written.{Written}
-use Rattle.board.specs.Refusal.{none, accepts, orElse, when}
-use Rattle.board.specs.Board.{linesOf, sound, stateRefusal, answer, noSets, emptyBoard}
+use Rattle.board.specs.Refusal.{none, accepts}
+use Rattle.board.specs.Board.{linesOf, sound, held, answer, noSets, emptyBoard}
 use Rattle.board.specs.Sharing.{lentBy}
 
 abbrev pub readRefusal : List ℕ → Refusal
@@ -34,9 +35,9 @@ pub record ReadRule (file : List ℕ) (r : Answer) : Type 0 where
   pub gives-closed : r .number ≡ 0 → r .board .stage ≡ Closed
   pub writes-back : r .number ≡ 0 → fileOf (r .board .rack) (linesOf (r .board)) ≡ file
 
--- write: the state, then an output of room bytes that is shorter than the file
-unfoldable pub writeRefusal : Board → ℕ → Refusal
-writeRefusal b room = orElse (stateRefusal Closed b) (when (ltb room (fileLength (b .count))) 11)
+-- write's refusals, where the output has room bytes
+abbrev pub writeRefusal : Board → ℕ → Refusal
+writeRefusal b room = State.writeRefusal (held b) room
 
 unfoldable pub writeOf : Board → ℕ → Written
 writeOf b room =

@@ -3,18 +3,16 @@ use Prim.Native.Nat.{ℕ, _*_, _≤_}
 use mathlib.Core.Path.{_≡_}
 use mathlib.Core.Bool.{cond}
 use mathlib.Core.List.{List, _++_}
-use lib.Dec.{ltb}
 use lib.ListN.{length, take, drop}
-use Rattle.model.specs.Count.{firstFail}
 use Rattle.model.specs.Plan.{Valid, pairs}
 use Rattle.model.specs.Greedy.{quickPlan}
-use Rattle.model.specs.Interval.{isRun, C, bestPlan, table}
-use Rattle.board.specs.declared.Stage.the-variants.{Closed}
-use Rattle.board.specs.declared.Refusal.{Refusal}
+use Rattle.model.specs.Interval.{C, bestPlan, table}
+use Rattle.state.specs.declared.Refusal.{Refusal}
+use Rattle.state.specs.State
 use Rattle.board.specs.declared.Board.{Board}
 use Rattle.board.specs.declared.Shared.{Shared}
-use Rattle.board.specs.Refusal.{none, accepts, orElse, when}
-use Rattle.board.specs.Board.{linesOf, stateRefusal}
+use Rattle.board.specs.Refusal.{accepts}
+use Rattle.board.specs.Board.{linesOf, held}
 
 -- an answer with pairs; after a refusal there are 0
 abbrev pub sharedBy : Board → Refusal → ℕ → Shared
@@ -24,9 +22,9 @@ sharedBy b r shared = cond (accepts r) (record { board = b; number = 0; place = 
 abbrev pub lentBy : Refusal → ℕ → List ℕ → List ℕ → List ℕ
 lentBy r n new old = cond (accepts r) (new ++ drop n old) old
 
--- quick: the state, then a plan buffer of room bytes that is shorter than n
-unfoldable pub quickRefusal : Board → ℕ → Refusal
-quickRefusal b room = orElse (stateRefusal Closed b) (when (ltb room (b .count)) 4)
+-- quick's refusals, where the plan buffer has room bytes
+abbrev pub quickRefusal : Board → ℕ → Refusal
+quickRefusal b room = State.quickRefusal (held b) room
 
 unfoldable pub quickOf : Board → ℕ → Shared
 quickOf b room = sharedBy b (quickRefusal b room) (pairs (quickPlan (b .rack) (linesOf b)))
@@ -34,17 +32,9 @@ quickOf b room = sharedBy b (quickRefusal b room) (pairs (quickPlan (b .rack) (l
 unfoldable pub quickBuffer : Board → List ℕ → List ℕ
 quickBuffer b plan = lentBy (quickRefusal b (length plan)) (b .count) (quickPlan (b .rack) (linesOf b)) plan
 
--- the first line that is no run; the number of lines where each is one
-abbrev pub notRun : Board → ℕ
-notRun b = firstFail isRun (linesOf b)
-
--- some line is no run: the place is the first such line
-abbrev pub runRefusal : Board → Refusal
-runRefusal b = cond (ltb (notRun b) (b .count)) (record { number = 25; place = notRun b }) none
-
--- best: quick's refusals, then a table shorter than m * m places, then a line that is no run
-unfoldable pub bestRefusal : Board → ℕ → ℕ → Refusal
-bestRefusal b room places = orElse (quickRefusal b room) (orElse (when (ltb places (b .rack * b .rack)) 5) (runRefusal b))
+-- best's refusals, where the plan buffer has room bytes and the table has the places
+abbrev pub bestRefusal : Board → ℕ → ℕ → Refusal
+bestRefusal b room places = State.bestRefusal (held b) room places
 
 unfoldable pub bestOf : Board → ℕ → ℕ → Shared
 bestOf b room places = sharedBy b (bestRefusal b room places) (C (linesOf b) 0 (b .rack))

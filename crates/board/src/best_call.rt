@@ -1,45 +1,13 @@
 // Best sharing of a closed board whose lines are runs.
 use crate::Board;
-use crate::Refusal;
 use crate::Shared;
-use crate::Stage;
-use crate::quick_call::plan_refusal;
-use crate::refuse;
 ghost use mathlib.Core.Path.{_≡_};
 ghost use mathlib.Core.List.{_++_};
 ghost use Prim.Native.Nat.{_*_, _≤_};
 ghost use lib.ListN.{length, take, drop};
 ghost use Rattle.model.specs.Interval.{C, bestPlan, table as tableOf};
 ghost use Rattle.interval.specs.Cells.{Runs};
-ghost use Rattle.board.specs.Sharing.{bestRefusal, bestOf, bestBuffer, bestTable, BestRule};
-
-fn best_refusal(
-    rack: usize,
-    stage: Stage,
-    count: usize,
-    sets: &[u64],
-    room: usize,
-    places: usize,
-) -> Refusal
-    requires { ⌜ length (now sets) ≡ 512 ⌝ }
-    ensures { λ r. ⌜ r ≡ bestRefusal (record { rack = rack; stage = stage; count = count; sets = now (sets .entry) }) room places ⌝ }
-{
-    let plan = plan_refusal(rack, stage, count, sets, room);
-    if plan.number != 0 {
-        return plan;
-    }
-    if places < rack * rack {
-        return refuse(5);
-    }
-    let at = spans::first_not_run(&sets[..count]);
-    if at < count {
-        return Refusal {
-            number: 25,
-            place: at,
-        };
-    }
-    refuse(0)
-}
+ghost use Rattle.board.specs.Sharing.{bestOf, bestBuffer, bestTable, BestRule};
 
 // Best sharing of the first lines of a board's sets, at the front of both buffers.
 fn best_lines(rack: usize, count: usize, sets: &[u64], plan: &mut [u8], table: &mut [u32]) -> u32
@@ -65,7 +33,7 @@ impl Board {
         ensures rule { λ r. ⌜ BestRule self (now (plan .exit)) r ⌝ }
     {
         let count = self.count;
-        let refusal = best_refusal(
+        let refusal = state::best_refusal(
             self.rack,
             self.stage,
             count,

@@ -3,7 +3,6 @@ use crate::Board;
 use crate::Common;
 use crate::Kept;
 use crate::Stage;
-use crate::state_refusal;
 use common::Busiest;
 ghost use mathlib.Core.Path.{_≡_};
 ghost use Prim.Native.Nat.{_≤_};
@@ -26,7 +25,7 @@ impl Board {
         ensures rule { λ r. ⌜ CommonRule self r ⌝ }
     {
         let count = self.count;
-        let refusal = state_refusal(Stage::Closed, self.rack, self.stage, count, &self.sets);
+        let refusal = state::state_refusal(Stage::Closed, self.rack, self.stage, count, &self.sets);
         if refusal.number != 0 {
             return Common {
                 board: self,
@@ -54,7 +53,7 @@ impl Board {
     {
         let count = self.count;
         let rack = self.rack;
-        let refusal = state_refusal(Stage::Closed, rack, self.stage, count, &self.sets);
+        let refusal = state::state_refusal(Stage::Closed, rack, self.stage, count, &self.sets);
         if refusal.number != 0 {
             return Kept {
                 board: self,

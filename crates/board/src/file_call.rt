@@ -1,19 +1,16 @@
 // Reading and writing a job file.
 use crate::Answer;
 use crate::Board;
-use crate::Refusal;
 use crate::Stage;
 use crate::Written;
 use crate::no_sets;
-use crate::refuse;
-use crate::state_refusal;
 ghost use mathlib.Core.Path.{_≡_};
 ghost use mathlib.Core.List.{_++_};
 ghost use Prim.Native.Nat.{_≤_};
 ghost use lib.ListN.{length, take, drop};
 ghost use Rattle.job.specs.Job.{fileLength, fileOf};
 ghost use Rattle.board.specs.Board.{answer, emptyBoard};
-ghost use Rattle.board.specs.JobFile.{readOf, ReadRule, writeRefusal, writeOf, writeBuffer, WriteRule};
+ghost use Rattle.board.specs.JobFile.{readOf, ReadRule, writeOf, writeBuffer, WriteRule};
 
 // A refused read: an open board of rack 1 without lines.
 fn refused_read(number: u32, place: usize) -> Answer
@@ -31,20 +28,6 @@ fn refused_read(number: u32, place: usize) -> Answer
         number,
         place,
     }
-}
-
-fn write_refusal(rack: usize, stage: Stage, count: usize, sets: &[u64], room: usize) -> Refusal
-    requires { ⌜ length (now sets) ≡ 512 ⌝ }
-    ensures { λ r. ⌜ r ≡ writeRefusal (record { rack = rack; stage = stage; count = count; sets = now (sets .entry) }) room ⌝ }
-{
-    let state = state_refusal(Stage::Closed, rack, stage, count, sets);
-    if state.number != 0 {
-        return state;
-    }
-    if room < job::file_length(count) {
-        return refuse(11);
-    }
-    refuse(0)
 }
 
 // The file of the first lines of a board's sets, at the front of the output.
@@ -94,7 +77,7 @@ impl Board {
         ensures rule { λ r. ⌜ WriteRule self (now (out .exit)) r ⌝ }
     {
         let count = self.count;
-        let refusal = write_refusal(self.rack, self.stage, count, &self.sets, out.len());
+        let refusal = state::write_refusal(self.rack, self.stage, count, &self.sets, out.len());
         if refusal.number != 0 {
             return Written {
                 board: self,

@@ -1,18 +1,13 @@
 // The board of a rack of tips: its record, and the calls that open it, add a line and close it.
 ghost use mathlib.Core.Path.{_≡_};
-ghost use lib.ListN.{length};
-ghost use Rattle.board.specs.Refusal.{refuse};
-ghost use Rattle.board.specs.Board.{stageRefusal, stateRefusal, addRefusal, noSets, openOf, addOf, closeOf};
+ghost use Rattle.board.specs.Board.{noSets, openOf, addOf, closeOf};
 
 mod best_call;
 mod common_call;
 mod file_call;
 mod quick_call;
 
-pub enum Stage {
-    Open,
-    Closed,
-}
+pub use state::Stage;
 
 // The sets of the lines are the first `count`; a sound board has empty sets behind them.
 pub struct Board {
@@ -63,61 +58,10 @@ pub struct Written {
     pub bytes: usize,
 }
 
-pub struct Refusal {
-    pub number: u32,
-    pub place: usize,
-}
-
-fn refuse(number: u32) -> Refusal
-    ensures { λ r. ⌜ r ≡ refuse number ⌝ }
-{
-    Refusal { number, place: 0 }
-}
-
 fn no_sets() -> [u64; 512]
     ensures { λ r. ⌜ r ≡ noSets ⌝ }
 {
     [0u64; 512]
-}
-
-fn stage_refusal(asked: Stage, stage: Stage) -> Refusal
-    ensures { λ r. ⌜ r ≡ stageRefusal asked stage ⌝ }
-{
-    match asked {
-        Stage::Open => match stage {
-            Stage::Open => refuse(0),
-            Stage::Closed => refuse(22),
-        },
-        Stage::Closed => match stage {
-            Stage::Open => refuse(23),
-            Stage::Closed => refuse(0),
-        },
-    }
-}
-
-// The refusals because of the board's state, in one place for every call.
-fn state_refusal(asked: Stage, rack: usize, stage: Stage, count: usize, sets: &[u64]) -> Refusal
-    requires { ⌜ length (now sets) ≡ 512 ⌝ }
-    ensures { λ r. ⌜ r ≡ stateRefusal asked (record { rack = rack; stage = stage; count = count; sets = now (sets .entry) }) ⌝ }
-{
-    if !sound::is_sound(rack, count, sets) {
-        return refuse(21);
-    }
-    stage_refusal(asked, stage)
-}
-
-fn add_refusal(rack: usize, stage: Stage, count: usize, sets: &[u64], set: u64) -> Refusal
-    requires { ⌜ length (now sets) ≡ 512 ⌝ }
-    ensures { λ r. ⌜ r ≡ addRefusal (record { rack = rack; stage = stage; count = count; sets = now (sets .entry) }) set ⌝ }
-{
-    let state = state_refusal(Stage::Open, rack, stage, count, sets);
-    if state.number != 0 {
-        return state;
-    }
-    if count == 512 {
-        return refuse(24);
-    }
-    refuse(job::set_number(rack, set))
 }
 
 impl Board {
@@ -155,7 +99,7 @@ impl Board {
         ensures { λ r. ⌜ r ≡ addOf self set ⌝ }
     {
         let count = self.count;
-        let refusal = add_refusal(self.rack, self.stage, count, &self.sets, set);
+        let refusal = state::add_refusal(self.rack, self.stage, count, &self.sets, set);
         if refusal.number != 0 {
             return Answer {
                 board: self,
@@ -176,7 +120,7 @@ impl Board {
         ensures { λ r. ⌜ r ≡ closeOf self ⌝ }
     {
         let stage = self.stage;
-        let refusal = state_refusal(Stage::Open, self.rack, stage, self.count, &self.sets);
+        let refusal = state::state_refusal(Stage::Open, self.rack, stage, self.count, &self.sets);
         if refusal.number != 0 {
             return Answer {
                 board: self,

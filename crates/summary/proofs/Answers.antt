@@ -18,18 +18,18 @@ use Rattle.model.proofs.Tests.{le-or-lt, true-T, T-true}
 use Rattle.model.proofs.Lists.{each-iff}
 use Rattle.job.proofs.Fails.{fails-none, none-fails}
 use Rattle.sound.proofs.Laws.{Sound, sound-iff}
-use Rattle.board.specs.declared.Stage.the-variants.{Closed}
-use Rattle.board.specs.declared.Refusal.{Refusal}
+use Rattle.state.specs.declared.Stage.the-variants.{Closed}
+use Rattle.state.specs.declared.Refusal.{Refusal}
 use Rattle.board.specs.declared.Board.{Board}
 use Rattle.board.specs.declared.Common.{Common}
 use Rattle.board.specs.declared.Shared.{Shared}
-use Rattle.board.specs.Refusal.{none, orElse}
-use Rattle.board.specs.Board.{linesOf, sound}
+use Rattle.state.specs.Refusal.{none, orElse}
+use Rattle.state.specs.State.{quickRefusal, notRun, runRefusal, bestRefusal}
+use Rattle.board.specs.Board.{held, linesOf, sound}
 use Rattle.board.specs.Common.{topOf, commonOf}
-use Rattle.board.specs.Sharing.{sharedBy, lentBy, quickRefusal, quickOf, quickBuffer, notRun, runRefusal, bestRefusal, bestOf, bestBuffer}
+use Rattle.board.specs.Sharing.{sharedBy, lentBy, quickOf, quickBuffer, bestOf, bestBuffer}
 use Rattle.board.proofs.Sets.{lines-count}
-use Rattle.board.proofs.Refusals.{state-holds}
-use Rattle.board.proofs.SharingRule.{square-most}
+use Rattle.state.proofs.Refusals.{square-most, state-holds}
 use Rattle.report.specs.Report.{Facts, pairsText, lineText, lineAt, bestText, reportOf}
 use Rattle.summary.specs.Summary.{factsOf}
 
@@ -52,27 +52,27 @@ module _ (b : Board) (full : length (b .sets) ≡ 512) (s : T (sound b)) (closed
 
   common-answer : commonOf b ≡ record { board = b; number = 0; place = 0; top = topOf b; off = b .count - topOf b; tips = W (b .rack) (linesOf b) }
   unfolding commonOf
-  common-answer = rw (state-holds Closed b s closed)
+  common-answer = rw (state-holds Closed (held b) s closed)
 
-  quick-accepts : quickRefusal b 512 ≡ none
+  quick-accepts : quickRefusal (held b) 512 ≡ none
   unfolding quickRefusal orElse
-  quick-accepts = rw (state-holds Closed b s closed, le-ltb 512 (b .count) few)
+  quick-accepts = rw (state-holds Closed (held b) s closed, le-ltb 512 (b .count) few)
 
   quick-answer : quickOf b 512 ≡ record { board = b; number = 0; place = 0; pairs = pairs (quickPlan (b .rack) (linesOf b)) }
   unfolding quickOf
   quick-answer = rw quick-accepts
 
   -- best sharing accepts where every line is a run; of its refusals only 25 is left
-  best-refuses : bestRefusal b 512 4096 ≡ cond (each isRun (linesOf b)) none (record { number = 25; place = notRun b })
+  best-refuses : bestRefusal (held b) 512 4096 ≡ cond (each isRun (linesOf b)) none (record { number = 25; place = notRun (held b) })
   unfolding bestRefusal orElse
   best-refuses = rw (quick-accepts, le-ltb 4096 (b .rack * b .rack) (square-most (b .rack) (known .rack-most))) (by (each isRun (linesOf b)) refl)
     where
-      by : (t : Bool) → each isRun (linesOf b) ≡ t → runRefusal b ≡ cond t none (record { number = 25; place = notRun b })
-      by true e = rw (le-ltb (notRun b) (b .count) (omega (arith, lines, fails-none isRun (each-iff isRun (linesOf b) .0 (T-true e)))))
+      by : (t : Bool) → each isRun (linesOf b) ≡ t → runRefusal (held b) ≡ cond t none (record { number = 25; place = notRun (held b) })
+      by true e = rw (le-ltb (notRun (held b)) (b .count) (omega (arith, lines, fails-none isRun (each-iff isRun (linesOf b) .0 (T-true e)))))
       by false e =
           ⊎-elim (λ h. absurd (rw e at (each-iff isRun (linesOf b) .1 (none-fails isRun (linesOf b) (omega (arith, h, lines))))))
-          (λ h. rw (lt-ltb (notRun b) (b .count) h))
-          (le-or-lt (b .count) (notRun b))
+          (λ h. rw (lt-ltb (notRun (held b)) (b .count) h))
+          (le-or-lt (b .count) (notRun (held b)))
 
   quick-size : length (quickPlan (b .rack) (linesOf b)) ≡ b .count
   unfolding quickPlan
@@ -117,7 +117,7 @@ module _ (b : Board) (full : length (b .sets) ≡ 512) (s : T (sound b)) (closed
         }
 
         by : (t : Bool) → (
-            let r : Refusal = cond t none (record { number = 25; place = notRun b }) in
+            let r : Refusal = cond t none (record { number = 25; place = notRun (held b) }) in
             let a = sharedBy b r (C (linesOf b) 0 (b .rack)) in
             reportOf (facts (eqb (a .number) 0) (a .pairs) (take (b .count) (lentBy r (b .count) (bestPlan (b .rack) (linesOf b)) q)))
             ≡ reportOf (facts t (C (linesOf b) 0 (b .rack)) (bestPlan (b .rack) (linesOf b)))

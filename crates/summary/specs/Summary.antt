@@ -10,7 +10,7 @@ use Rattle.model.specs.Plan.{pairs}
 use Rattle.model.specs.CommonTip.{W}
 use Rattle.model.specs.Greedy.{quickPlan}
 use Rattle.model.specs.Interval.{isRun, C, bestPlan}
-use Rattle.board.specs.declared.Stage.the-variants.{Closed}
+use Rattle.state.specs.declared.Stage.the-variants.{Closed}
 use Rattle.board.specs.declared.Board.{Board}
 use Rattle.board.specs.Board.{linesOf, sound}
 use Rattle.board.specs.Common.{topOf}

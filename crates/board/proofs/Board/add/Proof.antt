@@ -1,7 +1,7 @@
 use mathlib.Core.Path.{_∙_, sym, ap}
 use Prim.Native.Nat.{_<_}
 use native.Mathlib.Omega.{arith}
-use Rattle.board.specs.Board.{addRefusal, answer, withLine, addOf}
+use Rattle.board.specs.Board.{held, addRefusal, answer, withLine, addOf}
 use Rattle.board.specs.Refusal.{none}
 use Rattle.board.proofs.Refusals.{add-none, refused, accepted}
 use borrow.Author.Needs.{needs}
@@ -10,7 +10,7 @@ use Rattle.board.proofs.Board.add.Tie as tie
 
 -- there is room for a line
 room : (c : tie.Else1) → c .before .before .before .before .before .before .args .t1 .count < 512
-room c = add-none (c .before .before .before .before .before .before .args .t1) (c .before .before .before .before .before .before .args .set) (ap (λ q. q .number) (sym (c .before .before .add-refusal .ensures)) ∙ c .if1 .left) .1
+room c = add-none (held (c .before .before .before .before .before .before .args .t1)) (c .before .before .before .before .before .before .args .set) (ap (λ q. q .number) (sym (c .before .before .add-refusal .ensures)) ∙ c .if1 .left) .1
 
 add-refusal-requires : tie.Need-add-refusal-requires
 add-refusal-requires c κs = search needs

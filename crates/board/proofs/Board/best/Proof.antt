@@ -1,15 +1,17 @@
 use mathlib.Core.Path.{_≡_}
 use native.Mathlib.Omega.{arith}
 use lib.ListN.{length}
+use Rattle.board.specs.Board.{held}
 use Rattle.board.proofs.Sets.{full}
-use Rattle.board.proofs.SharingRule.{Bestable, best-known, best-refused, best-accepted}
+use Rattle.board.proofs.Refusals.{Bestable, best-known}
+use Rattle.board.proofs.SharingRule.{best-runs, best-refused, best-accepted}
 use borrow.Author.Needs.{needs}
 use Rattle.board.proofs.Board.best.Statement.{statement}
 use Rattle.board.proofs.Board.best.Tie as tie
 
 -- the board is sound and closed, both buffers have room, and the lines are runs
-known : (c : tie.Else1) → Bestable (c .before .before .before .before .before .before .before .before .args .t1) (length (c .before .before .before .before .before .before .before .before .args .plan .now)) (length (c .before .before .before .before .before .before .before .before .args .table .now))
-known c = best-known (full (c .before .before .before .before .before .before .before .before .args .t1 .sets) (c .before .before .before .before .before .before .before .before .good .0 .1 .1 .1 .1 .1 .0 .1 .0 .1)) (c .before .before .best-refusal .ensures) (c .if1 .left)
+known : (c : tie.Else1) → Bestable (held (c .before .before .before .before .before .before .before .before .args .t1)) (length (c .before .before .before .before .before .before .before .before .args .plan .now)) (length (c .before .before .before .before .before .before .before .before .args .table .now))
+known c = best-known (c .before .before .best-refusal .ensures) (c .if1 .left)
 
 best-refusal-requires : tie.Need-best-refusal-requires
 best-refusal-requires c κs = search needs
@@ -20,7 +22,8 @@ returns c = best-refused (c .before .before .before .before .before .before .bef
 best-lines-requires : tie.Need-best-lines-requires
 best-lines-requires c κs =
     let k = known (c .before .before .before .before .before) in
-    (omega (arith, full (c .before .before .before .before .before .before .before .before .before .before .before .before .before .args .t1 .sets) (c .before .before .before .before .before .before .before .before .before .before .before .before .before .good .0 .1 .1 .1 .1 .1 .0 .1 .0 .1), k .ready .sound .count-most), k .runs, k .bytes, k .cells)
+    let f = full (c .before .before .before .before .before .before .before .before .before .before .before .before .before .args .t1 .sets) (c .before .before .before .before .before .before .before .before .before .before .before .before .before .good .0 .1 .1 .1 .1 .1 .0 .1 .0 .1) in
+    (omega (arith, f, k .ready .sound .count-most), best-runs (c .before .before .before .before .before .before .before .before .before .before .before .before .before .args .t1) f k, k .bytes, k .cells)
 
 same-length : tie.Need-same-length
 same-length c = search needs

@@ -1,7 +1,7 @@
 use mathlib.Core.Path.{_∙_, sym, ap}
 use Rattle.board.specs.Board.{stateRefusal, answer, closed, closeOf}
 use Rattle.board.specs.Refusal.{none}
-use Rattle.board.specs.declared.Stage.the-variants.{Open}
+use Rattle.state.specs.declared.Stage.the-variants.{Open}
 use Rattle.board.proofs.Refusals.{refused, accepted}
 use borrow.Author.Needs.{needs}
 use Rattle.board.proofs.Board.close.Statement.{statement}

@@ -4,7 +4,8 @@ use mathlib.Core.Path.{_≡_, sym, ap, subst, _∙_}
 use native.Mathlib.Omega.{arith}
 use Rattle.model.specs.CommonTip.{top, W}
 use Rattle.model.proofs.Occ.{top-length}
-use Rattle.board.specs.declared.Stage.the-variants.{Closed}
+use Rattle.state.specs.declared.Stage.the-variants.{Closed}
+use Rattle.board.specs.Board.{held}
 use Rattle.board.specs.Common.{CommonRule}
 use Rattle.board.proofs.Sets.{full, lines-count}
 use Rattle.board.proofs.Refusals.{Ready, state-known}
@@ -14,7 +15,7 @@ use Rattle.board.proofs.Board.common_tip.Statement.{statement}
 use Rattle.board.proofs.Board.common_tip.Tie as tie
 
 -- the board is sound and closed
-known : (c : tie.Else1) → Ready Closed (c .before .before .before .before .before .before .args .t1)
+known : (c : tie.Else1) → Ready Closed (held (c .before .before .before .before .before .before .args .t1))
 known c = state-known (c .before .before .state-refusal .ensures) (c .if1 .left)
 
 state-refusal-requires : tie.Need-state-refusal-requires

@@ -11,8 +11,8 @@ use Rattle.model.proofs.CommonTip.{W-lt}
 use Rattle.model.proofs.Occ.{top-length}
 use Rattle.common.specs.Common.{marginBy}
 use Rattle.common.proofs.Laws.{margin-by}
-use Rattle.board.specs.declared.Stage.the-variants.{Closed}
-use Rattle.board.specs.Board.{linesOf}
+use Rattle.state.specs.declared.Stage.the-variants.{Closed}
+use Rattle.board.specs.Board.{linesOf, held}
 use Rattle.board.specs.Common.{topOf, marginOf, isNegative, KeepRule}
 use Rattle.board.proofs.Sets.{full, lines-count}
 use Rattle.board.proofs.Margin.{read-back, sign-test, zero-test}
@@ -23,7 +23,7 @@ use Rattle.board.proofs.Board.keep.Statement.{statement}
 use Rattle.board.proofs.Board.keep.Tie as tie
 
 -- the board is sound and closed
-known : (c : tie.Else1) → Ready Closed (c .before .before .before .before .before .before .args .t1)
+known : (c : tie.Else1) → Ready Closed (held (c .before .before .before .before .before .before .args .t1))
 known c = state-known (c .before .before .state-refusal .ensures) (c .if1 .left)
 
 -- its lines are as many as its count

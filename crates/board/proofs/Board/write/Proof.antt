@@ -1,16 +1,17 @@
 use Prim.Native.Nat.{_≤_}
 use lib.ListN.{length}
 use Rattle.job.specs.Job.{fileLength}
-use Rattle.board.specs.declared.Stage.the-variants.{Closed}
+use Rattle.state.specs.declared.Stage.the-variants.{Closed}
+use Rattle.board.specs.Board.{held}
 use Rattle.board.proofs.Sets.{full}
-use Rattle.board.proofs.Refusals.{Ready}
-use Rattle.board.proofs.JobFileRule.{write-known, write-refused, write-accepted}
+use Rattle.board.proofs.Refusals.{Ready, write-known}
+use Rattle.board.proofs.JobFileRule.{write-refused, write-accepted}
 use borrow.Author.Needs.{needs}
 use Rattle.board.proofs.Board.write.Statement.{statement}
 use Rattle.board.proofs.Board.write.Tie as tie
 
 -- the board is sound and closed, and the output has room for the file
-known : (c : tie.Else1) → Ready Closed (c .before .before .before .before .before .before .before .args .t1) × (fileLength (c .before .before .before .before .before .before .before .args .t1 .count) ≤ length (c .before .before .before .before .before .before .before .args .out .now))
+known : (c : tie.Else1) → Ready Closed (held (c .before .before .before .before .before .before .before .args .t1)) × (fileLength (c .before .before .before .before .before .before .before .args .t1 .count) ≤ length (c .before .before .before .before .before .before .before .args .out .now))
 known c = write-known (c .before .before .write-refusal .ensures) (c .if1 .left)
 
 write-refusal-requires : tie.Need-write-refusal-requires

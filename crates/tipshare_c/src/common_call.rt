@@ -1,0 +1,47 @@
+// The common tip of a job file.
+use crate::Outcome;
+use crate::put_answer;
+use crate::refusal;
+use board::Board;
+ghost use mathlib.Core.Path.{_≡_};
+ghost use Rattle.tipshare_c.specs.Answer.{numberIn, answerIn, seen};
+ghost use Rattle.tipshare_c.specs.Calls.{commonIn};
+ghost use Rattle.tipshare_c.specs.Rules.{CommonRuleOf};
+
+fn common_outcome(file: &[u8]) -> Outcome
+    ensures outcome { λ r. ⌜ r ≡ commonIn (now (file .entry)) ⌝ }
+    ensures rule { λ r. ⌜ CommonRuleOf (now (file .entry)) r ⌝ }
+{
+    let read = Board::read(file);
+    if read.number != 0 {
+        return refusal(read.number, read.place);
+    }
+    let common = read.board.common_tip();
+    Outcome {
+        number: common.number,
+        place: common.place as u64,
+        first: common.top as u64,
+        second: common.off as u64,
+        third: common.tips,
+    }
+}
+
+#[no_mangle]
+pub extern "C" fn tipshare_common(file: &[u8], answer: &mut [u64]) -> u32
+    ensures number { λ r. ⌜ r ≡ numberIn (now (answer .entry)) (commonIn (now (file .entry))) ⌝ }
+    ensures answer { λ _. ⌜ now (answer .exit) ≡ answerIn (now (answer .entry)) (commonIn (now (file .entry))) ⌝ }
+    ensures rule { λ r. ⌜ CommonRuleOf (now (file .entry)) (seen r (now (answer .exit))) ⌝ }
+{
+    if answer.len() < 4 {
+        return 100;
+    }
+    let outcome = common_outcome(file);
+    put_answer(
+        answer,
+        outcome.place,
+        outcome.first,
+        outcome.second,
+        outcome.third,
+    );
+    outcome.number
+}

@@ -1,0 +1,88 @@
+// The calls on a job file in memory, exported for C.
+use board::Board;
+ghost use mathlib.Core.Path.{_≡_};
+ghost use Prim.Native.Nat.{_≤_};
+ghost use lib.ListN.{length};
+ghost use Rattle.report.specs.Buffer.{Printed};
+ghost use Rattle.summary.specs.Summary.{summaryOf};
+ghost use Rattle.tipshare_c.specs.Answer.{answered, numberIn, answerIn};
+ghost use Rattle.tipshare_c.specs.Calls.{refusal, readIn};
+
+mod best_call;
+mod common_call;
+mod keep_call;
+mod quick_call;
+
+// A call's number, and the four places of its answer.
+pub struct Outcome {
+    pub number: u32,
+    pub place: u64,
+    pub first: u64,
+    pub second: u64,
+    pub third: u64,
+}
+
+// The first four places; the others stay as they were.
+fn put_answer(answer: &mut [u64], a: u64, b: u64, c: u64, d: u64)
+    requires { ⌜ 4 ≤ length (now answer) ⌝ }
+    ensures { λ _. ⌜ now (answer .exit) ≡ answered a b c d (now (answer .entry)) ⌝ }
+{
+    answer[0] = a;
+    answer[1] = b;
+    answer[2] = c;
+    answer[3] = d;
+}
+
+fn refusal(number: u32, place: usize) -> Outcome
+    ensures { λ r. ⌜ r ≡ refusal number place ⌝ }
+{
+    Outcome {
+        number,
+        place: place as u64,
+        first: 0,
+        second: 0,
+        third: 0,
+    }
+}
+
+fn read_outcome(file: &[u8]) -> Outcome
+    ensures { λ r. ⌜ r ≡ readIn (now (file .entry)) ⌝ }
+{
+    let read = Board::read(file);
+    if read.number != 0 {
+        return refusal(read.number, read.place);
+    }
+    Outcome {
+        number: 0,
+        place: 0,
+        first: read.board.rack as u64,
+        second: read.board.count as u64,
+        third: 0,
+    }
+}
+
+#[no_mangle]
+pub extern "C" fn tipshare_read(file: &[u8], answer: &mut [u64]) -> u32
+    ensures number { λ r. ⌜ r ≡ numberIn (now (answer .entry)) (readIn (now (file .entry))) ⌝ }
+    ensures answer { λ _. ⌜ now (answer .exit) ≡ answerIn (now (answer .entry)) (readIn (now (file .entry))) ⌝ }
+{
+    if answer.len() < 4 {
+        return 100;
+    }
+    let outcome = read_outcome(file);
+    put_answer(
+        answer,
+        outcome.place,
+        outcome.first,
+        outcome.second,
+        outcome.third,
+    );
+    outcome.number
+}
+
+#[no_mangle]
+pub extern "C" fn tipshare_report(file: &[u8], out: &mut [u8]) -> usize
+    ensures { λ r. ⌜ Printed (summaryOf (now (file .entry)) (length (now (out .entry)))) (now (out .entry)) r (now (out .exit)) ⌝ }
+{
+    summary::summarize(file, out)
+}
