@@ -1,23 +1,23 @@
 -- What the calls answer to a sound and closed board with buffers for the longest one, and the report made of their answers.
 use Prim.Native.Nat.{ℕ, _*_, _-_, _≤_}
-use mathlib.Core.Path.{_≡_, refl, ap, _∙_}
+use mathlib.Core.Path.{_≡_, refl, _∙_}
 use mathlib.Core.Logic.{⊎-elim}
-use mathlib.Core.Bool.{Bool, true, false, not, cond}
-use mathlib.Core.List.{List, _++_}
+use mathlib.Core.Bool.{Bool, true, false, cond}
+use mathlib.Core.List.{List}
 use native.Mathlib.Omega.{arith}
-use lib.Dec.{T, ltb, eqb}
+use lib.Dec.{T, eqb}
 use lib.ListN.{length, take, drop, length-map}
-use lib.Seq.{length-take-le, take-at}
+use lib.Seq.{take-at}
 use borrow.Author.Tests.{lt-ltb, le-ltb}
-use Rattle.model.specs.Count.{each, firstFail}
+use Rattle.model.specs.Count.{each}
 use Rattle.model.specs.Plan.{pairs}
 use Rattle.model.specs.CommonTip.{W}
 use Rattle.model.specs.Greedy.{quickPlan}
 use Rattle.model.specs.Interval.{isRun, C, bestPlan}
-use Rattle.model.proofs.Tests.{le-or-lt, true-T, T-true}
+use Rattle.model.proofs.Tests.{le-or-lt, T-true}
 use Rattle.model.proofs.Lists.{each-iff}
 use Rattle.job.proofs.Fails.{fails-none, none-fails}
-use Rattle.sound.proofs.Laws.{Sound, sound-iff}
+use Rattle.sound.proofs.Laws.{sound-iff}
 use Rattle.state.specs.declared.Stage.the-variants.{Closed}
 use Rattle.state.specs.declared.Refusal.{Refusal}
 use Rattle.board.specs.declared.Board.{Board}
@@ -33,22 +33,31 @@ use Rattle.state.proofs.Refusals.{square-most, state-holds}
 use Rattle.report.specs.Report.{Facts, pairsText, lineText, lineAt, bestText, reportOf}
 use Rattle.summary.specs.Summary.{factsOf}
 
--- without runs the report does not tell the pairs and the plan of best sharing
-without-runs : (m o w p : ℕ) (quick : List ℕ) (x y : ℕ) (best other : List ℕ)
-    → reportOf (record { rack = m; off = o; tips = w; quickPairs = p; runs = false; bestPairs = x; quick = quick; best = best })
-    ≡ reportOf (record { rack = m; off = o; tips = w; quickPairs = p; runs = false; bestPairs = y; quick = quick; best = other })
-unfolding reportOf pairsText lineAt lineText bestText
-without-runs m o w p quick x y best other = refl
+-- what is reported of a board where best sharing answers these pairs and this plan
+facts : Board → Bool → ℕ → List ℕ → Facts
+facts b runs shared plan = record {
+  rack = b .rack;
+  off = b .count - topOf b;
+  tips = W (b .rack) (linesOf b);
+  quickPairs = pairs (quickPlan (b .rack) (linesOf b));
+  runs = runs;
+  bestPairs = shared;
+  quick = quickPlan (b .rack) (linesOf b);
+  best = plan;
+}
+
+-- without runs they are not printed
+without-runs : (b : Board) (x y : ℕ) (plan other : List ℕ) → reportOf (facts b false x plan) ≡ reportOf (facts b false y other)
+unfolding facts reportOf pairsText lineAt lineText bestText
+without-runs b x y plan other = refl
+
+-- a sound board has at most 512 lines
+pub few : (b : Board) → T (sound b) → b .count ≤ 512
+few b s = sound-iff (b .rack) (b .count) (b .sets) .0 s .count-most
 
 module _ (b : Board) (full : length (b .sets) ≡ 512) (s : T (sound b)) (closed : b .stage ≡ Closed) where
-  known : Sound (b .rack) (b .count) (b .sets)
-  known = sound-iff (b .rack) (b .count) (b .sets) .0 s
-
-  pub few : b .count ≤ 512
-  few = known .count-most
-
   lines : length (linesOf b) ≡ b .count
-  lines = lines-count b full few
+  lines = lines-count b full (few b s)
 
   common-answer : commonOf b ≡ record { board = b; number = 0; place = 0; top = topOf b; off = b .count - topOf b; tips = W (b .rack) (linesOf b) }
   unfolding commonOf
@@ -56,7 +65,7 @@ module _ (b : Board) (full : length (b .sets) ≡ 512) (s : T (sound b)) (closed
 
   quick-accepts : quickRefusal (held b) 512 ≡ none
   unfolding quickRefusal orElse
-  quick-accepts = rw (state-holds Closed (held b) s closed, le-ltb 512 (b .count) few)
+  quick-accepts = rw (state-holds Closed (held b) s closed, le-ltb 512 (b .count) (few b s))
 
   quick-answer : quickOf b 512 ≡ record { board = b; number = 0; place = 0; pairs = pairs (quickPlan (b .rack) (linesOf b)) }
   unfolding quickOf
@@ -65,7 +74,7 @@ module _ (b : Board) (full : length (b .sets) ≡ 512) (s : T (sound b)) (closed
   -- best sharing accepts where every line is a run; of its refusals only 25 is left
   best-refuses : bestRefusal (held b) 512 4096 ≡ cond (each isRun (linesOf b)) none (record { number = 25; place = notRun (held b) })
   unfolding bestRefusal orElse
-  best-refuses = rw (quick-accepts, le-ltb 4096 (b .rack * b .rack) (square-most (b .rack) (known .rack-most))) (by (each isRun (linesOf b)) refl)
+  best-refuses = rw (quick-accepts, le-ltb 4096 (b .rack * b .rack) (square-most (b .rack) (sound-iff (b .rack) (b .count) (b .sets) .0 s .rack-most))) (by (each isRun (linesOf b)) refl)
     where
       by : (t : Bool) → each isRun (linesOf b) ≡ t → runRefusal (held b) ≡ cond t none (record { number = 25; place = notRun (held b) })
       by true e = rw (le-ltb (notRun (held b)) (b .count) (omega (arith, lines, fails-none isRun (each-iff isRun (linesOf b) .0 (T-true e)))))
@@ -101,26 +110,14 @@ module _ (b : Board) (full : length (b .sets) ≡ 512) (s : T (sound b)) (closed
           best = take (b .count) best-bytes;
         })
         ≡ reportOf (factsOf b)
-    unfolding factsOf bestOf bestBuffer
+    unfolding facts factsOf bestOf bestBuffer
     same-report e f g h i = rw (e, f, g, h, i, p-size, q-size, places, common-answer, quick-answer, quick-plan, best-refuses) (by (each isRun (linesOf b)))
       where
-        facts : Bool → ℕ → List ℕ → Facts
-        facts runs shared plan = record {
-          rack = b .rack;
-          off = b .count - topOf b;
-          tips = W (b .rack) (linesOf b);
-          quickPairs = pairs (quickPlan (b .rack) (linesOf b));
-          runs = runs;
-          bestPairs = shared;
-          quick = quickPlan (b .rack) (linesOf b);
-          best = plan;
-        }
-
         by : (t : Bool) → (
             let r : Refusal = cond t none (record { number = 25; place = notRun (held b) }) in
             let a = sharedBy b r (C (linesOf b) 0 (b .rack)) in
-            reportOf (facts (eqb (a .number) 0) (a .pairs) (take (b .count) (lentBy r (b .count) (bestPlan (b .rack) (linesOf b)) q)))
-            ≡ reportOf (facts t (C (linesOf b) 0 (b .rack)) (bestPlan (b .rack) (linesOf b)))
+            reportOf (facts b (eqb (a .number) 0) (a .pairs) (take (b .count) (lentBy r (b .count) (bestPlan (b .rack) (linesOf b)) q)))
+            ≡ reportOf (facts b t (C (linesOf b) 0 (b .rack)) (bestPlan (b .rack) (linesOf b)))
             )
         by true = rw (take-at (bestPlan (b .rack) (linesOf b)) (drop (b .count) q) (b .count) best-size)
-        by false = without-runs _ _ _ _ _ _ _ _ _
+        by false = without-runs b _ _ _ _

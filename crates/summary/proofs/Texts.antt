@@ -6,7 +6,6 @@ use mathlib.Core.Bool.{cond}
 use mathlib.Core.List.{List, []}
 use native.Mathlib.Omega.{arith}
 use native.Mathlib.Nat.{min-eq-left, min-eq-right}
-use lib.Dec.{ltb}
 use lib.ListN.{length, take, length-append, length-drop}
 use lib.Seq.{take-all, take-length}
 use borrow.Author.Tests.{eq-eqb, ne-eqb, lt-ltb, le-ltb}

@@ -41,10 +41,10 @@ textOf file =
 
 -- the text for the part of a file that tipshare takes, at most 4,105 bytes; no text where the buffer of room bytes may be too short for one
 unfoldable pub summaryOf : List ℕ → ℕ → List ℕ
-summaryOf file room = cond (ltb room 16384) [] (textOf (take 4105 file))
+summaryOf file room = cond (ltb room 16_384) [] (textOf (take 4_105 file))
 
--- the board can be reported: common tip and both plans accept it, and the longest report has room
-pub record Ready (b : Board) (buffer : List ℕ) : Type 0 where
+-- the report on the board can be printed: the calls answer a sound and closed board, and the longest report has room
+pub record Printable (b : Board) (buffer : List ℕ) : Type 0 where
   pub is-sound : T (sound b)
   pub is-closed : b .stage ≡ Closed
-  pub room : 16384 ≤ length buffer
+  pub room : 16_384 ≤ length buffer

@@ -5,7 +5,13 @@ ghost use Prim.Native.Nat.{_≤_, min};
 ghost use lib.ListN.{length};
 ghost use Rattle.report.specs.Report.{reportOf};
 ghost use Rattle.report.specs.Buffer.{Printed};
-ghost use Rattle.summary.specs.Summary.{factsOf, textOf, summaryOf, Ready};
+ghost use Rattle.summary.specs.Summary.{factsOf, textOf, summaryOf, Printable};
+
+// The bytes of a file that are taken: one more than the longest good file has, by which a longer one is seen.
+pub const TAKEN: usize = 4105;
+
+// The bytes that the longest text may need.
+pub const ROOM: usize = 16384;
 
 // A byte for each line of the longest board.
 fn plan_buffer() -> [u8; 512]
@@ -23,7 +29,7 @@ fn table_buffer() -> [u32; 4096]
 
 // The report on a sound and closed board.
 fn write_board(board: Board, out: &mut [u8]) -> usize
-    requires { ⌜ Ready board (now out) ⌝ }
+    requires { ⌜ Printable board (now out) ⌝ }
     ensures { λ r. ⌜ Printed (reportOf (factsOf board)) (now (out .entry)) r (now (out .exit)) ⌝ }
 {
     let common = board.common_tip();
@@ -59,17 +65,18 @@ fn write_file(file: &[u8], out: &mut [u8]) -> usize
     write_board(board, out)
 }
 
-// The size of the part of a file that is taken. A good file has at most 4,104 bytes: by one byte more a longer one is seen.
+// The size of the part that is taken of a file of this size.
 fn taken_size(size: usize) -> usize
     ensures { λ r. ⌜ r ≡ min size 4105 ⌝ }
 {
-    if size < 4105 { size } else { 4105 }
+    if size < TAKEN { size } else { TAKEN }
 }
 
+// The text for a file, and its length; a buffer shorter than the longest text is left as it is.
 pub fn summarize(file: &[u8], out: &mut [u8]) -> usize
     ensures { λ r. ⌜ Printed (summaryOf (now (file .entry)) (length (now (out .entry)))) (now (out .entry)) r (now (out .exit)) ⌝ }
 {
-    if out.len() < 16384 {
+    if out.len() < ROOM {
         return 0;
     }
     let size = taken_size(file.len());

@@ -17,10 +17,10 @@ sets c = full (start c .args .board .sets) (start c .good .0 .1 .1 .1 .1 .1 .0 .
 
 -- both plan buffers have a byte a line
 quick-room : (c : tie.After-best) → start c .args .board .count ≤ length (c .before .before .before .before .before .before .quick .last .1 .0)
-quick-room c = omega (arith, few (start c .args .board) (sets c) (start c .pre .is-sound) (start c .pre .is-closed), c .before .before .before .before .before .before .quick .kept .1 .0, c .before .before .before .before .before .before .before .before .plan-buffer .ensures)
+quick-room c = omega (arith, few (start c .args .board) (start c .pre .is-sound), c .before .before .before .before .before .before .quick .kept .1 .0, c .before .before .before .before .before .before .before .before .plan-buffer .ensures)
 
 best-room : (c : tie.After-best) → start c .args .board .count ≤ length (c .best .last .1 .0)
-best-room c = omega (arith, few (start c .args .board) (sets c) (start c .pre .is-sound) (start c .pre .is-closed), c .best .kept .1 .0, c .before .before .before .before .plan-buffer2 .ensures)
+best-room c = omega (arith, few (start c .args .board) (start c .pre .is-sound), c .best .kept .1 .0, c .before .before .before .before .plan-buffer2 .ensures)
 
 common-tip-requires : tie.Need-common-tip-requires
 common-tip-requires c κs = search needs
@@ -67,7 +67,7 @@ write-report-requires c κs =
     let q = length-take-le _ _ (quick-room d) in
     record {
       same-lines = length-take-le _ _ (best-room d) ∙ sym q;
-      few-lines = omega (arith, q, few (start d .args .board) (sets d) (start d .pre .is-sound) (start d .pre .is-closed));
+      few-lines = omega (arith, q, few (start d .args .board) (start d .pre .is-sound));
       room = start d .pre .room;
     }
 
