@@ -1,0 +1,51 @@
+use borrow.Author.Needs.{needs}
+use Prim.Native.Nat.{_≤_, _-_}
+use mathlib.Core.Path.{_≡_}
+use lib.ListN.{length}
+use Rattle.try_lib.proofs.changed_bytes.Statement.{statement}
+use Rattle.try_lib.proofs.changed_bytes.Tie as tie
+
+abbrev Inv-loop : tie.InvT-loop
+Inv-loop buffer from count₀ i₀ i-end count i = (i ≤ i-end) × (i-end ≡ length buffer)
+
+abbrev μ-loop : tie.MeasureT-loop
+μ-loop buffer from count₀ i₀ i-end count i = i-end - i
+
+loop-holds : tie.Need-loop-holds Inv-loop μ-loop
+loop-holds c = search needs
+
+shared-slice-read-changed-byte : tie.Need-shared-slice-read-changed-byte Inv-loop μ-loop
+shared-slice-read-changed-byte c = search needs
+
+changed-byte-requires : tie.Need-changed-byte-requires Inv-loop μ-loop
+changed-byte-requires c κs = search needs
+
+sum-requires : tie.Need-sum-requires Inv-loop μ-loop
+sum-requires c κs = search needs
+
+add-i : tie.Need-add-i Inv-loop μ-loop
+add-i c = search needs
+
+loop-less : tie.Need-loop-less Inv-loop μ-loop
+loop-less c = search needs
+
+loop-again : tie.Need-loop-again Inv-loop μ-loop
+loop-again c = search needs
+
+returns : tie.Need-returns Inv-loop μ-loop
+returns c = search needs
+
+pub changed-bytes-spec : {M : Type 1} → statement M
+changed-bytes-spec =
+    tie.close
+    (tie.spec
+    Inv-loop
+    μ-loop
+    loop-holds
+    shared-slice-read-changed-byte
+    changed-byte-requires
+    sum-requires
+    add-i
+    loop-less
+    loop-again
+    returns)

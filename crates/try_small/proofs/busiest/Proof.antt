@@ -1,0 +1,33 @@
+use borrow.Author.Needs.{needs}
+use Prim.Native.Nat.{_≤_, _-_}
+use Rattle.try_small.proofs.busiest.Statement.{statement}
+use Rattle.try_small.proofs.busiest.Tie as tie
+
+abbrev Inv-loop : tie.InvT-loop
+Inv-loop small top plans set₀ code₀ set code = code ≤ plans
+
+abbrev μ-loop : tie.MeasureT-loop
+μ-loop small top plans set₀ code₀ set code = plans - code
+
+loop-holds : tie.Need-loop-holds Inv-loop μ-loop
+loop-holds c = search needs
+
+busiest-of-requires : tie.Need-busiest-of-requires Inv-loop μ-loop
+busiest-of-requires c κs = search needs
+
+add-code : tie.Need-add-code Inv-loop μ-loop
+add-code c = search needs
+
+loop-less : tie.Need-loop-less Inv-loop μ-loop
+loop-less c = search needs
+
+loop-again : tie.Need-loop-again Inv-loop μ-loop
+loop-again c = search needs
+
+returns : tie.Need-returns Inv-loop μ-loop
+returns c = search needs
+
+pub busiest-spec : {M : Type 1} → statement M
+busiest-spec =
+    tie.close
+    (tie.spec Inv-loop μ-loop loop-holds busiest-of-requires add-code loop-less loop-again returns)

@@ -1,0 +1,49 @@
+use borrow.Author.Needs.{needs}
+use Prim.Native.Nat.{_≤_, _-_}
+use Rattle.try_small.proofs.try_keeps.Statement.{statement}
+use Rattle.try_small.proofs.try_keeps.Tie as tie
+
+abbrev Inv-loop : tie.InvT-loop
+Inv-loop small board bounds next₀ k₀ next k = k ≤ bounds
+
+abbrev μ-loop : tie.MeasureT-loop
+μ-loop small board bounds next₀ k₀ next k = bounds - k
+
+cast-bounds : tie.Need-cast-bounds Inv-loop μ-loop
+cast-bounds c = search needs
+
+add-bounds : tie.Need-add-bounds Inv-loop μ-loop
+add-bounds c = search needs
+
+loop-holds : tie.Need-loop-holds Inv-loop μ-loop
+loop-holds c = search needs
+
+try-keep-requires : tie.Need-try-keep-requires Inv-loop μ-loop
+try-keep-requires c κs = search needs
+
+add-k : tie.Need-add-k Inv-loop μ-loop
+add-k c = search needs
+
+loop-less : tie.Need-loop-less Inv-loop μ-loop
+loop-less c = search needs
+
+loop-again : tie.Need-loop-again Inv-loop μ-loop
+loop-again c = search needs
+
+returns : tie.Need-returns Inv-loop μ-loop
+returns c = search needs
+
+pub try-keeps-spec : {M : Type 1} → statement M
+try-keeps-spec =
+    tie.close
+    (tie.spec
+    Inv-loop
+    μ-loop
+    cast-bounds
+    add-bounds
+    loop-holds
+    try-keep-requires
+    add-k
+    loop-less
+    loop-again
+    returns)
