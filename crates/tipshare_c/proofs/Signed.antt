@@ -12,7 +12,7 @@ use mir.ValLaws.{toZ-ofZ, toZ-pos}
 use borrow.Author.Tests.{le-ltb}
 use Rattle.tipshare_c.specs.Answer.{twosComplement}
 
--- its bits turned over where it is below zero, its bits elsewhere
+-- below zero its inverted bits, elsewhere its bits, are its magnitude
 below : (x : ℤ) → mag x < 2 ^ 31 → ltZ x (pos 0) ≡ true → (toZ w32 (4294967295 - ofZ w32 x) ≡ pos (mag x)) × (18446744073709551615 - mag x ≡ twosComplement x)
 unfolding twosComplement
 below (pos n) h t = let z : _≡_ {A = Bool} false true = sym (le-ltb n 0 (omega arith)) ∙ t in let y : _≡_ {A = ℕ} 0 1 = cc in absurd (omega arith)
@@ -32,11 +32,11 @@ module _ (x : ℤ) (fits : SFits w32 x) where
   cast-of e = rw e (tt, omega (arith, fits .sfits))
 
   module _ (t : ltZ (toZ w32 (ofZ w32 x)) (pos 0) ≡ true) where
-    pub turned-cast : T (nonNeg (toZ w32 (4294967295 - ofZ w32 x))) × Fits w64 (natAbs (toZ w32 (4294967295 - ofZ w32 x)))
-    turned-cast = cast-of (below x (fits .sfits) (sign true t) .0)
+    pub inverted-cast : T (nonNeg (toZ w32 (4294967295 - ofZ w32 x))) × Fits w64 (natAbs (toZ w32 (4294967295 - ofZ w32 x)))
+    inverted-cast = cast-of (below x (fits .sfits) (sign true t) .0)
 
-    pub turned-bits : 18446744073709551615 - natAbs (toZ w32 (4294967295 - ofZ w32 x)) ≡ twosComplement x
-    turned-bits = let (e, f) = below x (fits .sfits) (sign true t) in rw e f
+    pub inverted-bits : 18446744073709551615 - natAbs (toZ w32 (4294967295 - ofZ w32 x)) ≡ twosComplement x
+    inverted-bits = let (e, f) = below x (fits .sfits) (sign true t) in rw e f
 
   module _ (t : ltZ (toZ w32 (ofZ w32 x)) (pos 0) ≡ false) where
     pub own-cast : T (nonNeg (toZ w32 (ofZ w32 x))) × Fits w64 (natAbs (toZ w32 (ofZ w32 x)))

@@ -1,12 +1,12 @@
-use Rattle.tipshare_c.proofs.Signed.{turned-cast, turned-bits, own-cast, own-bits}
+use Rattle.tipshare_c.proofs.Signed.{inverted-cast, inverted-bits, own-cast, own-bits}
 use Rattle.tipshare_c.proofs.keep_call.twos_complement.Statement.{statement}
 use Rattle.tipshare_c.proofs.keep_call.twos_complement.Tie as tie
 
 cast-result : tie.Need-cast-result
-cast-result c = turned-cast (c .before .args .x) (c .before .fits .x) (c .if1 .taken)
+cast-result c = inverted-cast (c .before .args .x) (c .before .fits .x) (c .if1 .taken)
 
 returns : tie.Need-returns
-returns c = turned-bits (c .before .args .x) (c .before .fits .x) (c .if1 .taken)
+returns c = inverted-bits (c .before .args .x) (c .before .fits .x) (c .if1 .taken)
 
 cast-result-2 : tie.Need-cast-result-2
 cast-result-2 c = own-cast (c .before .args .x) (c .before .fits .x) (c .if1 .left)
