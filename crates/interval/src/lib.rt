@@ -1,6 +1,6 @@
 // The table of best sharing: the most pairs of each interval of tips, from the lines summed by lowest and highest tip.
 ghost use mathlib.Core.Path.{_≡_};
-ghost use Prim.Native.Nat.{_+_, _*_, _≤_, _<_, max};
+ghost use Prim.Native.Nat.{_+_, _*_, _-_, _≤_, _<_, max};
 ghost use lib.ListN.{length};
 ghost use Rattle.model.specs.Count.{largest};
 ghost use Rattle.model.specs.Interval.{table as tableOf};
@@ -13,12 +13,20 @@ fn larger(x: u32, y: u32) -> u32
     if x < y { y } else { x }
 }
 
+// The remainder changes nothing: it tells the compiler that the number is short, and has a short product.
+fn lines_on(base: u32, allow: u32, sum: u32) -> u32
+    requires { ⌜ (base ≤ allow + sum) × (allow + sum ≤ base + 512) × (allow + sum ≤ 1024) ⌝ }
+    ensures { λ r. ⌜ r ≡ allow + sum - base ⌝ }
+{
+    (allow + sum - base) % 1024
+}
+
 // p * p - p, and not p * (p - 1), which goes below zero without lines.
 fn split_by(base: u32, allow: u32, sum: u32, left: u32, right: u32) -> u32
     requires { ⌜ Small base allow sum left right ⌝ }
     ensures { λ r. ⌜ r ≡ splitBy base allow sum left right ⌝ }
 {
-    let p = allow + sum - base;
+    let p = lines_on(base, allow, sum);
     (p * p - p) / 2 + (left + right)
 }
 
