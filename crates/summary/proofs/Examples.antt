@@ -11,7 +11,8 @@ use Rattle.model.specs.Interval.{low, high, isRun, lies, inside, most, C, tipBy
 use Rattle.job.specs.Job.{bytesOf, numberOf, numberAt, headerOf, linesOf, fileOf, setsIn, headerNumber, setNumber, badIn, hasBad, readNumber, readPlace}
 use Rattle.board.specs.Board.{noSets}
 use Rattle.board.specs.JobFile.{readOf}
-use Rattle.report.specs.Report.{ascii, digits, decimal, joined, bestText, tipText, headText, offText, pairsText, lineText, lineAt, reportOf, refusedText}
+use Rattle.text.specs.Text.{ascii, digits, decimal, joined}
+use Rattle.report.specs.Report.{bestText, tipText, headText, offText, pairsText, lineText, lineAt, reportOf, refusedText}
 use Rattle.summary.specs.Summary.{factsOf, textOf}
 
 pub printed : (

@@ -13,7 +13,7 @@ use Rattle.model.proofs.Tests.{le-or-lt}
 use Rattle.board.specs.declared.Answer.{Answer}
 use Rattle.board.specs.JobFile.{readOf}
 use Rattle.report.specs.Report.{reportOf, refusedText}
-use Rattle.report.specs.Buffer.{Printed}
+use Rattle.text.specs.Buffer.{Printed}
 use Rattle.summary.specs.Summary.{factsOf, textOf, summaryOf}
 
 -- a text that is printed into a buffer fits it

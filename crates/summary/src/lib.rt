@@ -4,7 +4,7 @@ ghost use mathlib.Core.Path.{_≡_};
 ghost use Prim.Native.Nat.{_≤_, min};
 ghost use lib.ListN.{length};
 ghost use Rattle.report.specs.Report.{reportOf};
-ghost use Rattle.report.specs.Buffer.{Printed};
+ghost use Rattle.text.specs.Buffer.{Printed};
 ghost use Rattle.summary.specs.Summary.{factsOf, textOf, summaryOf, Printable};
 
 // The bytes of a file that are taken: one more than the longest good file has, by which a longer one is seen.

@@ -3,7 +3,7 @@ use board::Board;
 ghost use mathlib.Core.Path.{_≡_};
 ghost use Prim.Native.Nat.{_≤_};
 ghost use lib.ListN.{length};
-ghost use Rattle.report.specs.Buffer.{Printed};
+ghost use Rattle.text.specs.Buffer.{Printed};
 ghost use Rattle.summary.specs.Summary.{summaryOf};
 ghost use Rattle.tipshare_c.specs.Answer.{answered, numberIn, answerIn};
 ghost use Rattle.tipshare_c.specs.Calls.{refusal, readIn};
