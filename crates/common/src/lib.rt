@@ -16,13 +16,12 @@ pub fn common_tip(rack: usize, lines: &[u64]) -> Busiest
     requires { ⌜ (rack ≤ 64) × (length (now lines) ≤ 512) ⌝ }
     ensures { λ r. ⌜ (r .top ≡ top rack (now (lines .entry))) × (r .tips ≡ W rack (now (lines .entry))) ⌝ }
 {
-    let mut counts = [0u32; 64];
-    counts::count_tips(lines, &mut counts);
-    let most = counts::largest_count(&counts, rack);
-    let tips = counts::tips_at(&counts, rack, most);
+    let mut planes = [0u64; 10];
+    counts::count_tips(lines, &mut planes);
+    let busiest = counts::busiest_tips(&planes, rack);
     Busiest {
-        top: most as usize,
-        tips,
+        top: busiest.top as usize,
+        tips: busiest.tips,
     }
 }
 

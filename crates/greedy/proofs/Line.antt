@@ -1,20 +1,16 @@
 -- One tip taken for one line, and for the first lines.
-use Prim.Native.Nat.{ℕ, zero, suc, _+_, _-_, _^_, _≤_, _<_}
+use Prim.Native.Nat.{ℕ, zero, suc, _+_, _≤_, _<_}
 use native.Mathlib.Omega.{arith}
 use mathlib.Core.Path.{_≡_, refl, ap, sym, _∙_}
-use mathlib.Core.Bool.{true, false, cond}
+use mathlib.Core.Bool.{true, false}
 use mathlib.Core.List.{List, [], _∷_}
 use lib.ListN.{length, getD, set, take}
 use lib.Seq.{set-getD, take-all}
-use Rattle.model.specs.Count.{listOf}
 use Rattle.model.specs.Plan.{has, occ}
 use Rattle.model.proofs.Lists.{count-set, count-pos}
 use Rattle.model.proofs.Loops.{mapped, mapped-more, length-mapped, mapped-all}
-use Rattle.model.proofs.Sets.{has-below}
-use Rattle.counts.specs.Counts.{Removable}
-use Rattle.model.proofs.ListOf.{length-listOf, listOf-cong}
-use Rattle.counts.proofs.Lowest.{empty-none}
-use Rattle.counts.proofs.Read.{count-at}
+use Rattle.counts.specs.Counts.{Counts, Removable, Removed}
+use Rattle.counts.proofs.Digits.{has-one, empty-digit}
 use Rattle.greedy.specs.Rounds.{planBy, cleared, placed, Counted, LineTaken, Taken}
 use Rattle.greedy.proofs.PlanBy.{length-planBy, planBy-more}
 
@@ -22,25 +18,24 @@ use Rattle.greedy.proofs.PlanBy.{length-planBy, planBy-more}
 
 module _ {tip : ℕ} {left plan counts : List ℕ} (k : Counted tip left plan counts) {i : ℕ} (h : i < length left) where
   -- each of its tips is counted
-  pub removable : getD left i 0 < 2 ^ 64 → Removable (getD left i 0) counts
+  pub removable : Removable (getD left i 0) counts
   unfolding occ
-  removable b = record {
-    size = ap length (k .counts-are) ∙ length-listOf (occ left) 64;
-    some = λ t y. omega (arith, count-at left (k .counts-are) t (has-below 64 (getD left i 0) t b y), count-pos (λ s. has s t) 0 left i h y);
+  removable = record {
+    size = k .counts-are .size;
+    some = λ t y. omega (arith, k .counts-are .counted t, count-pos (λ s. has s t) 0 left i h y);
   }
 
-  -- without it they are counted once less
-  fewer : (t : ℕ) → t < 64 → getD counts t 0 - cond (has (getD left i 0) t) 1 0 ≡ occ (set left i 0) t
+  -- it has the tip: without it each of its tips is counted once less
+  pub line-taken : {counts' : List ℕ} → has (getD left i 0) tip ≡ true → Removed (getD left i 0) counts counts' → LineTaken tip i left plan (set left i 0) (set plan i tip) counts'
   unfolding occ
-  fewer t l = omega (arith, count-at left (k .counts-are) t l, count-set (λ s. has s t) 0 0 left i h, empty-none t)
-
-  -- it has the tip
-  pub line-taken : {counts' : List ℕ} → has (getD left i 0) tip ≡ true → counts' ≡ listOf (λ t. getD counts t 0 - cond (has (getD left i 0) t) 1 0) 64
-      → LineTaken tip i left plan (set left i 0) (set plan i tip) counts'
-  line-taken y e = record {
+  line-taken y r = record {
     left-is = rw y;
     plan-is = rw y;
-    counts-are = e ∙ listOf-cong _ _ 64 fewer;
+    counts-are = record {
+      size = r .size;
+      counted = λ t.
+          omega (arith, r .sum t, k .counts-are .counted t, count-set (λ s. has s t) 0 0 left i h, has-one (getD left i 0) t, has-one 0 t, empty-digit t);
+    };
   }
 
   -- it lacks the tip
@@ -53,7 +48,7 @@ pub record FirstTaken (tip i : ℕ) (left plan left' plan' counts' : List ℕ) :
   pub within : i ≤ length left
   pub left-is : left' ≡ mapped (cleared tip) i left
   pub plan-is : plan' ≡ planBy (placed tip) (take i left) plan
-  pub counts-are : counts' ≡ listOf (occ left') 64
+  pub counts-are : Counts left' counts'
 
 mapped-at : (f : ℕ → ℕ) (xs : List ℕ) (i : ℕ) → getD (mapped f i xs) i 0 ≡ getD xs i 0
 mapped-at f [] zero = refl
@@ -74,7 +69,7 @@ module _ {tip : ℕ} {left plan counts : List ℕ} (k : Counted tip left plan co
     plan-size = ap length (f .plan-is) ∙ length-planBy (placed tip) (take i left) plan
 
     pub counts-size : length counts' ≡ length counts
-    counts-size = ap length (f .counts-are) ∙ length-listOf (occ left') 64 ∙ sym (ap length (k .counts-are) ∙ length-listOf (occ left) 64)
+    counts-size = f .counts-are .size ∙ sym (k .counts-are .size)
 
     pub still-counted : Counted tip left' plan' counts'
     still-counted = record { inside = k .inside; size = omega (arith, k .size, left-size, plan-size); counts-are = f .counts-are }

@@ -3,22 +3,24 @@ use Prim.Native.Nat.{ℕ, zero, suc, _+_, _≤_, _<_}
 use native.Mathlib.Omega.{arith}
 use mathlib.Core.Path.{_≡_, refl, ap, sym, _∙_}
 use mathlib.Core.Logic.{⊎-elim}
-use mathlib.Core.Bool.{not, cond}
+use mathlib.Core.Bool.{not, cond, _&&_}
 use mathlib.Core.List.{List, [], _∷_, map}
-use lib.Dec.{not-T, eqb→eq}
-use lib.ListN.{length, getD, replicate, length-map}
-use Rattle.model.specs.Count.{All, none, more, listOf, lowestAt}
+use lib.Dec.{ltb, eqb, not-T, eqb→eq}
+use lib.ListN.{length, replicate, length-map}
+use Rattle.model.specs.Count.{All, none, more, largest}
 use Rattle.model.specs.Plan.{has, occ, isEmpty, pairs, choose2, Domain, prefer}
+use Rattle.model.specs.CommonTip.{setOf}
+use Rattle.model.specs.Interval.{low}
 use Rattle.model.specs.Greedy.{busiest, rest, rounds, first, quickPlan}
 use Rattle.model.proofs.Tests.{test, true-T, false-T}
 use Rattle.model.proofs.Lists.{all-map, all-select, count-pos, count-le}
 use Rattle.model.proofs.Pairs.{pairs-taken}
 use Rattle.model.proofs.Sets.{some-tip}
-use Rattle.model.proofs.Occ.{occ-le, top-le, busiest-lt}
+use Rattle.model.proofs.Occ.{occ-le, top-le, top-length, busiest-lt}
 use Rattle.model.proofs.Valid.{prefer-mix, rest-free}
 use Rattle.model.proofs.Greedy.{rest-fewer, quick-valid}
-use Rattle.model.proofs.ListOf.{length-listOf, listOf-cong}
-use Rattle.counts.proofs.Read.{count-at, count-bound, lowest-busiest}
+use Rattle.counts.specs.Counts.{countAt, Counts}
+use Rattle.counts.proofs.Read.{largest-top, low-busiest, lowest-busiest}
 use Rattle.greedy.specs.Rounds.{planBy, cleared, placed, Counted, Taken}
 use Rattle.greedy.proofs.Bound.{pairs-bound}
 use Rattle.greedy.proofs.PlanBy.{length-planBy, planBy-same, planBy-map, planBy-twice}
@@ -126,11 +128,11 @@ pub record State (m : ℕ) (lines left plan counts : List ℕ) (shared : ℕ) : 
   pub domains : All (Domain m) (unplanned left)
   pub size : length left ≡ length lines
   pub plan-size : length plan ≡ length left
-  pub counts-are : counts ≡ listOf (occ left) 64
+  pub counts-are : Counts left counts
   pub plan-is : quickPlan m lines ≡ planBy (filled (first (order m (unplanned left)))) left plan
   pub pairs-are : pairs (quickPlan m lines) ≡ shared + pairs (quickPlan m (unplanned left))
 
-pub start : {m : ℕ} {lines plan counts : List ℕ} → All (Domain m) lines → length plan ≡ length lines → counts ≡ listOf (occ lines) 64
+pub start : {m : ℕ} {lines plan counts : List ℕ} → All (Domain m) lines → length plan ≡ length lines → Counts lines counts
     → State m lines lines plan counts 0
 unfolding quickPlan order
 start {m} {lines} {plan} ds e h =
@@ -145,44 +147,32 @@ start {m} {lines} {plan} ds e h =
       pairs-are = rw l (omega arith);
     }
 
-module _ {m : ℕ} {lines left plan counts : List ℕ} {shared : ℕ} (st : State m lines left plan counts shared) where
-  pub counts-size : length counts ≡ 64
-  counts-size = ap length (st .counts-are) ∙ length-listOf (occ left) 64
-
-  -- a tip has at most all lines
-  pub few-lines : length lines ≤ 512 → (t : ℕ) → getD counts t 0 ≤ 512
-  few-lines h t = omega (arith, count-bound left (st .counts-are) t, st .size)
-
--- a round begins: its tip is the lowest in the rack with the largest count
-pub record Begun (m : ℕ) (lines left plan counts : List ℕ) (shared tip : ℕ) : Type 0 where
+-- a round begins: the largest count of a tip in the rack
+pub record Begun (m : ℕ) (lines left plan counts : List ℕ) (shared most : ℕ) : Type 0 where
   pub state : State m lines left plan counts shared
   pub some : 0 < m
   pub narrow : m ≤ 64
-  pub busy : tip ≡ lowestAt (λ t. getD counts t 0) m
+  pub is-most : most ≡ largest (countAt counts) m
 
-module _ {m : ℕ} {lines left plan counts : List ℕ} {shared tip : ℕ} (b : Begun m lines left plan counts shared tip) where
+module _ {m : ℕ} {lines left plan counts : List ℕ} {shared most : ℕ} (b : Begun m lines left plan counts shared most) where
   st : State m lines left plan counts shared
   st = b .state
 
-  counted : counts ≡ listOf (occ (unplanned left)) 64
-  counted = st .counts-are ∙ listOf-cong _ _ 64 (λ t _. occ-unplanned left t)
+  counted : Counts (unplanned left) counts
+  counted = record { size = st .counts-are .size; counted = λ t. st .counts-are .counted t ∙ occ-unplanned left t }
 
-  busiest-is : tip ≡ busiest (unplanned left) m
-  busiest-is = b .busy ∙ lowest-busiest (unplanned left) counted (b .narrow)
+  -- a tip has at most all lines
+  pub few-lines : length lines ≤ 512 → most ≤ 512
+  few-lines h = omega (arith, b .is-most, largest-top (st .counts-are) m, top-length m left, st .size)
 
-  pub tip-lt : tip < 64
-  tip-lt = omega (arith, busiest-is, busiest-lt m (unplanned left) (b .some))
+  -- a busiest tip has them
+  most-is : most ≡ occ (unplanned left) (busiest (unplanned left) m)
+  most-is = omega (arith, b .is-most, largest-top counted m, top-le m (unplanned left), occ-le (st .domains) (busiest (unplanned left) m))
 
-  pub tip-counted : Counted tip left plan counts
-  tip-counted = record { inside = tip-lt; size = st .plan-size; counts-are = st .counts-are }
-
-  count-is : getD counts tip 0 ≡ occ (unplanned left) tip
-  count-is = count-at (unplanned left) counted tip tip-lt
-
-  -- a busiest tip with no line: the plan is done
-  module _ (none : getD counts tip 0 ≡ 0) where
+  -- no tip has a line: the plan is done
+  module _ (none : most ≡ 0) where
     none-unplanned : unplanned left ≡ []
-    none-unplanned = none-left m (unplanned left) (st .domains) (rw (← busiest-is) (sym count-is ∙ none))
+    none-unplanned = none-left m (unplanned left) (st .domains) (sym most-is ∙ none)
 
     pub end-left : left ≡ replicate (length lines) 0
     end-left = rw (← (st .size)) (all-empty (unplanned-none left none-unplanned))
@@ -193,35 +183,59 @@ module _ {m : ℕ} {lines left plan counts : List ℕ} {shared tip : ℕ} (b : B
     pub end-pairs : shared ≡ pairs (quickPlan m lines)
     end-pairs = omega (arith, st .pairs-are, ap (λ l. pairs (quickPlan m l)) none-unplanned ∙ no-pairs m)
 
-  -- a round: its tip has lines, and here pairs among them
-  module _ (lines-left : getD counts tip 0 ≡ 0 → ⊥) {here : ℕ} (e : here ≡ choose2 (getD counts tip 0)) where
-    some-unplanned : 0 < length (unplanned left)
-    some-unplanned = omega (arith, lines-left, count-is, occ-length (unplanned left) tip)
+-- a round takes the lowest of the tips that have the largest count
+pub record Chosen (m : ℕ) (lines left plan counts : List ℕ) (shared most tip : ℕ) : Type 0 where
+  pub begun : Begun m lines left plan counts shared most
+  pub lines-left : most ≡ 0 → ⊥
+  pub is-tip : tip ≡ low (setOf (λ t. ltb 0 (countAt counts t) && eqb (countAt counts t) most) m)
 
+module _ {m : ℕ} {lines left plan counts : List ℕ} {shared most tip : ℕ} (r : Chosen m lines left plan counts shared most tip) where
+  was : State m lines left plan counts shared
+  was = r .begun .state
+
+  busiest-is : tip ≡ busiest (unplanned left) m
+  busiest-is =
+      r .is-tip ∙ low-busiest (countAt counts) m most (r .lines-left) (r .begun .is-most) (r .begun .narrow) ∙ lowest-busiest (counted (r .begun)) m
+
+  pub tip-counted : Counted tip left plan counts
+  tip-counted = record {
+    inside = omega (arith, busiest-is, busiest-lt m (unplanned left) (r .begun .some), r .begun .narrow);
+    size = was .plan-size;
+    counts-are = was .counts-are;
+  }
+
+  count-is : most ≡ occ (unplanned left) tip
+  count-is = most-is (r .begun) ∙ ap (occ (unplanned left)) (sym busiest-is)
+
+  some-unplanned : 0 < length (unplanned left)
+  some-unplanned = omega (arith, r .lines-left, count-is, occ-length (unplanned left) tip)
+
+  -- with here pairs among its lines
+  module _ {here : ℕ} (e : here ≡ choose2 most) where
     round : pairs (quickPlan m (unplanned left)) ≡ here + pairs (quickPlan m (rest (unplanned left) tip))
-    round = rw (e, count-is) (pairs-round m (unplanned left) (st .domains) some-unplanned tip busiest-is)
+    round = rw (e, count-is) (pairs-round m (unplanned left) (was .domains) some-unplanned tip busiest-is)
 
     pub pairs-fit : length lines ≤ 512 → shared + here ≤ 130816
-    pairs-fit h = omega (arith, st .pairs-are, round, pairs-bound (quickPlan m lines) (omega (arith, length-quick m lines)))
+    pairs-fit h = omega (arith, was .pairs-are, round, pairs-bound (quickPlan m lines) (omega (arith, length-quick m lines)))
 
     module _ {left' plan' counts' : List ℕ} (taken : Taken tip left plan left' plan' counts') where
       unplanned-rest : unplanned left' ≡ rest (unplanned left) tip
       unplanned-rest = rw (taken .left-is) (unplanned-cleared tip left)
 
       pub next-fewer : length (unplanned left') < length (unplanned left)
-      next-fewer = rw unplanned-rest (fewer-round m (unplanned left) (st .domains) some-unplanned tip busiest-is)
+      next-fewer = rw unplanned-rest (fewer-round m (unplanned left) (was .domains) some-unplanned tip busiest-is)
 
       pub next : State m lines left' plan' counts' (shared + here)
       next =
           let old = first (order m (unplanned left)) in
           let new = first (order m (rest (unplanned left) tip)) in
           let size-left = ap length (taken .left-is) ∙ length-map left (cleared tip) in
-          let same = filled-round tip old new (first-round m (unplanned left) (st .domains) some-unplanned tip busiest-is) in
+          let same = filled-round tip old new (first-round m (unplanned left) (was .domains) some-unplanned tip busiest-is) in
           record {
-            domains = rw unplanned-rest (rest-domains m (st .domains) tip);
-            size = size-left ∙ st .size;
-            plan-size = ap length (taken .plan-is) ∙ length-planBy (placed tip) left plan ∙ st .plan-size ∙ sym size-left;
+            domains = rw unplanned-rest (rest-domains m (was .domains) tip);
+            size = size-left ∙ was .size;
+            plan-size = ap length (taken .plan-is) ∙ length-planBy (placed tip) left plan ∙ was .plan-size ∙ sym size-left;
             counts-are = taken .counts-are;
-            plan-is = rw (unplanned-rest, taken .left-is, taken .plan-is) (st .plan-is ∙ planBy-twice (filled new) (placed tip) (filled old) (cleared tip) same left plan);
-            pairs-are = rw unplanned-rest (omega (arith, st .pairs-are, round));
+            plan-is = rw (unplanned-rest, taken .left-is, taken .plan-is) (was .plan-is ∙ planBy-twice (filled new) (placed tip) (filled old) (cleared tip) same left plan);
+            pairs-are = rw unplanned-rest (omega (arith, was .pairs-are, round));
           }

@@ -4,9 +4,10 @@ use mathlib.Core.Path.{_≡_}
 use mathlib.Core.Bool.{cond}
 use mathlib.Core.List.{List, [], _∷_, map}
 use lib.ListN.{length, getD, set, replicate}
-use Rattle.model.specs.Count.{All, listOf}
-use Rattle.model.specs.Plan.{has, occ, pairs, Domain}
+use Rattle.model.specs.Count.{All}
+use Rattle.model.specs.Plan.{has, pairs, Domain}
 use Rattle.model.specs.Greedy.{quickPlan}
+use Rattle.counts.specs.Counts.{Counts}
 
 -- f of each line's set and its tip in the plan; a tip without a line stays
 unfoldable pub planBy : (ℕ → ℕ → ℕ) → List ℕ → List ℕ → List ℕ
@@ -40,16 +41,16 @@ pub record Shared (rack : ℕ) (lines : List ℕ) (r : ℕ) (plan left : List �
 pub record Counted (tip : ℕ) (left plan counts : List ℕ) : Type 0 where
   pub inside : tip < 64
   pub size : length plan ≡ length left
-  pub counts-are : counts ≡ listOf (occ left) 64
+  pub counts-are : Counts left counts
 
 -- the tip is taken for line i
 pub record LineTaken (tip i : ℕ) (left plan left' plan' counts' : List ℕ) : Type 0 where
   pub left-is : left' ≡ set left i (cleared tip (getD left i 0))
   pub plan-is : plan' ≡ set plan i (placed tip (getD left i 0) (getD plan i 0))
-  pub counts-are : counts' ≡ listOf (occ left') 64
+  pub counts-are : Counts left' counts'
 
 -- the tip is taken for all lines
 pub record Taken (tip : ℕ) (left plan left' plan' counts' : List ℕ) : Type 0 where
   pub left-is : left' ≡ map (cleared tip) left
   pub plan-is : plan' ≡ planBy (placed tip) left plan
-  pub counts-are : counts' ≡ listOf (occ left') 64
+  pub counts-are : Counts left' counts'

@@ -2,12 +2,11 @@
 ghost use mathlib.Core.Path.{_≡_};
 ghost use Prim.Native.Nat.{_≤_, _<_};
 ghost use lib.ListN.{length};
-ghost use Rattle.model.specs.Count.{listOf};
-ghost use Rattle.model.specs.Plan.{occ};
+ghost use Rattle.counts.specs.Counts.{Counts};
 ghost use Rattle.greedy.specs.Rounds.{Shareable, Shared, Counted, LineTaken, Taken};
 
 // A line that has the tip is planned on it: its tips come off the counts, and its set becomes empty.
-fn take_line(tip: usize, i: usize, left: &mut [u64], plan: &mut [u8], counts: &mut [u32])
+fn take_line(tip: usize, i: usize, left: &mut [u64], plan: &mut [u8], counts: &mut [u64])
     requires { ⌜ Counted tip (now left) (now plan) (now counts) × (i < length (now left)) ⌝ }
     ensures { λ _. ⌜ LineTaken tip i (now (left .entry)) (now (plan .entry)) (now (left .exit)) (now (plan .exit)) (now (counts .exit)) ⌝ }
 {
@@ -20,7 +19,7 @@ fn take_line(tip: usize, i: usize, left: &mut [u64], plan: &mut [u8], counts: &m
 }
 
 // One round: the tip is taken for each line that has it.
-fn take_lines(tip: usize, left: &mut [u64], plan: &mut [u8], counts: &mut [u32])
+fn take_lines(tip: usize, left: &mut [u64], plan: &mut [u8], counts: &mut [u64])
     requires { ⌜ Counted tip (now left) (now plan) (now counts) ⌝ }
     ensures { λ _. ⌜ Taken tip (now (left .entry)) (now (plan .entry)) (now (left .exit)) (now (plan .exit)) (now (counts .exit)) ⌝ }
 {
@@ -32,18 +31,18 @@ fn take_lines(tip: usize, left: &mut [u64], plan: &mut [u8], counts: &mut [u32])
 }
 
 // Each round takes the tip that most lines left allow, the lowest on a tie.
-fn take_rounds(rack: usize, left: &mut [u64], plan: &mut [u8], counts: &mut [u32]) -> u32
-    requires { ⌜ Shareable rack (now left) (now plan) × (now counts ≡ listOf (occ (now left)) 64) ⌝ }
+fn take_rounds(rack: usize, left: &mut [u64], plan: &mut [u8], counts: &mut [u64]) -> u32
+    requires { ⌜ Shareable rack (now left) (now plan) × Counts (now left) (now counts) ⌝ }
     ensures { λ r. ⌜ Shared rack (now (left .entry)) r (now (plan .exit)) (now (left .exit)) ⌝ }
 {
     let mut shared = 0;
     loop {
-        let tip = counts::busiest_tip(counts, rack);
-        let lines = counts[tip];
-        if lines == 0 {
+        let busiest = counts::busiest_tips(counts, rack);
+        if busiest.top == 0 {
             return shared;
         }
-        shared += counts::pairs_among(lines);
+        let tip = tips::lowest(busiest.tips);
+        shared += counts::pairs_among(busiest.top);
         take_lines(tip, left, plan, counts);
     }
 }
@@ -53,7 +52,7 @@ pub fn plan_lines(rack: usize, left: &mut [u64], plan: &mut [u8]) -> u32
     requires { ⌜ Shareable rack (now left) (now plan) ⌝ }
     ensures { λ r. ⌜ Shared rack (now (left .entry)) r (now (plan .exit)) (now (left .exit)) ⌝ }
 {
-    let mut counts = [0u32; 64];
+    let mut counts = [0u64; 10];
     counts::count_tips(left, &mut counts);
     take_rounds(rack, left, plan, &mut counts)
 }

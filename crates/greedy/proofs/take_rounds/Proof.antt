@@ -1,9 +1,10 @@
 use mathlib.Core.Path.{ap, sym, _∙_}
 use native.Mathlib.Omega.{arith}
 use lib.ListN.{length}
-use Rattle.model.proofs.ListOf.{length-listOf}
+use Rattle.model.specs.Interval.{low}
+use borrow.Author.Needs.{needs}
 use Rattle.greedy.proofs.Unplanned.{unplanned}
-use Rattle.greedy.proofs.Round.{State, Begun, start, counts-size, few-lines, tip-lt, tip-counted, end-left, end-plan, end-pairs, pairs-fit, next, next-fewer}
+use Rattle.greedy.proofs.Round.{State, Begun, Chosen, start, few-lines, tip-counted, end-left, end-plan, end-pairs, pairs-fit, next, next-fewer}
 use Rattle.greedy.proofs.take_rounds.Statement.{statement}
 use Rattle.greedy.proofs.take_rounds.Tie as tie
 
@@ -13,27 +14,30 @@ Inv-loop rack left₀ plan₀ counts₀ shared₀ left plan counts shared = Stat
 abbrev μ-loop : tie.MeasureT-loop
 μ-loop rack left₀ plan₀ counts₀ shared₀ left plan counts shared = length (unplanned left)
 
-begun : (c : tie.After-busiest-tip Inv-loop μ-loop)
+begun : (c : tie.After-busiest-tips Inv-loop μ-loop)
     → let s = c .before .before .before .before .before .before .args in
     let l = c .before .before .loop in
-    Begun (s .rack) (s .left .now) (l .left) (l .plan) (l .counts) (l .shared) (c .busiest-tip .result)
+    Begun (s .rack) (s .left .now) (l .left) (l .plan) (l .counts) (l .shared) (c .busiest-tips .result .top)
 begun c =
     let p = c .before .before .before .before .before .before .pre .0 in
-    record { state = c .before .before .loop .inv; some = p .some; narrow = p .most; busy = c .busiest-tip .ensures }
+    record { state = c .before .before .loop .inv; some = p .some; narrow = p .most; is-most = c .busiest-tips .ensures .0 }
+
+chosen : (c : tie.After-lowest Inv-loop μ-loop)
+    → let b = c .before .before .before in
+    let s = b .before .before .before .before .before .before .args in
+    let l = b .before .before .loop in
+    Chosen (s .rack) (s .left .now) (l .left) (l .plan) (l .counts) (l .shared) (b .busiest-tips .result .top) (c .lowest .result)
+chosen c =
+    let b = c .before .before .before in
+    record { begun = begun b; lines-left = c .before .if1 .left; is-tip = c .lowest .ensures ∙ ap low (b .busiest-tips .ensures .1) }
 
 loop-holds : tie.Need-loop-holds Inv-loop μ-loop
 loop-holds c =
     let p = c .before .before .before .pre in
     start (p .0 .domains) (p .0 .size) (p .1)
 
-busiest-tip-requires : tie.Need-busiest-tip-requires Inv-loop μ-loop
-busiest-tip-requires c κs = omega (arith, counts-size (c .before .loop .inv), c .before .before .before .before .before .pre .0 .most)
-
-mul-lines : tie.Need-mul-lines Inv-loop μ-loop
-mul-lines c = record { fits = omega (arith, tip-lt (begun c)) }
-
-slice-read-lines : tie.Need-slice-read-lines Inv-loop μ-loop
-slice-read-lines c = omega (arith, tip-lt (begun (c .before)), counts-size (c .before .before .before .loop .inv))
+busiest-tips-requires : tie.Need-busiest-tips-requires Inv-loop μ-loop
+busiest-tips-requires c κs = (c .before .loop .inv .counts-are .size, c .before .before .before .before .before .pre .0 .most)
 
 same-length : tie.Need-same-length Inv-loop μ-loop
 same-length c = c .before .before .before .before .loop .inv .size
@@ -46,8 +50,8 @@ same-length-2 c =
 
 same-length-3 : tie.Need-same-length-3 Inv-loop μ-loop
 same-length-3 c =
-    let e = c .before .before .before .before .before .before .before .before .pre .1 in
-    counts-size (c .before .before .before .before .loop .inv) ∙ sym (ap length e ∙ length-listOf _ 64)
+    let e = c .before .before .before .before .before .before .before .before .pre .1 .size in
+    c .before .before .before .before .loop .inv .counts-are .size ∙ sym e
 
 returns : tie.Need-returns Inv-loop μ-loop
 returns c =
@@ -55,28 +59,33 @@ returns c =
     let z = c .if1 .taken in
     record { pairs-are = end-pairs b z; plan-is = end-plan b z; left-is = end-left b z }
 
+lowest-requires : tie.Need-lowest-requires Inv-loop μ-loop
+lowest-requires c κs = search needs
+
 pairs-among-requires : tie.Need-pairs-among-requires Inv-loop μ-loop
 pairs-among-requires c κs =
-    let few = c .before .before .before .before .before .before .before .before .pre .0 .few in
-    few-lines (c .before .before .before .before .loop .inv) few (c .before .before .busiest-tip .result)
+    let b = c .before .before .before in
+    few-lines (begun b) (b .before .before .before .before .before .before .pre .0 .few)
 
 add-shared : tie.Need-add-shared Inv-loop μ-loop
 add-shared c =
-    let few = c .before .before .before .before .before .before .before .before .before .pre .0 .few in
-    record { fits = omega (arith, pairs-fit (begun (c .before .before .before)) (c .before .if1 .left) (c .pairs-among .ensures) few) }
+    let few = c .before .before .before .before .before .before .before .before .before .before .pre .0 .few in
+    record { fits = omega (arith, pairs-fit (chosen (c .before)) (c .pairs-among .ensures) few) }
 
 take-lines-requires : tie.Need-take-lines-requires Inv-loop μ-loop
-take-lines-requires c κs = tip-counted (begun (c .before .before .before .before .before .before))
+take-lines-requires c κs = tip-counted (chosen (c .before .before .before .before))
 
 loop-less : tie.Need-loop-less Inv-loop μ-loop
 loop-less c =
-    let r = c .before .before .before .before .before .before .before .before .before .before in
-    next-fewer (begun (r .before .before .before)) (r .before .if1 .left) (r .pairs-among .ensures) (c .before .before .before .before .before .before .take-lines .ensures)
+    let t = c .before .before .before .before .before .before in
+    let p = t .before .before .before .before in
+    next-fewer (chosen (p .before)) (p .pairs-among .ensures) (t .take-lines .ensures)
 
 loop-again : tie.Need-loop-again Inv-loop μ-loop
 loop-again c =
-    let r = c .before .before .before .before .before .before .before .before .before .before in
-    next (begun (r .before .before .before)) (r .before .if1 .left) (r .pairs-among .ensures) (c .before .before .before .before .before .before .take-lines .ensures)
+    let t = c .before .before .before .before .before .before in
+    let p = t .before .before .before .before in
+    next (chosen (p .before)) (p .pairs-among .ensures) (t .take-lines .ensures)
 
 pub take-rounds-spec : {M : Type 1} → statement M
 take-rounds-spec =
@@ -85,13 +94,12 @@ take-rounds-spec =
     Inv-loop
     μ-loop
     loop-holds
-    busiest-tip-requires
-    mul-lines
-    slice-read-lines
+    busiest-tips-requires
     same-length
     same-length-2
     same-length-3
     returns
+    lowest-requires
     pairs-among-requires
     add-shared
     take-lines-requires
