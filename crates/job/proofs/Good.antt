@@ -2,6 +2,7 @@
 use Prim.Native.Nat.{ℕ, _+_, _^_, _≤_, _<_}
 use native.Mathlib.Omega.{arith}
 use mathlib.Core.Path.{_≡_, refl, sym, ap, ap₂, _∙_}
+use mathlib.Core.Logic.{⊎-elim}
 use mathlib.Core.Bool.{Bool, true, false, not, cond, _&&_, and-assoc, and-true, and-false}
 use mathlib.Core.List.{List}
 use lib.Bits.{bitOr, or-lt, or-add-and, and-le-l, and-le-r}
@@ -11,11 +12,13 @@ use lib.Pow.{pow-pos}
 use borrow.Author.Tests.{lt-ltb, ne-eqb}
 use Rattle.model.specs.Count.{each}
 use Rattle.model.specs.Plan.{isEmpty, inRack, isDomain}
-use Rattle.model.proofs.Tests.{and-left, and-right, and-in, same-test}
+use Rattle.model.proofs.Tests.{le-or-lt, T-true, and-left, and-right, and-in, same-test}
 use Rattle.model.proofs.Loops.{each-rest}
+use Rattle.model.proofs.Lists.{each-iff}
 use Rattle.model.proofs.ListOf.{listOf-at}
-use Rattle.job.specs.Job.{rackIn, countIn, setIn, setsIn, goodLines}
-use Rattle.job.proofs.Reading.{length-setsIn}
+use Rattle.job.specs.Job.{rackIn, countIn, setIn, setsIn, headerNumber, goodLines, badIn, readNumber, readPlace}
+use Rattle.job.proofs.Reading.{length-setsIn, read-clean}
+use Rattle.job.proofs.Fails.{fails-none, none-fails}
 
 abbrev pub allGood : ℕ → ℕ → ℕ → Bool
 allGood m union empty = eqb empty 0 && inRack m union
@@ -39,6 +42,11 @@ good-more m union empty s = rw (or-rack m union s) (by (isEmpty s))
     by false = let e : empty + 0 ≡ empty = omega arith in rw (e, and-assoc)
 
 module _ (file : List ℕ) where
+  -- a line's set among the sets
+  pub set-there : (i : ℕ) → i < countIn file → setIn file i ≡ getD (setsIn file) i 0
+  unfolding setsIn
+  set-there i h = sym (listOf-at (setIn file) (countIn file) i h)
+
   -- what the first i lines tell, and what is left to be looked at
   abbrev pub GoodUpTo : ℕ → ℕ → ℕ → Type 0
   GoodUpTo i union empty = (empty ≤ i) × (goodLines file ≡ (allGood (rackIn file) union empty && each (isDomain (rackIn file)) (drop i (setsIn file))))
@@ -49,16 +57,15 @@ module _ (file : List ℕ) where
 
   pub good-next : (i union empty s : ℕ) {one : ℕ} → i < countIn file → s ≡ setIn file i → one ≡ cond (isEmpty s) 1 0 → GoodUpTo i union empty
       → GoodUpTo (i + 1) (bitOr union s) (empty + one)
-  unfolding setsIn
   good-next i union empty s h e o (few, inv) =
       let m = rackIn file in
       let rest = each (isDomain m) (drop (i + 1) (setsIn file)) in
-      let here : getD (setsIn file) i 0 ≡ s = listOf-at (setIn file) (countIn file) i h ∙ sym e in (
+      let here : getD (setsIn file) i 0 ≡ s = sym (e ∙ set-there i h) in (
         rw o (one-more (isEmpty s)),
         inv
-        ∙ ap (λ t. allGood m union empty && t) (each-rest (isDomain m) (setsIn file) i (omega (arith, length-setsIn file)) ∙ ap (λ x. isDomain m x && rest) here)
-        ∙ sym (and-assoc (allGood m union empty) (isDomain m s) rest)
-        ∙ ap (λ t. t && rest) (sym (good-more m union empty s) ∙ ap (λ k. allGood m (bitOr union s) (empty + k)) (sym o)),
+            ∙ ap (λ t. allGood m union empty && t) (each-rest (isDomain m) (setsIn file) i (omega (arith, length-setsIn file)) ∙ ap (λ x. isDomain m x && rest) here)
+            ∙ sym (and-assoc (allGood m union empty) (isDomain m s) rest)
+            ∙ ap (λ t. t && rest) (sym (good-more m union empty s) ∙ ap (λ k. allGood m (bitOr union s) (empty + k)) (sym o)),
       )
     where
       one-more : (t : Bool) → empty + cond t 1 0 ≤ i + 1
@@ -71,3 +78,16 @@ module _ (file : List ℕ) where
       let all = allGood (rackIn file) union empty in
       let past : length (setsIn file) ≤ i = omega (arith, length-setsIn file) in
       sym (inv ∙ ap (λ l. all && each (isDomain (rackIn file)) l) (drop-of-length-le (setsIn file) past) ∙ and-true all)
+
+  -- where each line is good the file is accepted, and elsewhere a bad line is found
+  pub good-accepted : headerNumber file ≡ 0 → goodLines file ≡ true → (readNumber file ≡ 0) × (readPlace file ≡ 0)
+  unfolding goodLines badIn
+  good-accepted z g =
+      let test = isDomain (rackIn file) in
+      read-clean file z (omega (arith, length-setsIn file, fails-none test (each-iff test (setsIn file) .0 (T-true g))))
+
+  pub bad-found : goodLines file ≡ false → badIn file < countIn file
+  unfolding goodLines badIn
+  bad-found g =
+      let test = isDomain (rackIn file) in
+      ⊎-elim (λ h. absurd (rw g at (each-iff test (setsIn file) .1 (none-fails test (setsIn file) (omega (arith, length-setsIn file)))))) (λ h. h) (le-or-lt (countIn file) (badIn file))

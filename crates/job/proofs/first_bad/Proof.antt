@@ -6,10 +6,10 @@ use lib.ListN.{length, drop, drop-of-length-le}
 use borrow.Author.Tests.{not-true, not-false}
 use Rattle.model.specs.Count.{firstFail}
 use Rattle.model.specs.Plan.{isDomain}
-use Rattle.model.proofs.ListOf.{listOf-at}
-use Rattle.job.specs.Job.{rackIn, countIn, setIn, setsIn, badIn}
+use Rattle.job.specs.Job.{rackIn, countIn, setsIn, badIn}
 use Rattle.job.proofs.Fails.{fails-next}
 use Rattle.job.proofs.Reading.{length-setsIn}
+use Rattle.job.proofs.Good.{set-there}
 use borrow.Author.Needs.{needs}
 use Rattle.job.proofs.first_bad.Statement.{statement}
 use Rattle.job.proofs.first_bad.Tie as tie
@@ -41,11 +41,11 @@ next : (c : tie.After-is-domain Inv-loop μ-loop) →
     let file = c .before .before .before .before .before .before .before .args .file .now in
     let i = c .before .before .before .loop .i in
     badIn file ≡ cond (c .is-domain .result) (i + 1 + firstFail (isDomain (rackIn file)) (drop (i + 1) (setsIn file))) i
-unfolding badIn setsIn
+unfolding badIn
 next c =
     let file = c .before .before .before .before .before .before .before .args .file .now in
     let at = c .before .before .before .loop in
-    let set = c .before .set-in .ensures ∙ sym (listOf-at (setIn file) (countIn file) (at .i) (omega arith)) in
+    let set = c .before .set-in .ensures ∙ set-there file (at .i) (omega arith) in
     fails-next (isDomain (rackIn file)) (setsIn file) (at .i) (c .is-domain .result) (omega (arith, length-setsIn file)) (c .is-domain .ensures ∙ ap₂ isDomain (c .before .before .before .before .before .rack-in .ensures) set) (at .inv .2)
 
 returns : tie.Need-returns Inv-loop μ-loop
