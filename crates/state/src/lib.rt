@@ -166,6 +166,13 @@ pub fn read_refusal(file: &[u8]) -> Refusal
     }
 }
 
+// A place for the set of each line of the longest file.
+pub fn line_buffer() -> [u64; 512]
+    ensures { λ r. ⌜ length r ≡ 512 ⌝ }
+{
+    [0u64; 512]
+}
+
 // Reads the sets of a file's lines to the front of `sets`, and answers the file's refusal.
 pub fn read_lines(file: &[u8], sets: &mut [u64]) -> Refusal
     requires { ⌜ length (now sets) ≡ 512 ⌝ }
