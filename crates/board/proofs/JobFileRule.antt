@@ -1,18 +1,17 @@
 -- The answers of reading and writing a job file by cases on the refusal, and what holds between the two.
-use Prim.Native.Nat.{ℕ, zero, suc, _≤_, _<_}
+use Prim.Native.Nat.{ℕ, zero, suc, _≤_}
 use mathlib.Core.Path.{_≡_, refl, sym, ap, ap₂, _∙_}
 use mathlib.Core.List.{List, _∷_, _++_}
 use native.Mathlib.Omega.{arith}
-use lib.Dec.{T, T-not, eqb→eq}
-use lib.ListN.{length, take, drop, getD, replicate, length-replicate, length-drop, take-append-drop, List·getD-append}
+use lib.Dec.{T, eqb→eq}
+use lib.ListN.{length, take, drop, replicate, length-append, length-replicate, length-drop, take-append-drop}
 use lib.Seq.{take-at, drop-at}
-use Rattle.model.specs.Count.{All, none, more, firstFail}
-use Rattle.model.specs.Plan.{isEmpty, isDomain}
+use Rattle.model.specs.Count.{All, none, more}
+use Rattle.model.specs.Plan.{isEmpty}
 use Rattle.model.proofs.Lists.{all-drop, each-iff}
-use Rattle.job.specs.Job.{Bytes, fileLength, fileOf, rackIn, countIn, setsIn, headerNumber, setNumber, badIn, readNumber}
-use Rattle.job.proofs.Fails.{fails-at, set-number}
+use Rattle.job.specs.Job.{Bytes, fileLength, fileOf, rackIn, countIn, setsIn, readNumber, GoodHeader}
 use Rattle.job.proofs.Header.{good-header}
-use Rattle.job.proofs.Reading.{length-setsIn, length-fileOf, read-refused, read-bad, read-clean, read-iff, rack-of-file, count-of-file, sets-of-file, read-of-file, file-again}
+use Rattle.job.proofs.Reading.{length-setsIn, length-fileOf, read-iff, rack-of-file, count-of-file, sets-of-file, read-of-file, file-again}
 use Rattle.sound.proofs.Laws.{sound-iff}
 use Rattle.state.specs.declared.Stage.the-variants.{Closed}
 use Rattle.state.specs.declared.Refusal.{Refusal}
@@ -20,10 +19,10 @@ use Rattle.board.specs.declared.Board.{Board}
 use Rattle.board.specs.declared.Answer.{Answer}
 use Rattle.board.specs.declared.Written.{Written}
 use Rattle.board.specs.Refusal.{none as unrefused}
-use Rattle.board.specs.Board.{linesOf, sound, held, answer, noSets, emptyBoard}
+use Rattle.board.specs.Board.{linesOf, sound, held, stateRefusal, answer, noSets, emptyBoard}
 use Rattle.board.specs.JobFile.{readRefusal, boardIn, readOf, ReadRule, writeRefusal, writeOf, writeBuffer, WriteRule}
 use Rattle.board.proofs.Sets.{lines-count}
-use Rattle.board.proofs.Refusals.{Ready, write-known, refused, accepted, by-number}
+use Rattle.board.proofs.Refusals.{Ready, state-known, state-holds, write-known, refused, accepted, by-number}
 
 -- ---- empty sets
 
@@ -58,7 +57,7 @@ rest-empty b full r =
 -- ---- reading
 
 module _ (file : List ℕ) where
-  lines-in : linesOf (boardIn file) ≡ setsIn file
+  pub lines-in : linesOf (boardIn file) ≡ setsIn file
   lines-in = take-at (setsIn file) (drop (countIn file) noSets) (countIn file) (length-setsIn file)
 
   sound-in : readNumber file ≡ 0 → T (sound (boardIn file))
@@ -84,47 +83,33 @@ module _ (file : List ℕ) where
       known : (readOf file) .number ≡ 0 → (readNumber file ≡ 0) × (readOf file ≡ answer (boardIn file) unrefused)
       known z = let q = by-number (readRefusal file) (λ (x : Answer). x .number) _ _ refl z in (q, accepted _ _ {d = readRefusal file} refl q)
 
-  -- a bad line has a refusal
-  bad-number : badIn file < countIn file → setNumber (rackIn file) (getD (setsIn file) (badIn file) 0) ≡ 0 → ⊥
-  unfolding badIn
-  bad-number h z =
-      let test = isDomain (rackIn file) in
-      let s = getD (setsIn file) (badIn file) 0 in
-      T-not (test s) (fails-at test (setsIn file) (omega (arith, length-setsIn file))) (set-number (rackIn file) s .0 z)
-
-  -- the answers that the code gives: to a header that is refused, to a bad line, and to a file without one
-  pub read-stopped : {x : ℕ} → x ≡ headerNumber file → (x ≡ 0 → ⊥) → answer (emptyBoard 1) (record { number = x; place = 0 }) ≡ readOf file
-  unfolding readOf
-  read-stopped {x} e n =
-      let (p, q) = read-refused file (λ z. n (e ∙ z)) in
-      let f : _≡_ {A = Refusal} (record { number = x; place = 0 }) (readRefusal file) = rw (e, p, q) refl in
-      ap (answer (emptyBoard 1)) f ∙ sym (refused _ _ f n)
-
-  module _ (z : headerNumber file ≡ 0) {m n i : ℕ} {out empty : List ℕ} (rack : m ≡ rackIn file) (count : n ≡ countIn file)
-      (rest : empty ≡ noSets) (lines : out ≡ setsIn file) (bad : i ≡ firstFail (isDomain m) (take n (out ++ drop n empty))) where
-    length-out : length out ≡ n
-    length-out = ap length lines ∙ length-setsIn file ∙ sym count
-
-    first-bad : i ≡ badIn file
-    unfolding badIn
-    first-bad = bad ∙ ap₂ (λ r s. firstFail (isDomain r) s) rack (take-at out (drop n empty) n length-out ∙ lines)
-
-    pub read-stopped-at : i < n → {x : ℕ} → x ≡ setNumber m (getD (out ++ drop n empty) i 0) → answer (emptyBoard 1) (record { number = x; place = i }) ≡ readOf file
+  -- the answers that the code gives, to a file that is refused and to one that is not
+  module _ {d : Refusal} (e : d ≡ readRefusal file) where
+    pub read-stopped : (d .number ≡ 0 → ⊥) → answer (emptyBoard 1) d ≡ readOf file
     unfolding readOf
-    read-stopped-at l {x} e =
-        let l' : badIn file < countIn file = omega (arith, first-bad, count) in
-        let s = getD (setsIn file) (badIn file) 0 in
-        let (p, q) = read-bad file z l' in
-        let here : getD (out ++ drop n empty) i 0 ≡ s = List·getD-append out (drop n empty) 0 i (omega (arith, length-out)) ∙ ap₂ (λ y j. getD y j 0) lines first-bad in
-        let number : x ≡ readNumber file = e ∙ ap₂ setNumber rack here ∙ sym p in
-        let f : _≡_ {A = Refusal} (record { number = x; place = i }) (readRefusal file) = rw (number, first-bad, q) refl in
-        ap (answer (emptyBoard 1)) f ∙ sym (refused _ _ f (λ y. bad-number l' (sym p ∙ sym number ∙ y)))
+    read-stopped n = ap (answer (emptyBoard 1)) e ∙ sym (refused _ _ e n)
 
-    pub read-through : n ≤ i → answer (record { rack = m; stage = Closed; count = n; sets = out ++ drop n empty }) unrefused ≡ readOf file
-    unfolding readOf
-    read-through l =
-        let (p, q) = read-clean file z (omega (arith, first-bad, count)) in
-        rw (rack, count, lines, rest) (sym (accepted _ _ {d = readRefusal file} refl p))
+    module _ (z : d .number ≡ 0) where
+      accepts-file : readNumber file ≡ 0
+      accepts-file = ap (λ r. r .number) (sym e) ∙ z
+
+      pub read-through : {m n : ℕ} {sets : List ℕ} → m ≡ rackIn file → n ≡ countIn file → sets ≡ boardIn file .sets
+          → answer (record { rack = m; stage = Closed; count = n; sets = sets }) unrefused ≡ readOf file
+      unfolding readOf
+      read-through p q r = rw (p, q, r) (sym (accepted _ _ e z))
+
+      -- what is known of an accepted file: its header is good, and its board is sound and closed
+      pub header-in : GoodHeader file
+      header-in = read-iff file .0 accepts-file .0
+
+      pub state-in : stateRefusal Closed (boardIn file) ≡ unrefused
+      state-in = state-holds Closed (held (boardIn file)) (sound-in accepts-file) refl
+
+      pub ready-in : Ready Closed (held (boardIn file))
+      ready-in = state-known {d = unrefused} (sym state-in) refl
+
+      pub full-in : length (boardIn file .sets) ≡ 512
+      full-in = length-append (setsIn file) (drop (countIn file) noSets) ∙ omega (arith, length-setsIn file, length-drop (countIn file) noSets, length-no-sets, header-in .fewLines)
 
 -- ---- writing
 

@@ -46,22 +46,15 @@ impl Board {
         ensures answer { λ r. ⌜ r ≡ readOf (now (file .entry)) ⌝ }
         ensures rule { λ r. ⌜ ReadRule (now (file .entry)) r ⌝ }
     {
-        let number = job::header_number(file);
-        if number != 0 {
-            return refused_read(number, 0);
-        }
-        let rack = job::rack_in(file);
-        let count = job::count_in(file);
         let mut sets = no_sets();
-        job::read_sets(file, &mut sets[..count]);
-        let bad = job::first_bad(rack, &sets[..count]);
-        if bad < count {
-            return refused_read(job::set_number(rack, sets[bad]), bad);
+        let refusal = state::read_lines(file, &mut sets);
+        if refusal.number != 0 {
+            return refused_read(refusal.number, refusal.place);
         }
         let board = Board {
-            rack,
+            rack: job::rack_in(file),
             stage: Stage::Closed,
-            count,
+            count: job::count_in(file),
             sets,
         };
         Answer {

@@ -1,12 +1,13 @@
 // The job file over slices: the refusal by its header, the sets of its lines, and the file written.
 ghost use mathlib.Core.Path.{_≡_};
+ghost use mathlib.Core.Bool.{cond, _&&_};
 ghost use mathlib.Core.List.{_++_};
 ghost use Prim.Native.Nat.{_+_, _*_, _<_, _≤_, _^_};
+ghost use lib.Dec.{eqb};
 ghost use lib.ListN.{length, take, drop};
-ghost use Rattle.model.specs.Count.{firstFail};
-ghost use Rattle.model.specs.Plan.{isDomain};
-ghost use Rattle.job.specs.Job.{numberAt, headerLength, lineLength, fileLength, markIn, versionIn, rackIn, countIn, setsIn};
-ghost use Rattle.job.specs.Job.{headerNumber, setNumber, bytesOf, headerOf, linesOf, fileOf};
+ghost use Rattle.model.specs.Plan.{isEmpty, inRack};
+ghost use Rattle.job.specs.Job.{numberAt, headerLength, lineLength, fileLength, markIn, versionIn, rackIn, countIn, setIn, setsIn};
+ghost use Rattle.job.specs.Job.{headerNumber, goodLines, setNumber, badIn, bytesOf, headerOf, linesOf, fileOf};
 
 // The bytes 54 49 50 hex, "TIP".
 const MARK: u64 = 0x544950;
@@ -131,26 +132,78 @@ pub fn header_number(file: &[u8]) -> u32
     0
 }
 
-// Reads the sets of the lines.
-pub fn read_sets(file: &[u8], sets: &mut [u64])
-    requires { ⌜ length (now sets) ≡ countIn (now file) ⌝ }
-    requires { ⌜ fileLength (countIn (now file)) ≤ length (now file) ⌝ }
-    ensures { λ _. ⌜ now (sets .exit) ≡ setsIn (now (file .entry)) ⌝ }
+// The set of line `i`.
+pub fn set_in(file: &[u8], i: usize) -> u64
+    requires { ⌜ fileLength (i + 1) ≤ length (now file) ⌝ }
+    ensures { λ r. ⌜ r ≡ setIn (now (file .entry)) i ⌝ }
 {
+    set_at(file, file_length(i))
+}
+
+fn one_if_empty(set: u64) -> u64
+    ensures { λ r. ⌜ (r ≡ cond (isEmpty set) 1 0) × (r ≤ 1) ⌝ }
+{
+    if tips::is_empty(set) { 1 } else { 0 }
+}
+
+// Each set is a domain, by the union of the sets and the number of those that are empty.
+fn all_good(rack: usize, union: u64, empty: u64) -> bool
+    ensures { λ r. ⌜ r ≡ (eqb empty 0 && inRack rack union) ⌝ }
+{
+    if empty != 0 {
+        return false;
+    }
+    tips::in_rack(rack, union)
+}
+
+// Each line's set is a domain. The loop has no branch, so that it is quick where each is one.
+pub fn good_lines(file: &[u8]) -> bool
+    requires { ⌜ fileLength (countIn (now file)) ≤ length (now file) ⌝ }
+    ensures { λ r. ⌜ r ≡ goodLines (now (file .entry)) ⌝ }
+{
+    let count = count_in(file);
+    let mut union = 0;
+    let mut empty = 0;
     let mut i = 0;
-    while i < sets.len() {
-        sets[i] = set_at(file, file_length(i));
+    while i < count {
+        let set = set_in(file, i);
+        union |= set;
+        empty += one_if_empty(set);
         i += 1;
     }
+    all_good(rack_in(file), union, empty)
+}
+
+// Reads the sets of the lines, and tells in the same pass whether each is a domain.
+pub fn read_sets(file: &[u8], sets: &mut [u64]) -> bool
+    requires { ⌜ length (now sets) ≡ countIn (now file) ⌝ }
+    requires { ⌜ fileLength (countIn (now file)) ≤ length (now file) ⌝ }
+    ensures good { λ r. ⌜ r ≡ goodLines (now (file .entry)) ⌝ }
+    ensures sets { λ _. ⌜ now (sets .exit) ≡ setsIn (now (file .entry)) ⌝ }
+{
+    let mut union = 0;
+    let mut empty = 0;
+    let mut i = 0;
+    while i < sets.len() {
+        let set = set_in(file, i);
+        sets[i] = set;
+        union |= set;
+        empty += one_if_empty(set);
+        i += 1;
+    }
+    all_good(rack_in(file), union, empty)
 }
 
 // The first line whose set is no domain; the number of lines where there is none.
-pub fn first_bad(rack: usize, sets: &[u64]) -> usize
-    ensures { λ r. ⌜ r ≡ firstFail (isDomain rack) (now (sets .entry)) ⌝ }
+pub fn first_bad(file: &[u8]) -> usize
+    requires { ⌜ fileLength (countIn (now file)) ≤ length (now file) ⌝ }
+    ensures { λ r. ⌜ r ≡ badIn (now (file .entry)) ⌝ }
 {
+    let rack = rack_in(file);
+    let count = count_in(file);
     let mut i = 0;
-    while i < sets.len() {
-        if !tips::is_domain(rack, sets[i]) {
+    while i < count {
+        if !tips::is_domain(rack, set_in(file, i)) {
             return i;
         }
         i += 1;

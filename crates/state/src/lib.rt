@@ -1,8 +1,12 @@
-// The refusals of the calls on a board: one ordered decision for each, over what the board holds.
+// The refusals of the calls on a board, one ordered decision for each over what the board holds; and those of a job file.
 ghost use mathlib.Core.Path.{_≡_};
-ghost use lib.ListN.{length};
-ghost use Rattle.state.specs.Refusal.{refuse};
-ghost use Rattle.state.specs.State.{stageRefusal, stateRefusal, addRefusal, quickRefusal, bestRefusal, writeRefusal};
+ghost use mathlib.Core.List.{_++_};
+ghost use Prim.Native.Nat.{_≤_};
+ghost use lib.Dec.{ltb};
+ghost use lib.ListN.{length, drop};
+ghost use Rattle.job.specs.Job.{fileLength, countIn, setsIn, readNumber, readPlace};
+ghost use Rattle.state.specs.Refusal.{refuse, when};
+ghost use Rattle.state.specs.State.{stageRefusal, stateRefusal, addRefusal, quickRefusal, linesRefusal, bestRefusal, writeRefusal};
 
 pub enum Stage {
     Open,
@@ -61,7 +65,16 @@ pub fn add_refusal(rack: usize, stage: Stage, count: usize, sets: &[u64], set: u
     refuse(job::set_number(rack, set))
 }
 
-// The refusals of a plan, in one place for quick and best sharing.
+// A plan buffer of `room` bytes that is shorter than the lines.
+pub fn room_refusal(count: usize, room: usize) -> Refusal
+    ensures { λ r. ⌜ r ≡ when (ltb room count) 4 ⌝ }
+{
+    if room < count {
+        return refuse(4);
+    }
+    refuse(0)
+}
+
 pub fn plan_refusal(rack: usize, stage: Stage, count: usize, sets: &[u64], room: usize) -> Refusal
     requires { ⌜ length (now sets) ≡ 512 ⌝ }
     ensures { λ r. ⌜ r ≡ quickRefusal (record { rack = rack; stage = stage; count = count; sets = now (sets .entry) }) room ⌝ }
@@ -70,8 +83,27 @@ pub fn plan_refusal(rack: usize, stage: Stage, count: usize, sets: &[u64], room:
     if state.number != 0 {
         return state;
     }
-    if room < count {
-        return refuse(4);
+    room_refusal(count, room)
+}
+
+// The refusals of best sharing that are left where the lines are known to be good.
+pub fn lines_refusal(rack: usize, lines: &[u64], room: usize, places: usize) -> Refusal
+    requires { ⌜ rack ≤ 64 ⌝ }
+    ensures { λ r. ⌜ r ≡ linesRefusal rack (now (lines .entry)) room places ⌝ }
+{
+    let short = room_refusal(lines.len(), room);
+    if short.number != 0 {
+        return short;
+    }
+    if places < rack * rack {
+        return refuse(5);
+    }
+    let at = spans::first_not_run(lines);
+    if at < lines.len() {
+        return Refusal {
+            number: 25,
+            place: at,
+        };
     }
     refuse(0)
 }
@@ -87,19 +119,20 @@ pub fn best_refusal(
     requires { ⌜ length (now sets) ≡ 512 ⌝ }
     ensures { λ r. ⌜ r ≡ bestRefusal (record { rack = rack; stage = stage; count = count; sets = now (sets .entry) }) room places ⌝ }
 {
-    let plan = plan_refusal(rack, stage, count, sets, room);
-    if plan.number != 0 {
-        return plan;
+    let state = state_refusal(Stage::Closed, rack, stage, count, sets);
+    if state.number != 0 {
+        return state;
     }
-    if places < rack * rack {
-        return refuse(5);
-    }
-    let at = spans::first_not_run(&sets[..count]);
-    if at < count {
-        return Refusal {
-            number: 25,
-            place: at,
-        };
+    lines_refusal(rack, &sets[..count], room, places)
+}
+
+// An output of `room` bytes that is shorter than the file of the lines.
+pub fn file_refusal(count: usize, room: usize) -> Refusal
+    requires { ⌜ count ≤ 512 ⌝ }
+    ensures { λ r. ⌜ r ≡ when (ltb room (fileLength count)) 11 ⌝ }
+{
+    if room < job::file_length(count) {
+        return refuse(11);
     }
     refuse(0)
 }
@@ -112,8 +145,46 @@ pub fn write_refusal(rack: usize, stage: Stage, count: usize, sets: &[u64], room
     if state.number != 0 {
         return state;
     }
-    if room < job::file_length(count) {
-        return refuse(11);
+    file_refusal(count, room)
+}
+
+// The refusal of a job file: by its header, else by its first bad line.
+pub fn read_refusal(file: &[u8]) -> Refusal
+    ensures { λ r. ⌜ r ≡ record { number = readNumber (now (file .entry)); place = readPlace (now (file .entry)) } ⌝ }
+{
+    let number = job::header_number(file);
+    if number != 0 {
+        return refuse(number);
     }
-    refuse(0)
+    if job::good_lines(file) {
+        return refuse(0);
+    }
+    let place = job::first_bad(file);
+    Refusal {
+        number: job::set_number(job::rack_in(file), job::set_in(file, place)),
+        place,
+    }
+}
+
+// A place for the set of each line of the longest file.
+pub fn line_buffer() -> [u64; 512]
+    ensures { λ r. ⌜ length r ≡ 512 ⌝ }
+{
+    [0u64; 512]
+}
+
+// Reads the sets of a file's lines to the front of `sets`, and answers the file's refusal.
+pub fn read_lines(file: &[u8], sets: &mut [u64]) -> Refusal
+    requires { ⌜ length (now sets) ≡ 512 ⌝ }
+    ensures refusal { λ r. ⌜ r ≡ record { number = readNumber (now (file .entry)); place = readPlace (now (file .entry)) } ⌝ }
+    ensures sets { λ r. ⌜ (r .number ≡ 0 → now (sets .exit) ≡ setsIn (now (file .entry)) ++ drop (countIn (now (file .entry))) (now (sets .entry))) ⌝ }
+{
+    if job::header_number(file) != 0 {
+        return read_refusal(file);
+    }
+    let count = job::count_in(file);
+    if job::read_sets(file, &mut sets[..count]) {
+        return refuse(0);
+    }
+    read_refusal(file)
 }

@@ -5,15 +5,18 @@ use mathlib.Core.List.{List, [], _∷_}
 use native.Mathlib.Omega.{arith}
 use lib.ListN.{length, set}
 use borrow.Author.Tests.{lt-ltb, le-ltb, eq-eqb, ne-eqb}
-use Rattle.board.specs.declared.Answer.{Answer}
+use Rattle.state.specs.declared.Refusal.{Refusal}
+use Rattle.state.specs.Refusal.{none}
 use Rattle.board.specs.declared.Board.{Board}
 use Rattle.board.specs.declared.Common.{Common}
 use Rattle.board.specs.declared.Kept.{Kept}
 use Rattle.board.specs.declared.Shared.{Shared}
 use Rattle.board.specs.declared.Written.{Written}
 use Rattle.board.specs.Common.{CommonRule}
-use Rattle.board.specs.JobFile.{readOf, writeOf, writeBuffer}
+use Rattle.board.specs.Board.{answer, emptyBoard}
+use Rattle.board.specs.JobFile.{readRefusal, boardIn, readOf, writeOf, writeBuffer}
 use Rattle.board.specs.Sharing.{HalfRule, BestRule}
+use Rattle.board.proofs.JobFileRule.{read-stopped, read-through}
 use Rattle.tipshare_c.specs.declared.Outcome.{Outcome}
 use Rattle.tipshare_c.specs.Answer.{ifShort, answered, numberIn, answerIn, seen, twosComplement}
 use Rattle.tipshare_c.specs.Calls.{boardOf, ifNone, refusal, onBoard, lentTo, commonBy, sharedBy, writtenBy, keptBy, keptFile}
@@ -59,41 +62,47 @@ module _ {A : Type 0} {number : ℕ} (x y : A) where
   pub if-refused : (number ≡ 0 → ⊥) → y ≡ ifNone number x y
   if-refused n = rw (ne-eqb number 0 n)
 
--- what was read of the file
-module _ (file : List ℕ) {d : Answer} (e : d ≡ readOf file) where
+-- what reading the file answers
+module _ (file : List ℕ) {d : Refusal} (e : d ≡ readRefusal file) where
   module _ (n : d .number ≡ 0 → ⊥) where
     pub on-refused : (call : Board → Outcome) → refusal (d .number) (d .place) ≡ onBoard file call
     unfolding onBoard
-    on-refused call = subst (λ a. refusal (d .number) (d .place) ≡ ifNone (a .number) (call (a .board)) (refusal (a .number) (a .place))) e (if-refused (call (d .board)) (refusal (d .number) (d .place)) n)
+    on-refused call = subst (λ a. refusal (d .number) (d .place) ≡ ifNone (a .number) (call (a .board)) (refusal (a .number) (a .place))) (read-stopped file e n) (if-refused (call (emptyBoard 1)) (refusal (d .number) (d .place)) n)
 
     pub lent-refused : (call : Board → List ℕ) (old : List ℕ) → old ≡ lentTo file call old
     unfolding lentTo
-    lent-refused call old = subst (λ a. old ≡ ifNone (a .number) (call (a .board)) old) e (if-refused (call (d .board)) old n)
+    lent-refused call old = subst (λ a. old ≡ ifNone (a .number) (call (a .board)) old) (read-stopped file e n) (if-refused (call (emptyBoard 1)) old n)
 
   module _ (z : d .number ≡ 0) where
-    pub on-board : (call : Board → Outcome) → call (d .board) ≡ onBoard file call
+    accepted : answer (boardIn file) none ≡ readOf file
+    accepted = read-through file e z refl refl refl
+
+    pub on-board : (call : Board → Outcome) → call (boardIn file) ≡ onBoard file call
     unfolding onBoard
-    on-board call = subst (λ a. call (d .board) ≡ ifNone (a .number) (call (a .board)) (refusal (a .number) (a .place))) e (if-none (call (d .board)) (refusal (d .number) (d .place)) z)
+    on-board call = subst (λ a. call (boardIn file) ≡ ifNone (a .number) (call (a .board)) (refusal (a .number) (a .place))) accepted refl
 
-    pub lent-board : (call : Board → List ℕ) (old : List ℕ) → call (d .board) ≡ lentTo file call old
+    pub lent-board : (call : Board → List ℕ) (old : List ℕ) → call (boardIn file) ≡ lentTo file call old
     unfolding lentTo
-    lent-board call old = subst (λ a. call (d .board) ≡ ifNone (a .number) (call (a .board)) old) e (if-none (call (d .board)) old z)
+    lent-board call old = subst (λ a. call (boardIn file) ≡ ifNone (a .number) (call (a .board)) old) accepted refl
 
-  -- the rules of the board that was read
-  pub common-rule : {r : Common} → CommonRule (d .board) r → CommonRuleOf file (commonBy r)
-  common-rule {r} h =
-      let g : CommonRule (boardOf file) r = subst (λ a. CommonRule (a .board) r) e h in
-      record { off-least = g .off-least; tips-exact = g .tips-exact }
+    -- the rules of the board that was read
+    pub of-board : (P : Board → Type 0) → P (boardIn file) → P (boardOf file)
+    of-board P h = subst (λ a. P (a .board)) accepted h
 
-  pub half-rule : {plan : List ℕ} {r : Shared} → HalfRule (d .board) plan r → HalfRuleOf file plan (sharedBy r)
-  half-rule {plan} {r} h =
-      let g : HalfRule (boardOf file) plan r = subst (λ a. HalfRule (a .board) plan r) e h in
-      record { plan = λ z. let p = g .plan z in record { own = p .own; counted = p .counted }; half = g .half }
+    pub common-rule : {r : Common} → CommonRule (boardIn file) r → CommonRuleOf file (commonBy r)
+    common-rule {r} h =
+        let g = of-board (λ b. CommonRule b r) h in
+        record { off-least = g .off-least; tips-exact = g .tips-exact }
 
-  pub best-rule : {plan : List ℕ} {r : Shared} → BestRule (d .board) plan r → BestRuleOf file plan (sharedBy r)
-  best-rule {plan} {r} h =
-      let g : BestRule (boardOf file) plan r = subst (λ a. BestRule (a .board) plan r) e h in
-      record { plan = λ z. let p = g .plan z in record { own = p .own; counted = p .counted }; best = g .best }
+    pub half-rule : {plan : List ℕ} {r : Shared} → HalfRule (boardIn file) plan r → HalfRuleOf file plan (sharedBy r)
+    half-rule {plan} {r} h =
+        let g = of-board (λ b. HalfRule b plan r) h in
+        record { plan = λ y. let p = g .plan y in record { own = p .own; counted = p .counted }; half = g .half }
+
+    pub best-rule : {plan : List ℕ} {r : Shared} → BestRule (boardIn file) plan r → BestRuleOf file plan (sharedBy r)
+    best-rule {plan} {r} h =
+        let g = of-board (λ b. BestRule b plan r) h in
+        record { plan = λ y. let p = g .plan y in record { own = p .own; counted = p .counted }; best = g .best }
 
 -- a refusal's rules say nothing
 module _ (file : List ℕ) (o : Outcome) (n : o .number ≡ 0 → ⊥) where

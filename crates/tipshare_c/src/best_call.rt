@@ -2,7 +2,6 @@
 use crate::Outcome;
 use crate::put_answer;
 use crate::refusal;
-use board::Board;
 ghost use mathlib.Core.Path.{_≡_};
 ghost use lib.ListN.{length};
 ghost use Rattle.tipshare_c.specs.Answer.{ifShort, numberIn, answerIn, seen};
@@ -15,15 +14,28 @@ fn best_outcome(file: &[u8], plan: &mut [u8], table: &mut [u32]) -> Outcome
     ensures table { λ _. ⌜ now (table .exit) ≡ bestTableIn (now (file .entry)) (length (now (plan .entry))) (now (table .entry)) ⌝ }
     ensures rule { λ r. ⌜ BestRuleOf (now (file .entry)) (now (plan .exit)) r ⌝ }
 {
-    let read = Board::read(file);
-    if read.number != 0 {
-        return refusal(read.number, read.place);
+    let mut sets = state::line_buffer();
+    let refused = state::read_lines(file, &mut sets);
+    if refused.number != 0 {
+        return refusal(refused.number, refused.place);
     }
-    let shared = read.board.best(plan, table);
+    let rack = job::rack_in(file);
+    let count = job::count_in(file);
+    let short = state::lines_refusal(rack, &sets[..count], plan.len(), table.len());
+    if short.number != 0 {
+        return refusal(short.number, short.place);
+    }
+    let square = rack * rack;
+    let pairs = best::plan_lines(
+        rack,
+        &sets[..count],
+        &mut plan[..count],
+        &mut table[..square],
+    );
     Outcome {
-        number: shared.number,
-        place: shared.place as u64,
-        first: shared.pairs as u64,
+        number: 0,
+        place: 0,
+        first: pairs as u64,
         second: 0,
         third: 0,
     }

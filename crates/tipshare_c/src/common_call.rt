@@ -2,7 +2,6 @@
 use crate::Outcome;
 use crate::put_answer;
 use crate::refusal;
-use board::Board;
 ghost use mathlib.Core.Path.{_≡_};
 ghost use Rattle.tipshare_c.specs.Answer.{numberIn, answerIn, seen};
 ghost use Rattle.tipshare_c.specs.Calls.{commonIn};
@@ -12,17 +11,20 @@ fn common_outcome(file: &[u8]) -> Outcome
     ensures outcome { λ r. ⌜ r ≡ commonIn (now (file .entry)) ⌝ }
     ensures rule { λ r. ⌜ CommonRuleOf (now (file .entry)) r ⌝ }
 {
-    let read = Board::read(file);
-    if read.number != 0 {
-        return refusal(read.number, read.place);
+    let mut sets = state::line_buffer();
+    let refused = state::read_lines(file, &mut sets);
+    if refused.number != 0 {
+        return refusal(refused.number, refused.place);
     }
-    let common = read.board.common_tip();
+    let rack = job::rack_in(file);
+    let count = job::count_in(file);
+    let busiest = common::common_tip(rack, &sets[..count]);
     Outcome {
-        number: common.number,
-        place: common.place as u64,
-        first: common.top as u64,
-        second: common.off as u64,
-        third: common.tips,
+        number: 0,
+        place: 0,
+        first: busiest.top as u64,
+        second: (count - busiest.top) as u64,
+        third: busiest.tips,
     }
 }
 

@@ -2,12 +2,12 @@
 use crate::Outcome;
 use crate::put_answer;
 use crate::refusal;
-use board::Board;
 ghost use mathlib.Core.Path.{_≡_};
+ghost use Prim.Native.Nat.{_≤_};
 ghost use lib.ListN.{length};
-ghost use Rattle.board.specs.Common.{keepOf};
+ghost use Rattle.model.specs.CommonTip.{margin, prune};
 ghost use Rattle.tipshare_c.specs.Answer.{ifShort, numberIn, answerIn, seen, twosComplement};
-ghost use Rattle.tipshare_c.specs.Calls.{boardOf, keptBy, keptFile, keepIn, keepFileIn};
+ghost use Rattle.tipshare_c.specs.Calls.{boardOf, keepIn, keepFileIn};
 ghost use Rattle.tipshare_c.specs.Rules.{KeepRuleOf};
 
 // Two's complement in 64 bits. No cast takes a number below zero to an unsigned one.
@@ -20,34 +20,19 @@ fn twos_complement(x: i32) -> u64
     x as u64
 }
 
-// Keeps within k, then writes the kept board.
-fn keep_board(board: Board, k: u16, out: &mut [u8]) -> Outcome
-    ensures outcome { λ r. ⌜ r ≡ keptBy (keepOf board k) (length (now (out .entry))) ⌝ }
-    ensures out { λ _. ⌜ now (out .exit) ≡ keptFile (keepOf board k) (now (out .entry)) ⌝ }
-    ensures rule { λ r. ⌜ KeepRuleOf board k (now (out .exit)) r ⌝ }
+// Keeps the lines within k, and answers the margin. At margin zero they are pruned, elsewhere they stay as they were.
+fn keep_lines(rack: usize, lines: &mut [u64], k: u16) -> i32
+    requires { ⌜ (rack ≤ 64) × (length (now lines) ≤ 512) ⌝ }
+    ensures margin { λ r. ⌜ r ≡ margin rack (now (lines .entry)) k ⌝ }
+    ensures lines { λ _. ⌜ now (lines .exit) ≡ prune rack (now (lines .entry)) k ⌝ }
 {
-    let kept = board.keep(k);
-    let margin = twos_complement(kept.margin);
-    if kept.number != 0 {
-        return Outcome {
-            number: kept.number,
-            place: kept.place as u64,
-            first: margin,
-            second: 0,
-            third: 0,
-        };
+    let busiest = common::common_tip(rack, lines);
+    let margin = common::margin(busiest.top, lines.len(), k);
+    if margin == 0 {
+        common::prune(rack, lines, busiest.tips);
+        return 0;
     }
-    let written = kept.board.write(out);
-    if written.number != 0 {
-        return refusal(written.number, written.place);
-    }
-    Outcome {
-        number: 0,
-        place: 0,
-        first: margin,
-        second: written.bytes as u64,
-        third: 0,
-    }
+    margin
 }
 
 fn keep_outcome(file: &[u8], k: u16, out: &mut [u8]) -> Outcome
@@ -55,12 +40,37 @@ fn keep_outcome(file: &[u8], k: u16, out: &mut [u8]) -> Outcome
     ensures out { λ _. ⌜ now (out .exit) ≡ keepFileIn (now (file .entry)) k (now (out .entry)) ⌝ }
     ensures rule { λ r. ⌜ KeepRuleOf (boardOf (now (file .entry))) k (now (out .exit)) r ⌝ }
 {
-    let read = Board::read(file);
-    if read.number != 0 {
-        return refusal(read.number, read.place);
+    let mut sets = state::line_buffer();
+    let refused = state::read_lines(file, &mut sets);
+    if refused.number != 0 {
+        return refusal(refused.number, refused.place);
     }
-    let board = read.board;
-    keep_board(board, k, out)
+    let rack = job::rack_in(file);
+    let count = job::count_in(file);
+    let margin = keep_lines(rack, &mut sets[..count], k);
+    let first = twos_complement(margin);
+    if margin < 0 {
+        return Outcome {
+            number: 26,
+            place: 0,
+            first,
+            second: 0,
+            third: 0,
+        };
+    }
+    let short = state::file_refusal(count, out.len());
+    if short.number != 0 {
+        return refusal(short.number, short.place);
+    }
+    let bytes = job::file_length(count);
+    job::write_file(rack, &sets[..count], &mut out[..bytes]);
+    Outcome {
+        number: 0,
+        place: 0,
+        first,
+        second: bytes as u64,
+        third: 0,
+    }
 }
 
 #[no_mangle]

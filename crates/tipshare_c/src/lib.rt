@@ -1,5 +1,4 @@
 // The calls on a job file in memory, exported for C.
-use board::Board;
 ghost use mathlib.Core.Path.{_≡_};
 ghost use Prim.Native.Nat.{_≤_};
 ghost use lib.ListN.{length};
@@ -48,15 +47,15 @@ fn refusal(number: u32, place: usize) -> Outcome
 fn read_outcome(file: &[u8]) -> Outcome
     ensures { λ r. ⌜ r ≡ readIn (now (file .entry)) ⌝ }
 {
-    let read = Board::read(file);
-    if read.number != 0 {
-        return refusal(read.number, read.place);
+    let refused = state::read_refusal(file);
+    if refused.number != 0 {
+        return refusal(refused.number, refused.place);
     }
     Outcome {
         number: 0,
         place: 0,
-        first: read.board.rack as u64,
-        second: read.board.count as u64,
+        first: job::rack_in(file) as u64,
+        second: job::count_in(file) as u64,
         third: 0,
     }
 }

@@ -2,7 +2,6 @@
 use crate::Outcome;
 use crate::put_answer;
 use crate::refusal;
-use board::Board;
 ghost use mathlib.Core.Path.{_≡_};
 ghost use lib.ListN.{length};
 ghost use Rattle.tipshare_c.specs.Answer.{ifShort, numberIn, answerIn, seen};
@@ -14,15 +13,22 @@ fn quick_outcome(file: &[u8], plan: &mut [u8]) -> Outcome
     ensures plan { λ _. ⌜ now (plan .exit) ≡ quickPlanIn (now (file .entry)) (now (plan .entry)) ⌝ }
     ensures rule { λ r. ⌜ HalfRuleOf (now (file .entry)) (now (plan .exit)) r ⌝ }
 {
-    let read = Board::read(file);
-    if read.number != 0 {
-        return refusal(read.number, read.place);
+    let mut sets = state::line_buffer();
+    let refused = state::read_lines(file, &mut sets);
+    if refused.number != 0 {
+        return refusal(refused.number, refused.place);
     }
-    let shared = read.board.quick(plan);
+    let rack = job::rack_in(file);
+    let count = job::count_in(file);
+    let short = state::room_refusal(count, plan.len());
+    if short.number != 0 {
+        return refusal(short.number, short.place);
+    }
+    let pairs = greedy::plan_lines(rack, &mut sets[..count], &mut plan[..count]);
     Outcome {
-        number: shared.number,
-        place: shared.place as u64,
-        first: shared.pairs as u64,
+        number: 0,
+        place: 0,
+        first: pairs as u64,
         second: 0,
         third: 0,
     }

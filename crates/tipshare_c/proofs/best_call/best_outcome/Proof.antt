@@ -1,12 +1,27 @@
-use mathlib.Core.Path.{sym, ap, _∙_}
-use Rattle.tipshare_c.specs.Calls.{sharedBy, bestIn, bestPlanIn, bestTableIn}
-use Rattle.tipshare_c.proofs.Laws.{on-refused, lent-refused, on-board, lent-board, best-rule, best-none}
+use Prim.Native.Nat.{ℕ, _*_, _≤_}
+use mathlib.Core.Path.{_≡_, sym, ap, _∙_}
+use mathlib.Core.List.{List}
+use native.Mathlib.Omega.{arith}
+use lib.ListN.{length, take}
+use lib.Seq.{length-take-le}
+use Rattle.interval.specs.Cells.{Runs}
+use Rattle.state.proofs.Refusals.{square-most}
+use Rattle.board.proofs.JobFileRule.{header-in}
+use Rattle.tipshare_c.specs.Calls.{bestIn, bestPlanIn, bestTableIn}
+use Rattle.tipshare_c.proofs.Laws.{on-refused, lent-refused, best-none}
+use Rattle.tipshare_c.proofs.Accepted.{Read, GoodLines, lines-read, good-lines, best-room, best-short, best-in}
 use borrow.Author.Needs.{needs}
 use Rattle.tipshare_c.proofs.best_call.best_outcome.Statement.{statement}
 use Rattle.tipshare_c.proofs.best_call.best_outcome.Tie as tie
 
-read-requires : tie.Need-read-requires
-read-requires c κs = search needs
+line-buffer-requires : tie.Need-line-buffer-requires
+line-buffer-requires c κs = search needs
+
+slice-aggregate-read-lines : tie.Need-slice-aggregate-read-lines
+slice-aggregate-read-lines c = search needs
+
+read-lines-requires : tie.Need-read-lines-requires
+read-lines-requires c κs = search needs
 
 refusal-requires : tie.Need-refusal-requires
 refusal-requires c κs = search needs
@@ -14,17 +29,79 @@ refusal-requires c κs = search needs
 returns : tie.Need-returns
 unfolding bestIn bestPlanIn bestTableIn
 returns c =
-    let file = c .before .before .before .before .before .before .before .args .file .now in
-    let e = c .before .before .before .read .ensures .0 in
-    let no = c .before .if1 .taken in
     let r = c .refusal .ensures in
-    (r ∙ on-refused file e no _, (lent-refused file e no _ _, (lent-refused file e no _ _, best-none file (c .refusal .result) (λ z. no (ap (λ o. o .number) (sym r) ∙ z)) _)))
+    let nz = c .before .if1 .taken in
+    let e = c .before .before .before .before .read-lines .ensures .0 in
+    (r ∙ on-refused _ e nz _, (lent-refused _ e nz _ _, (lent-refused _ e nz _ _, best-none _ (c .refusal .result) (λ z. nz (ap (λ o. o .number) (sym r) ∙ z)) _)))
 
-best-requires : tie.Need-best-requires
-best-requires c κs = search needs
+rack-in-requires : tie.Need-rack-in-requires
+rack-in-requires c κs = header-in _ (c .before .before .before .read-lines .ensures .0) (c .if1 .left) .long
 
-cast-t12 : tie.Need-cast-t12
-cast-t12 c = search needs
+count-in-requires : tie.Need-count-in-requires
+count-in-requires c κs = header-in _ (c .before .before .before .before .read-lines .ensures .0) (c .before .if1 .left) .long
+
+-- the lines that were read
+abbrev lines : tie.After-count-in → List ℕ
+lines c = take (c .count-in .result) (c .before .before .before .before .before .read-lines .last .1 .0)
+
+known : (c : tie.After-count-in) → Read (c .before .before .before .before .before .before .before .before .before .before .before .args .file .now) (c .before .rack-in .result) (c .count-in .result) (lines c)
+known c = record { rack-is = c .before .rack-in .ensures; count-is = c .count-in .ensures; lines-are = lines-read _ _ (c .count-in .ensures) (c .before .before .before .before .before .read-lines .ensures .1 (c .before .before .if1 .left)) }
+
+good : (c : tie.After-count-in) → GoodLines (c .before .rack-in .result) (c .count-in .result) (lines c)
+good c = good-lines _ (c .before .before .before .before .before .read-lines .ensures .0) (c .before .before .if1 .left) (known c)
+
+room : (c : tie.After-count-in) → c .count-in .result ≤ length (c .before .before .before .before .before .read-lines .last .1 .0)
+room c = omega (arith, good c .few, c .before .before .before .before .before .read-lines .kept .1 .0, c .before .before .before .before .before .before .before .line-buffer .ensures)
+
+array-share-prefix-sets : tie.Need-array-share-prefix-sets
+array-share-prefix-sets c = room c
+
+slice-aggregate-lines-refusal : tie.Need-slice-aggregate-lines-refusal
+slice-aggregate-lines-refusal c = sym (good (c .before) .size)
+
+lines-refusal-requires : tie.Need-lines-refusal-requires
+lines-refusal-requires c κs = good (c .before) .most
+
+refusal-requires-2 : tie.Need-refusal-requires-2
+refusal-requires-2 c κs = search needs
+
+returns-2 : tie.Need-returns-2
+returns-2 c =
+    let d = c .before .before .before .before .before in
+    rw (c .refusal2 .ensures) (best-short _ (d .before .before .before .before .before .read-lines .ensures .0) (d .before .before .if1 .left) (known d) _ _ (c .before .before .before .lines-refusal .ensures) (c .before .if2 .taken))
+
+-- both buffers have room, and the lines are runs
+fits : (c : tie.Else2) → (c .before .before .before .before .count-in .result ≤ length (c .before .before .before .before .before .before .before .before .before .before .before .before .before .before .before .args .plan .now)) × (c .before .before .before .before .before .rack-in .result * c .before .before .before .before .before .rack-in .result ≤ length (c .before .before .before .before .before .before .before .before .before .before .before .before .before .before .before .args .table .now)) × Runs (c .before .before .before .before .before .rack-in .result) (lines (c .before .before .before .before))
+fits c = let d = c .before .before .before .before in best-room _ (d .before .before .before .before .before .read-lines .ensures .0) (d .before .before .if1 .left) (known d) (c .before .before .before .before .before .before .before .before .before .before .before .before .before .before .before .args .plan .now) (c .before .before .before .before .before .before .before .before .before .before .before .before .before .before .before .args .table .now) (c .before .before .lines-refusal .ensures) (c .if2 .left)
+
+mul-square : tie.Need-mul-square
+mul-square c = omega (arith, square-most _ (good (c .before .before .before .before) .most))
+
+array-share-prefix-sets-2 : tie.Need-array-share-prefix-sets-2
+array-share-prefix-sets-2 c = room (c .before .before .before .before)
+
+slice-aggregate-plan-lines : tie.Need-slice-aggregate-plan-lines
+slice-aggregate-plan-lines c = sym (good (c .before .before .before .before .before) .size)
+
+slice-relend-prefix-plan-lines : tie.Need-slice-relend-prefix-plan-lines
+slice-relend-prefix-plan-lines c = fits (c .before) .0
+
+slice-aggregate-plan-lines-2 : tie.Need-slice-aggregate-plan-lines-2
+slice-aggregate-plan-lines-2 c = sym (length-take-le _ _ (fits (c .before .before) .0))
+
+slice-relend-prefix-plan-lines-2 : tie.Need-slice-relend-prefix-plan-lines-2
+slice-relend-prefix-plan-lines-2 c = fits (c .before .before) .1
+
+slice-aggregate-plan-lines-3 : tie.Need-slice-aggregate-plan-lines-3
+slice-aggregate-plan-lines-3 c = sym (length-take-le _ _ (fits (c .before .before .before) .1))
+
+plan-lines-requires : tie.Need-plan-lines-requires
+plan-lines-requires c κs =
+    let (bytes, cells, runs) = fits (c .before .before .before) in
+    (runs, length-take-le _ _ bytes ∙ sym (good (c .before .before .before .before .before .before .before) .size), length-take-le _ _ cells)
+
+cast-t25 : tie.Need-cast-t25
+cast-t25 c = search needs
 
 same-length : tie.Need-same-length
 same-length c = search needs
@@ -32,24 +109,37 @@ same-length c = search needs
 same-length-2 : tie.Need-same-length-2
 same-length-2 c = search needs
 
-returns-2 : tie.Need-returns-2
-unfolding bestIn bestPlanIn bestTableIn
-returns-2 c =
-    let file = c .before .before .before .before .before .before .before .before .before .before .before .before .before .before .args .file .now in
-    let e = c .before .before .before .before .before .before .before .before .before .before .read .ensures .0 in
-    let yes = c .before .before .before .before .before .before .before .before .if1 .left in
-    let r = c .before .before .before .before .before .best .ensures in
-    (ap sharedBy (r .0) ∙ on-board file e yes _, (r .1 .0 ∙ lent-board file e yes _ _, (r .1 .1 .0 ∙ lent-board file e yes _ _, best-rule file e (r .1 .1 .1))))
+returns-3 : tie.Need-returns-3
+returns-3 c =
+    let d = c .before .before .before .before .before .before .before .before .before .before .before .before in
+    let r = c .before .before .before .before .plan-lines .ensures in
+    best-in _ (d .before .before .before .before .before .read-lines .ensures .0) (d .before .before .if1 .left) (known d) _ _ (c .before .before .before .before .before .before .before .before .before .before .lines-refusal .ensures) (c .before .before .before .before .before .before .before .before .if2 .left) (r .0) (r .1 .0) (r .1 .1)
 
 pub best-outcome-spec : {M : Type 1} → statement M
 best-outcome-spec =
     tie.close
     (tie.spec
-    read-requires
+    line-buffer-requires
+    slice-aggregate-read-lines
+    read-lines-requires
     refusal-requires
     returns
-    best-requires
-    cast-t12
+    rack-in-requires
+    count-in-requires
+    array-share-prefix-sets
+    slice-aggregate-lines-refusal
+    lines-refusal-requires
+    refusal-requires-2
+    returns-2
+    mul-square
+    array-share-prefix-sets-2
+    slice-aggregate-plan-lines
+    slice-relend-prefix-plan-lines
+    slice-aggregate-plan-lines-2
+    slice-relend-prefix-plan-lines-2
+    slice-aggregate-plan-lines-3
+    plan-lines-requires
+    cast-t25
     same-length
     same-length-2
-    returns-2)
+    returns-3)

@@ -1,0 +1,91 @@
+use Prim.Native.Nat.{_≤_}
+use mathlib.Core.Path.{_≡_, refl, sym, ap, ap₂, _∙_}
+use mathlib.Core.List.{_++_}
+use native.Mathlib.Omega.{arith}
+use lib.ListN.{length, drop}
+use lib.Seq.{length-take-le}
+use Rattle.job.specs.Job.{countIn, setsIn, headerNumber, GoodHeader}
+use Rattle.job.proofs.Header.{header-good, good-header}
+use Rattle.job.proofs.Reading.{read-iff}
+use Rattle.job.proofs.Good.{good-accepted}
+use borrow.Author.Needs.{needs}
+use Rattle.state.proofs.read_lines.Statement.{statement}
+use Rattle.state.proofs.read_lines.Tie as tie
+
+header : (c : tie.Else1) → headerNumber (c .before .before .before .before .args .file .now) ≡ 0
+header c = sym (c .before .header-number .ensures) ∙ c .if1 .left
+
+-- the header is good
+good : (c : tie.Else1) → GoodHeader (c .before .before .before .before .args .file .now)
+good c = header-good _ (header c)
+
+-- there is a place for each line
+room : (c : tie.After-count-in) → c .count-in .result ≤ length (c .before .before .before .before .before .args .sets .now)
+room c = omega (arith, c .count-in .ensures, good (c .before) .fewLines, c .before .before .before .before .before .pre)
+
+-- the sets as they end
+sets : (c : tie.After-read-sets) →
+    let a = c .before .before .before .before .before .before .before .args in
+    c .read-sets .last .1 .0 ++ drop (c .before .before .count-in .result) (a .sets .now) ≡ setsIn (a .file .now) ++ drop (countIn (a .file .now)) (a .sets .now)
+sets c = ap₂ (λ x n. x ++ drop n (c .before .before .before .before .before .before .before .args .sets .now)) (c .read-sets .ensures .1) (c .before .before .count-in .ensures)
+
+header-number-requires : tie.Need-header-number-requires
+header-number-requires c κs = search needs
+
+read-refusal-requires : tie.Need-read-refusal-requires
+read-refusal-requires c κs = search needs
+
+returns : tie.Need-returns
+returns c =
+    let e = c .read-refusal .ensures in
+    (e, λ z. absurd (c .before .if1 .taken (c .before .before .header-number .ensures ∙ good-header _ (read-iff _ .0 (sym (ap (λ r. r .number) e) ∙ z) .0))))
+
+count-in-requires : tie.Need-count-in-requires
+count-in-requires c κs = good c .long
+
+slice-relend-prefix-read-sets : tie.Need-slice-relend-prefix-read-sets
+slice-relend-prefix-read-sets c = room c
+
+slice-aggregate-read-sets : tie.Need-slice-aggregate-read-sets
+slice-aggregate-read-sets c = sym (length-take-le _ _ (room (c .before)))
+
+read-sets-requires : tie.Need-read-sets-requires
+read-sets-requires c κs = (length-take-le _ _ (room (c .before)) ∙ c .before .count-in .ensures, omega (arith, good (c .before .before) .whole))
+
+refuse-requires : tie.Need-refuse-requires
+refuse-requires c κs = search needs
+
+same-length : tie.Need-same-length
+same-length c = search needs
+
+returns-2 : tie.Need-returns-2
+returns-2 c =
+    let (p, q) = good-accepted _ (header (c .before .before .before .before .before .before .before)) (sym (c .before .before .before .before .read-sets .ensures .0) ∙ c .before .if2 .taken) in
+    (c .refuse .ensures ∙ rw (p, q) refl, λ _. sets (c .before .before .before .before))
+
+read-refusal-requires-2 : tie.Need-read-refusal-requires-2
+read-refusal-requires-2 c κs = search needs
+
+same-length-2 : tie.Need-same-length-2
+same-length-2 c = search needs
+
+returns-3 : tie.Need-returns-3
+returns-3 c = (c .read-refusal2 .ensures, λ _. sets (c .before .before .before .before))
+
+pub read-lines-spec : {M : Type 1} → statement M
+read-lines-spec =
+    tie.close
+    (tie.spec
+    header-number-requires
+    read-refusal-requires
+    returns
+    count-in-requires
+    slice-relend-prefix-read-sets
+    slice-aggregate-read-sets
+    read-sets-requires
+    refuse-requires
+    same-length
+    returns-2
+    read-refusal-requires-2
+    same-length-2
+    returns-3)
