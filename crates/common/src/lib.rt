@@ -2,7 +2,7 @@
 ghost use mathlib.Core.Path.{_≡_};
 ghost use mathlib.Core.List.{map};
 ghost use Prim.Native.Nat.{_≤_, _<_, _^_};
-ghost use lib.ListN.{length};
+ghost use lib.ListN.{length, take};
 ghost use Rattle.model.specs.CommonTip.{top, W, narrowed};
 ghost use Rattle.common.specs.Common.{marginBy, narrowBy};
 
@@ -24,6 +24,15 @@ pub fn common_tip(rack: usize, lines: &[u64]) -> Busiest
         top: most as usize,
         tips,
     }
+}
+
+// The common tip of the first lines of a board's sets.
+pub fn first_common_tip(rack: usize, count: usize, sets: &[u64]) -> Busiest
+    requires { ⌜ (rack ≤ 64) × (count ≤ 512) × (length (now sets) ≡ 512) ⌝ }
+    ensures top { λ r. ⌜ r .top ≡ top rack (take count (now (sets .entry))) ⌝ }
+    ensures tips { λ r. ⌜ r .tips ≡ W rack (take count (now (sets .entry))) ⌝ }
+{
+    common_tip(rack, &sets[..count])
 }
 
 pub fn margin(top: usize, n: usize, k: u16) -> i32
