@@ -2,28 +2,8 @@
 use crate::Board;
 use crate::Shared;
 ghost use mathlib.Core.Path.{_≡_};
-ghost use mathlib.Core.List.{_++_};
-ghost use Prim.Native.Nat.{_*_, _≤_};
-ghost use lib.ListN.{length, take, drop};
-ghost use Rattle.model.specs.Interval.{C, bestPlan, table as tableOf};
-ghost use Rattle.interval.specs.Cells.{Runs};
+ghost use lib.ListN.{length};
 ghost use Rattle.board.specs.Sharing.{bestOf, bestBuffer, bestTable, BestRule};
-
-// Best sharing of the first lines of a board's sets, at the front of both buffers.
-fn best_lines(rack: usize, count: usize, sets: &[u64], plan: &mut [u8], table: &mut [u32]) -> u32
-    requires { ⌜ (count ≤ length (now sets)) × Runs rack (take count (now sets)) × (count ≤ length (now plan)) × (rack * rack ≤ length (now table)) ⌝ }
-    ensures answer { λ r. ⌜ r ≡ C (take count (now (sets .entry))) 0 rack ⌝ }
-    ensures plan { λ _. ⌜ now (plan .exit) ≡ bestPlan rack (take count (now (sets .entry))) ++ drop count (now (plan .entry)) ⌝ }
-    ensures table { λ _. ⌜ now (table .exit) ≡ tableOf rack (take count (now (sets .entry))) ++ drop (rack * rack) (now (table .entry)) ⌝ }
-{
-    let square = rack * rack;
-    best::plan_lines(
-        rack,
-        &sets[..count],
-        &mut plan[..count],
-        &mut table[..square],
-    )
-}
 
 impl Board {
     pub fn best(self, plan: &mut [u8], table: &mut [u32]) -> Shared
@@ -49,7 +29,7 @@ impl Board {
                 pairs: 0,
             };
         }
-        let pairs = best_lines(self.rack, count, &self.sets, plan, table);
+        let pairs = best::plan_first_lines(self.rack, count, &self.sets, plan, table);
         Shared {
             board: self,
             number: 0,

@@ -274,3 +274,14 @@ pub fn write_file(rack: usize, sets: &[u64], out: &mut [u8])
     put_header(rack, sets.len(), out);
     put_sets(sets, out);
 }
+
+// The file of the first lines of a board's sets, at the front of the output.
+pub fn write_first_lines(rack: usize, count: usize, sets: &[u64], out: &mut [u8]) -> usize
+    requires { ⌜ (count ≤ 512) × (length (now sets) ≡ 512) × (fileLength count ≤ length (now out)) ⌝ }
+    ensures size { λ r. ⌜ r ≡ fileLength count ⌝ }
+    ensures buffer { λ _. ⌜ now (out .exit) ≡ fileOf rack (take count (now (sets .entry))) ++ drop (fileLength count) (now (out .entry)) ⌝ }
+{
+    let bytes = file_length(count);
+    write_file(rack, &sets[..count], &mut out[..bytes]);
+    bytes
+}

@@ -19,8 +19,8 @@ best-refusal-requires c κs = search needs
 returns : tie.Need-returns
 returns c = best-refused (c .before .before .before .before .before .before .before .before .args .t1) (full (c .before .before .before .before .before .before .before .before .args .t1 .sets) (c .before .before .before .before .before .before .before .before .good .0 .1 .1 .1 .1 .1 .0 .1 .0 .1)) (c .before .before .before .before .before .before .before .before .args .plan .now) (c .before .before .before .before .before .before .before .before .args .table .now) (c .before .before .best-refusal .ensures) (c .if1 .taken)
 
-best-lines-requires : tie.Need-best-lines-requires
-best-lines-requires c κs =
+plan-first-lines-requires : tie.Need-plan-first-lines-requires
+plan-first-lines-requires c κs =
     let k = known (c .before .before .before .before .before) in
     let f = full (c .before .before .before .before .before .before .before .before .before .before .before .before .before .args .t1 .sets) (c .before .before .before .before .before .before .before .before .before .before .before .before .before .good .0 .1 .1 .1 .1 .1 .0 .1 .0 .1) in
     (omega (arith, f, k .ready .sound .count-most), best-runs (c .before .before .before .before .before .before .before .before .before .before .before .before .before .args .t1) f k, k .bytes, k .cells)
@@ -33,7 +33,7 @@ same-length-2 c = search needs
 
 returns-2 : tie.Need-returns-2
 returns-2 c =
-    let e = c .before .before .before .before .best-lines .ensures in
+    let e = c .before .before .before .before .plan-first-lines .ensures in
     best-accepted (c .before .before .before .before .before .before .before .before .before .before .before .before .before .before .before .before .before .before .args .t1) (full (c .before .before .before .before .before .before .before .before .before .before .before .before .before .before .before .before .before .before .args .t1 .sets) (c .before .before .before .before .before .before .before .before .before .before .before .before .before .before .before .before .before .before .good .0 .1 .1 .1 .1 .1 .0 .1 .0 .1)) (c .before .before .before .before .before .before .before .before .before .before .before .before .before .before .before .before .before .before .args .plan .now) (c .before .before .before .before .before .before .before .before .before .before .before .before .before .before .before .before .before .before .args .table .now) (c .before .before .before .before .before .before .before .before .before .before .before .before .best-refusal .ensures) (c .before .before .before .before .before .before .before .before .before .before .if1 .left) (e .0) (e .1 .0) (e .1 .1)
 
 pub best-spec : {M : Type 1} → statement M
@@ -42,7 +42,7 @@ best-spec =
     (tie.spec
     best-refusal-requires
     returns
-    best-lines-requires
+    plan-first-lines-requires
     same-length
     same-length-2
     returns-2)

@@ -3,10 +3,10 @@ use mathlib.Core.List.{_++_}
 use native.Mathlib.Omega.{arith}
 use lib.ListN.{length, take, drop}
 use lib.Seq.{length-take-le}
 use Rattle.job.specs.Job.{fileLength}
 use borrow.Author.Needs.{needs}
-use Rattle.board.proofs.file_call.write_lines.Statement.{statement}
-use Rattle.board.proofs.file_call.write_lines.Tie as tie
+use Rattle.job.proofs.write_first_lines.Statement.{statement}
+use Rattle.job.proofs.write_first_lines.Tie as tie
 
 -- the lines are as many as the count, and their place in the output has the bytes of their file
 lines : (c : tie.After-file-length) → length (take (c .before .before .before .args .count) (c .before .before .before .args .sets .now)) ≡ c .before .before .before .args .count
@@ -38,8 +38,8 @@ returns c =
     let e = c .before .before .before .before .before .file-length .ensures in
     (e, ap₂ (λ x n. x ++ drop n (c .before .before .before .before .before .before .before .before .args .out .now)) (c .before .before .write-file .ensures) e)
 
-pub write-lines-spec : {M : Type 1} → statement M
-write-lines-spec =
+pub write-first-lines-spec : {M : Type 1} → statement M
+write-first-lines-spec =
     tie.close
     (tie.spec
     file-length-requires

@@ -3,8 +3,8 @@ use mathlib.Core.Path.{_∙_, sym}
 use native.Mathlib.Omega.{arith}
 use lib.Seq.{length-take-le}
 use borrow.Author.Needs.{needs}
-use Rattle.board.proofs.best_call.best_lines.Statement.{statement}
-use Rattle.board.proofs.best_call.best_lines.Tie as tie
+use Rattle.best.proofs.plan_first_lines.Statement.{statement}
+use Rattle.best.proofs.plan_first_lines.Tie as tie
 
 mul-square : tie.Need-mul-square
 mul-square c = search needs
@@ -41,8 +41,8 @@ returns c =
     let e = c .before .before .before .before .plan-lines .ensures in
     (e .0, (rw (e .1 .0), rw (e .1 .1)))
 
-pub best-lines-spec : {M : Type 1} → statement M
-best-lines-spec =
+pub plan-first-lines-spec : {M : Type 1} → statement M
+plan-first-lines-spec =
     tie.close
     (tie.spec
     mul-square
