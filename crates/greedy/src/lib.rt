@@ -12,7 +12,7 @@ fn smaller(a: usize, b: usize) -> usize
     if a < b { a } else { b }
 }
 
-// The union of each eight lines' sets.
+// The union of the sets of each block of eight lines. Lines only become empty after it, so that it is made once.
 fn unite(lines: &[u64], unions: &mut [u64])
     requires { ⌜ length (now lines) ≤ length (now unions) * 8 ⌝ }
     ensures { λ _. ⌜ Covers (now (lines .entry)) (now (unions .exit)) ⌝ }
@@ -38,6 +38,7 @@ fn take_line(tip: usize, i: usize, left: &mut [u64], plan: &mut [u8], counts: &m
     }
 }
 
+// The tip is taken for the lines from `from` to before `to`.
 fn take_between(
     tip: usize,
     from: usize,
@@ -56,7 +57,7 @@ fn take_between(
     }
 }
 
-// The lines of block b, but for a block that cannot have the tip.
+// The tip is taken for the lines of block b; most blocks cannot have it, and their lines are not looked at.
 fn take_block(
     tip: usize,
     b: usize,
