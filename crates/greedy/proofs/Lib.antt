@@ -3,3 +3,4 @@ pub mod Unplanned
 pub mod Bound
 pub mod Line
 pub mod Round
+pub mod Blocks
