@@ -4,3 +4,4 @@ pub mod Bound
 pub mod Line
 pub mod Round
 pub mod Blocks
+pub mod Lists

@@ -28,6 +28,13 @@ module _ (f : ℕ → ℕ → ℕ) where
       → set (planBy f (take i left) plan) i (f (getD left i 0) (getD (planBy f (take i left) plan) i 0)) ≡ planBy f (take (i + 1) left) plan
   planBy-more left plan i h k = rw (add-one, planBy-suc left plan i h k)
 
+  pub planBy-at : (left plan : List ℕ) (i : ℕ) → i < length left → i < length plan → getD (planBy f left plan) i 0 ≡ f (getD left i 0) (getD plan i 0)
+  unfolding planBy
+  planBy-at [] plan i h k = absurd (omega arith)
+  planBy-at (s ∷ left) [] i h k = absurd (omega arith)
+  planBy-at (s ∷ left) (p ∷ plan) zero h k = refl
+  planBy-at (s ∷ left) (p ∷ plan) (suc i) h k = planBy-at left plan i (omega arith) (omega arith)
+
   -- a function that leaves each tip
   pub planBy-same : {left : List ℕ} → All (λ s. (p : ℕ) → f s p ≡ p) left → (plan : List ℕ) → planBy f left plan ≡ plan
   unfolding planBy

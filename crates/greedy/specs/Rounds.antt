@@ -1,9 +1,8 @@
 -- Quick sharing over a working copy of the lines, in which a planned line is the empty set.
-use Prim.Native.Nat.{ℕ, _+_, _*_, _/_, _≤_, _<_}
+use Prim.Native.Nat.{ℕ, _≤_, _<_}
 use mathlib.Core.Path.{_≡_}
 use mathlib.Core.Bool.{cond}
 use mathlib.Core.List.{List, [], _∷_, map}
-use lib.Dec.{T}
 use lib.ListN.{length, getD, set, replicate}
 use Rattle.model.specs.Count.{All}
 use Rattle.model.specs.Plan.{has, pairs, Domain}
@@ -38,11 +37,6 @@ pub record Shared (rack : ℕ) (lines : List ℕ) (r : ℕ) (plan left : List �
   pub plan-is : plan ≡ quickPlan rack lines
   pub left-is : left ≡ replicate (length lines) 0
 
--- each tip of a line is in the union of its block of eight lines
-pub record Covers (lines unions : List ℕ) : Type 0 where
-  pub room : length lines ≤ length unions * 8
-  pub in-union : (i t : ℕ) → i < length lines → T (has (getD lines i 0) t) → T (has (getD unions (i / 8) 0) t)
-
 -- a tip to take for lines whose occurrences are counted
 pub record Counted (tip : ℕ) (left plan counts : List ℕ) : Type 0 where
   pub inside : tip < 64
@@ -54,12 +48,6 @@ pub record LineTaken (tip i : ℕ) (left plan left' plan' counts' : List ℕ) : 
   pub left-is : left' ≡ set left i (cleared tip (getD left i 0))
   pub plan-is : plan' ≡ set plan i (placed tip (getD left i 0) (getD plan i 0))
   pub counts-are : Counts left' counts'
-
--- the tip is taken for the lines from i to before j, one after the other
-pub data LinesTaken (tip i : ℕ) : ℕ → (left plan counts left' plan' counts' : List ℕ) → Type 0 where
-  none : {left plan counts : List ℕ} → LinesTaken tip i i left plan counts left plan counts
-  more : {j : ℕ} {left plan counts left' plan' counts' left'' plan'' counts'' : List ℕ} → LinesTaken tip i j left plan counts left' plan' counts'
-      → LineTaken tip j left' plan' left'' plan'' counts'' → LinesTaken tip i (j + 1) left plan counts left'' plan'' counts''
 
 -- the tip is taken for all lines
 pub record Taken (tip : ℕ) (left plan left' plan' counts' : List ℕ) : Type 0 where

@@ -1,27 +1,109 @@
 // Quick sharing over slices, in rounds: each takes the tip that most lines left allow.
 ghost use mathlib.Core.Path.{_≡_};
-ghost use Prim.Native.Nat.{_+_, _*_, _≤_, _<_, min};
+ghost use mathlib.Core.Bool.{cond};
+ghost use Prim.Native.Nat.{_+_, _*_, _/_, _^_, _≤_, _<_, min};
 ghost use lib.ListN.{length};
+ghost use Rattle.model.specs.Plan.{has};
 ghost use Rattle.counts.specs.Counts.{Counts};
-ghost use Rattle.greedy.specs.Rounds.{Shareable, Shared, Covers, Counted, LineTaken, LinesTaken, Taken};
+ghost use Rattle.greedy.specs.Rounds.{Shareable, Shared, Counted, LineTaken, Taken};
+ghost use Rattle.greedy.specs.Blocks.{Union, Covers, Renewed, Below, Room, Added, Found, ListTaken};
 
-fn smaller(a: usize, b: usize) -> usize
-    ensures { λ r. ⌜ r ≡ min a b ⌝ }
+fn wide(x: u16) -> usize
+    ensures { λ r. ⌜ r ≡ x ⌝ }
 {
-    if a < b { a } else { b }
+    x as usize
 }
 
-// The union of the sets of each block of eight lines. Lines only become empty after it, so that it is made once.
-fn unite(lines: &[u64], unions: &mut [u64])
-    requires { ⌜ length (now lines) ≤ length (now unions) * 8 ⌝ }
+// The end of the block that begins at line i.
+fn block_end(i: usize, n: usize) -> usize
+    requires { ⌜ i ≤ n ⌝ }
+    ensures { λ r. ⌜ r ≡ min (i + 8) n ⌝ }
+{
+    if n - i < 8 { n } else { i + 8 }
+}
+
+fn union_of(from: usize, to: usize, lines: &[u64]) -> u64
+    requires { ⌜ to ≤ length (now lines) ⌝ }
+    ensures { λ r. ⌜ Union from to (now (lines .entry)) r ⌝ }
+{
+    let mut union = 0;
+    let mut i = from;
+    while i < to {
+        union = union | lines[i];
+        i += 1;
+    }
+    union
+}
+
+fn renew_block(b: usize, lines: &[u64], unions: &mut [u64])
+    requires { ⌜ (b * 8 < length (now lines)) × (b < length (now unions)) ⌝ }
+    ensures { λ _. ⌜ Renewed b (now (lines .entry)) (now (unions .entry)) (now (unions .exit)) ⌝ }
+{
+    let from = b * 8;
+    let to = block_end(from, lines.len());
+    unions[b] = union_of(from, to, lines);
+}
+
+// The union of each block of eight lines.
+fn unite(blocks: usize, lines: &[u64], unions: &mut [u64])
+    requires { ⌜ (blocks ≡ (length (now lines) + 7) / 8) × (blocks ≤ length (now unions)) ⌝ }
+    ensures { λ _. ⌜ Covers (now (lines .entry)) (now (unions .exit)) ⌝ }
+{
+    let mut b = 0;
+    while b < blocks {
+        renew_block(b, lines, unions);
+        b += 1;
+    }
+}
+
+// The unions of the listed blocks, whose lines have become fewer.
+fn renew(n: usize, blocks: &[u16], lines: &[u64], unions: &mut [u64])
+    requires { ⌜ Covers (now lines) (now unions) × Below ((length (now lines) + 7) / 8) n (now blocks) × (n ≤ length (now blocks)) ⌝ }
     ensures { λ _. ⌜ Covers (now (lines .entry)) (now (unions .exit)) ⌝ }
 {
     let mut i = 0;
-    while i < lines.len() {
-        let b = i / 8;
-        unions[b] = unions[b] | lines[i];
+    while i < n {
+        renew_block(wide(blocks[i]), lines, unions);
         i += 1;
     }
+}
+
+fn one_if_has(set: u64, tip: usize) -> usize
+    requires { ⌜ tip < 64 ⌝ }
+    ensures { λ r. ⌜ r ≡ cond (has set tip) 1 0 ⌝ }
+{
+    if tips::has_tip(set, tip) { 1 } else { 0 }
+}
+
+// The places of the sets that have the tip. Each place is written and only those with the tip are counted: a branch would often be mispredicted.
+fn add_places(tip: usize, from: usize, to: usize, sets: &[u64], n: usize, list: &mut [u16]) -> usize
+    requires { ⌜ (tip < 64) × (from ≤ to) × (to ≤ length (now sets)) × (to ≤ 2 ^ 16) × (n + to ≤ length (now list) + from) ⌝ }
+    ensures { λ r. ⌜ Added tip from to (now (sets .entry)) n (now (list .entry)) r (now (list .exit)) ⌝ }
+{
+    let mut count = n;
+    let mut i = from;
+    while i < to {
+        list[count] = i as u16;
+        count += one_if_has(sets[i], tip);
+        i += 1;
+    }
+    count
+}
+
+// The lines of the listed blocks that have the tip.
+fn find_lines(tip: usize, n: usize, blocks: &[u16], left: &[u64], lines: &mut [u16]) -> usize
+    requires { ⌜ (tip < 64) × Below ((length (now left) + 7) / 8) n (now blocks) × (n ≤ length (now blocks)) × (n * 8 ≤ length (now lines)) × (length (now left) ≤ 2 ^ 16) ⌝ }
+    ensures { λ r. ⌜ Found tip n (now (blocks .entry)) (now (left .entry)) r (now (lines .exit)) ⌝ }
+{
+    let mut found = 0;
+    let mut i = 0;
+    while i < n {
+        let from = wide(blocks[i]) * 8;
+        let to = block_end(from, left.len());
+        found = add_places(tip, from, to, left, found, lines);
+        i += 1;
+    }
+    found
 }
 
 // A line that has the tip is planned on it: its tips come off the counts, and its set becomes empty.
@@ -37,66 +119,55 @@ fn take_line(tip: usize, i: usize, left: &mut [u64], plan: &mut [u8], counts: &m
     }
 }
 
-// The tip is taken for the lines from `from` to before `to`.
-fn take_between(
+fn take_listed(
     tip: usize,
-    from: usize,
-    to: usize,
+    n: usize,
+    lines: &[u16],
     left: &mut [u64],
     plan: &mut [u8],
     counts: &mut [u64],
 )
-    requires { ⌜ Counted tip (now left) (now plan) (now counts) × (from ≤ to) × (to ≤ length (now left)) ⌝ }
-    ensures { λ _. ⌜ LinesTaken tip from to (now (left .entry)) (now (plan .entry)) (now (counts .entry)) (now (left .exit)) (now (plan .exit)) (now (counts .exit)) ⌝ }
+    requires { ⌜ Counted tip (now left) (now plan) (now counts) × Below (length (now left)) n (now lines) × (n ≤ length (now lines)) ⌝ }
+    ensures { λ _. ⌜ ListTaken tip n (now (lines .entry)) (now (left .entry)) (now (plan .entry)) (now (left .exit)) (now (plan .exit)) (now (counts .exit)) ⌝ }
 {
-    let mut i = from;
-    while i < to {
-        take_line(tip, i, left, plan, counts);
+    let mut i = 0;
+    while i < n {
+        take_line(tip, wide(lines[i]), left, plan, counts);
         i += 1;
     }
 }
 
-// The tip is taken for the lines of block b; most blocks cannot have it, and their lines are not looked at.
-fn take_block(
+// One round: the tip is taken for each line that has it. The lists are room for those lines and their blocks.
+fn take_lines(
     tip: usize,
-    b: usize,
-    unions: &[u64],
+    unions: &mut [u64],
+    blocks: &mut [u16],
+    lines: &mut [u16],
     left: &mut [u64],
     plan: &mut [u8],
     counts: &mut [u64],
 )
-    requires { ⌜ Counted tip (now left) (now plan) (now counts) × Covers (now left) (now unions) × (b * 8 < length (now left)) ⌝ }
-    ensures { λ _. ⌜ LinesTaken tip (b * 8) (min (b * 8 + 8) (length (now (left .entry)))) (now (left .entry)) (now (plan .entry)) (now (counts .entry)) (now (left .exit)) (now (plan .exit)) (now (counts .exit)) ⌝ }
+    requires { ⌜ Counted tip (now left) (now plan) (now counts) × Covers (now left) (now unions) × Room (now unions) (now blocks) (now lines) ⌝ }
+    ensures { λ _. ⌜ Taken tip (now (left .entry)) (now (plan .entry)) (now (left .exit)) (now (plan .exit)) (now (counts .exit)) × Covers (now (left .exit)) (now (unions .exit)) ⌝ }
 {
-    if tips::has_tip(unions[b], tip) {
-        let from = b * 8;
-        let to = smaller(from + 8, left.len());
-        take_between(tip, from, to, left, plan, counts);
-    }
-}
-
-// One round: the tip is taken for each line that has it.
-fn take_lines(tip: usize, unions: &[u64], left: &mut [u64], plan: &mut [u8], counts: &mut [u64])
-    requires { ⌜ Counted tip (now left) (now plan) (now counts) × Covers (now left) (now unions) ⌝ }
-    ensures { λ _. ⌜ Taken tip (now (left .entry)) (now (plan .entry)) (now (left .exit)) (now (plan .exit)) (now (counts .exit)) ⌝ }
-{
-    let blocks = (left.len() + 7) / 8;
-    let mut b = 0;
-    while b < blocks {
-        take_block(tip, b, unions, left, plan, counts);
-        b += 1;
-    }
+    let all = (left.len() + 7) / 8;
+    let hit = add_places(tip, 0, all, unions, 0, blocks);
+    let found = find_lines(tip, hit, blocks, left, lines);
+    take_listed(tip, found, lines, left, plan, counts);
+    renew(hit, blocks, left, unions);
 }
 
 // Each round takes the tip that most lines left allow, the lowest on a tie.
 fn take_rounds(
     rack: usize,
-    unions: &[u64],
+    unions: &mut [u64],
+    blocks: &mut [u16],
+    places: &mut [u16],
     left: &mut [u64],
     plan: &mut [u8],
     counts: &mut [u64],
 ) -> u32
-    requires { ⌜ Shareable rack (now left) (now plan) × Counts (now left) (now counts) × Covers (now left) (now unions) ⌝ }
+    requires { ⌜ Shareable rack (now left) (now plan) × Counts (now left) (now counts) × Covers (now left) (now unions) × Room (now unions) (now blocks) (now places) ⌝ }
     ensures { λ r. ⌜ Shared rack (now (left .entry)) r (now (plan .exit)) (now (left .exit)) ⌝ }
 {
     let mut shared = 0;
@@ -107,8 +178,35 @@ fn take_rounds(
         }
         let tip = tips::lowest(busiest.tips);
         shared += counts::pairs_among(busiest.top);
-        take_lines(tip, unions, left, plan, counts);
+        take_lines(tip, unions, blocks, places, left, plan, counts);
     }
+}
+
+// A place for each line of the longest board.
+fn no_lines() -> [u16; 512]
+    ensures { λ r. ⌜ length r ≡ 512 ⌝ }
+{
+    [0u16; 512]
+}
+
+// The rounds, with the unions and the lists that they need.
+fn plan_counted(rack: usize, left: &mut [u64], plan: &mut [u8], counts: &mut [u64]) -> u32
+    requires { ⌜ Shareable rack (now left) (now plan) × Counts (now left) (now counts) ⌝ }
+    ensures { λ r. ⌜ Shared rack (now (left .entry)) r (now (plan .exit)) (now (left .exit)) ⌝ }
+{
+    let mut unions = [0u64; 64];
+    unite((left.len() + 7) / 8, left, &mut unions);
+    let mut blocks = [0u16; 64];
+    let mut places = no_lines();
+    take_rounds(
+        rack,
+        &mut unions,
+        &mut blocks,
+        &mut places,
+        left,
+        plan,
+        counts,
+    )
 }
 
 // The plan of quick sharing, and its pairs. The lines are the caller's working copy: at the end each set is empty.
@@ -118,7 +216,5 @@ pub fn plan_lines(rack: usize, left: &mut [u64], plan: &mut [u8]) -> u32
 {
     let mut counts = [0u64; 10];
     counts::count_tips(left, &mut counts);
-    let mut unions = [0u64; 64];
-    unite(left, &mut unions);
-    take_rounds(rack, &unions, left, plan, &mut counts)
+    plan_counted(rack, left, plan, &mut counts)
 }

@@ -1,73 +1,72 @@
-use Prim.Native.Nat.{_*_, _<_, _-_, min}
-use mathlib.Core.Path.{_≡_}
+use mathlib.Core.Path.{refl}
 use native.Mathlib.Omega.{arith}
-use lib.ListN.{length}
-use Rattle.greedy.proofs.Line.{FirstTaken, none-taken, left-size, plan-size, counts-size, still-counted, all-taken}
-use Rattle.greedy.proofs.Blocks.{first-covered, first-block}
+use Rattle.greedy.proofs.Blocks.{taken-covered}
+use Rattle.greedy.proofs.Lists.{listed-all, lines-listed}
 use borrow.Author.Needs.{needs}
 use Rattle.greedy.proofs.take_lines.Statement.{statement}
 use Rattle.greedy.proofs.take_lines.Tie as tie
 
-abbrev Inv-loop : tie.InvT-loop
-Inv-loop tip unions left₀ plan₀ counts₀ blocks b₀ left plan counts b = FirstTaken tip (min (b * 8) (length left₀)) left₀ plan₀ left plan counts
+add-all : tie.Need-add-all
+add-all c = search needs
 
-abbrev μ-loop : tie.MeasureT-loop
-μ-loop tip unions left₀ plan₀ counts₀ blocks b₀ left plan counts b = blocks - b
+add-places-requires : tie.Need-add-places-requires
+add-places-requires c κs = search needs
 
-add-blocks : tie.Need-add-blocks Inv-loop μ-loop
-add-blocks c = search needs
+find-lines-requires : tie.Need-find-lines-requires
+find-lines-requires c κs =
+    let p = c .before .before .before .before .before .before .before .before .before .before .before .before .before .before .pre in
+    let a = c .before .before .before .before .before .add-places .ensures in
+    (p .0 .inside, λ k l. a .inside k (omega arith) l, omega (arith, p .1 .room, p .2 .for-blocks, a .most), omega (arith, p .1 .room, p .2 .for-lines, a .most), omega (arith, p .1 .room, p .2 .narrow))
 
-loop-holds : tie.Need-loop-holds Inv-loop μ-loop
-loop-holds c =
-    let k = c .before .before .before .before .pre .0 in
-    let e : min 0 (length (c .before .before .before .before .args .left .now)) ≡ 0 = omega arith in
-    rw e (none-taken k)
+take-listed-requires : tie.Need-take-listed-requires
+take-listed-requires c κs = search needs
 
-take-block-requires : tie.Need-take-block-requires Inv-loop μ-loop
-take-block-requires c κs =
-    let s = c .before .before .before .before .before .before .before .before .before in
-    let f = c .before .before .before .before .loop .inv in
-    (still-counted (s .pre .0) f, first-covered (s .pre .1) f, omega (arith, left-size (s .pre .0) f, c .before .before .before .loop-test .taken))
+renew-requires : tie.Need-renew-requires
+renew-requires c κs =
+    let p = c .before .before .before .before .before .before .before .before .before .before .before .before .before .before .before .before .before .before .before .before .before .before .before .before .before .before .before .before .before .before .before .pre in
+    let a = c .before .before .before .before .before .before .before .before .before .before .before .before .before .before .before .before .before .before .before .before .before .before .add-places .ensures in
+    let t = c .before .before .before .before .before .before .before .before .before .take-listed .ensures in
+    let s = t .left-size in
+    let taken = listed-all (p .0) t (lines-listed (p .1) refl a (c .before .before .before .before .before .before .before .before .before .before .before .before .before .before .before .before .find-lines .ensures)) in
+    (taken-covered (p .1) taken, λ k l. omega (arith, a .inside k (omega arith) l), omega (arith, p .1 .room, p .2 .for-blocks, a .most))
 
-add-b : tie.Need-add-b Inv-loop μ-loop
-add-b c = search needs
+same-length : tie.Need-same-length
+same-length c = search needs
 
-loop-less : tie.Need-loop-less Inv-loop μ-loop
-loop-less c = search needs
+same-length-2 : tie.Need-same-length-2
+same-length-2 c = search needs
 
-loop-again : tie.Need-loop-again Inv-loop μ-loop
-loop-again c =
-    let l = c .before .before .before .before .before .before .before .before .before .before .before .loop in
-    first-block (l .b) (c .before .before .before .before .before .before .before .before .before .before .before .before .before .before .before .before .pre .0) (omega arith) (l .inv) (c .before .before .before .before .before .before .take-block .ensures)
+same-length-3 : tie.Need-same-length-3
+same-length-3 c = search needs
 
-same-length : tie.Need-same-length Inv-loop μ-loop
-same-length c = left-size (c .before .before .before .before .before .before .pre .0) (c .before .loop .inv)
+same-length-4 : tie.Need-same-length-4
+same-length-4 c = search needs
 
-same-length-2 : tie.Need-same-length-2 Inv-loop μ-loop
-same-length-2 c = plan-size (c .before .before .before .before .before .before .pre .0) (c .before .loop .inv)
+same-length-5 : tie.Need-same-length-5
+same-length-5 c = search needs
 
-same-length-3 : tie.Need-same-length-3 Inv-loop μ-loop
-same-length-3 c = counts-size (c .before .before .before .before .before .before .pre .0) (c .before .loop .inv)
+same-length-6 : tie.Need-same-length-6
+same-length-6 c = search needs
 
-returns : tie.Need-returns Inv-loop μ-loop
+returns : tie.Need-returns
 returns c =
-    let k = c .before .before .before .before .before .before .pre .0 in
-    let f = c .before .loop .inv in
-    all-taken k f (omega (arith, left-size k f))
+    let p = c .before .before .before .before .before .before .before .before .before .before .before .before .before .before .before .before .before .before .before .before .before .before .before .before .before .before .before .before .before .before .before .before .before .before .pre in
+    let t = c .before .before .before .before .before .before .before .before .before .before .before .before .take-listed .ensures in
+    (listed-all (p .0) t (lines-listed (p .1) refl (c .before .before .before .before .before .before .before .before .before .before .before .before .before .before .before .before .before .before .before .before .before .before .before .before .before .add-places .ensures) (c .before .before .before .before .before .before .before .before .before .before .before .before .before .before .before .before .before .before .before .find-lines .ensures)), c .before .before .renew .ensures)
 
 pub take-lines-spec : {M : Type 1} → statement M
 take-lines-spec =
     tie.close
     (tie.spec
-    Inv-loop
-    μ-loop
-    add-blocks
-    loop-holds
-    take-block-requires
-    add-b
-    loop-less
-    loop-again
+    add-all
+    add-places-requires
+    find-lines-requires
+    take-listed-requires
+    renew-requires
     same-length
     same-length-2
     same-length-3
+    same-length-4
+    same-length-5
+    same-length-6
     returns)
