@@ -2,7 +2,7 @@ use mathlib.Core.Path.{_≡_, refl, ap, sym, _∙_}
 use native.Mathlib.Omega.{arith}
 use lib.ListN.{length}
 use Rattle.model.proofs.ListOf.{length-listOf}
-use Rattle.greedy.specs.Blocks.{Covers, Room}
+use Rattle.greedy.specs.Blocks.{Covers}
 use Rattle.greedy.proofs.Unplanned.{unplanned}
 use Rattle.greedy.proofs.Round.{State, Begun, start, counts-size, few-lines, tip-lt, tip-counted, end-left, end-plan, end-pairs, pairs-fit, next, next-fewer}
 use borrow.Author.Needs.{needs}
