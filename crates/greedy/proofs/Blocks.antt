@@ -1,9 +1,9 @@
 -- The union of the sets of each block of eight lines.
 use Prim.Native.Nat.{ℕ, _+_, _*_, _/_, _%_, _^_, _≤_, _<_, min, max}
 use native.Mathlib.Omega.{arith}
-use mathlib.Core.Path.{_≡_, ap, sym, _∙_}
+use mathlib.Core.Path.{_≡_, ap, _∙_}
 use mathlib.Core.Logic.{⊎-elim}
-use mathlib.Core.List.{List, map}
+use mathlib.Core.List.{List}
 use lib.Bits.{bitOr, or-step, or-shr}
 use lib.Dec.{T, T-not, eqb, eqb→eq, eqb-refl}
 use lib.ListN.{length, getD, set, length-map}
@@ -35,9 +35,9 @@ union-more {i} {j} {lines} {u} v = record {
 }
 
 -- the union u of block b, put in its place
-pub union-renewed : (b : ℕ) (lines unions : List ℕ) {u : ℕ} → b < length unions → Union (b * 8) (min (b * 8 + 8) (length lines)) lines u
+pub union-renewed : (b : ℕ) (lines unions : List ℕ) {j u : ℕ} → b < length unions → min (b * 8 + 8) (length lines) ≤ j → Union (b * 8) j lines u
     → Renewed b lines unions (set unions b u)
-union-renewed b lines unions {u} l v = record {
+union-renewed b lines unions {j} {u} l o v = record {
   in-union = λ i t m e h. rw (getD-set-same unions b u 0 l) (v .in-union i t (omega arith) (omega arith) h);
   others = λ c n. getD-set-other unions b c u 0 n;
 }

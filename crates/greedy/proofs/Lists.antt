@@ -9,11 +9,11 @@ use lib.Dec.{T, T-not, not-T, eqb, eqb→eq, eqb-refl}
 use lib.ListN.{length, getD, set, length-set, length-map}
 use lib.Seq.{getD-set-same, getD-set-other, ext-getD}
 use Rattle.model.specs.Plan.{has}
-use Rattle.model.proofs.Tests.{le-or-lt, test, true-T, false-T, one-le, one-T}
+use Rattle.model.proofs.Tests.{le-or-lt, test, true-T, false-T, one-le}
 use Rattle.model.proofs.Lists.{getD-map}
 use Rattle.model.proofs.Sets.{has-some}
 use Rattle.greedy.specs.Rounds.{cleared, placed, planBy, Counted, LineTaken, Taken}
-use Rattle.greedy.specs.Blocks.{Covers, Among, Below, Added, Found, Done, Kept, ListTaken}
+use Rattle.greedy.specs.Blocks.{Covers, Among, Added, Found, Done, Kept, ListTaken}
 use Rattle.greedy.proofs.PlanBy.{length-planBy, planBy-at}
 
 -- ---- places
@@ -45,12 +45,12 @@ added-more {tip} {i} {j} {sets} {r} {list} {r'} {list'} m l a =
       kept = λ k p. old k (omega (arith, a .least)) ∙ a .kept k p;
       inside = λ k p q.
           ⊎-elim
-          (λ x. let e : k ≡ r' = omega arith in rw (e, same) (omega arith))
+          (λ (x : r' ≤ k). let e : k ≡ r' = omega arith in rw (e, same) (omega arith))
           (λ x. omega (arith, old k x, a .inside k p x))
           (le-or-lt r' k);
       each = λ k p q y.
           ⊎-elim
-          (λ x. let e : k ≡ j = omega arith in
+          (λ (x : j ≤ k). let e : k ≡ j = omega arith in
           let t : h ≡ true = true-T h (rw e at y) in
           record { place = r'; early = rw t (omega arith); held = same ∙ sym e })
           (λ x. among-kept (omega arith) old (a .each k p x y))
@@ -118,20 +118,23 @@ listed-none list k = record {
   plan-size = refl;
   listed = λ i a. let m = a .early in absurd (omega arith);
   others = λ i. inr (record { left-is = refl; plan-is = refl });
-  counts-are = k .counts-are;
+  counted = k;
 }
 
 module _ {tip : ℕ} {left plan counts : List ℕ} (k : Counted tip left plan counts) {r : ℕ} {list left' plan' counts' : List ℕ} (f : ListTaken tip r list left plan left' plan' counts') where
-  pub listed-counted : Counted tip left' plan' counts'
-  listed-counted = record { inside = k .inside; size = omega (arith, k .size, f .left-size, f .plan-size); counts-are = f .counts-are }
-
   -- one line more
   module _ {x : ℕ} {left'' plan'' counts'' : List ℕ} (e : x ≡ getD list r 0) (l : x < length left') (t : LineTaken tip x left' plan' left'' plan'' counts'') where
+    line-left : length left'' ≡ length left'
+    line-left = simp length-set at (ap length (t .left-is))
+
+    line-plan : length plan'' ≡ length plan'
+    line-plan = simp length-set at (ap length (t .plan-is))
+
     left-new : getD left'' x 0 ≡ cleared tip (getD left' x 0)
     left-new = rw (t .left-is) (getD-set-same left' x (cleared tip (getD left' x 0)) 0 l)
 
     plan-new : getD plan'' x 0 ≡ placed tip (getD left' x 0) (getD plan' x 0)
-    plan-new = rw (t .plan-is) (getD-set-same plan' x (placed tip (getD left' x 0) (getD plan' x 0)) 0 (omega (arith, k .size, f .left-size, f .plan-size)))
+    plan-new = rw (t .plan-is) (getD-set-same plan' x (placed tip (getD left' x 0) (getD plan' x 0)) 0 (omega (arith, f .counted .size)))
 
     other-line : (i : ℕ) → (i ≡ x → ⊥) → Kept i left' plan' left'' plan''
     other-line i n = record { left-is = rw (t .left-is) (getD-set-other left' x i _ 0 n); plan-is = rw (t .plan-is) (getD-set-other plan' x i _ 0 n) }
@@ -161,8 +164,8 @@ module _ {tip : ℕ} {left plan counts : List ℕ} (k : Counted tip left plan co
 
     pub listed-more : ListTaken tip (r + 1) list left plan left'' plan'' counts''
     listed-more = record {
-      left-size = simp length-set at (ap length (t .left-is)) ∙ f .left-size;
-      plan-size = simp length-set at (ap length (t .plan-is)) ∙ f .plan-size;
+      left-size = line-left ∙ f .left-size;
+      plan-size = line-plan ∙ f .plan-size;
       listed = λ i a.
           let m = a .early in
           ⊎-elim
@@ -177,7 +180,7 @@ module _ {tip : ℕ} {left plan counts : List ℕ} (k : Counted tip left plan co
           (λ d. still (λ j. Done tip j left plan left'' plan'' ⊎ Kept j left plan left'' plan'') (inl line-done) i
           (λ n. let o = other-line i n in inr (record { left-is = o .left-is ∙ d .left-is; plan-is = o .plan-is ∙ d .plan-is })))
           (f .others i);
-      counts-are = t .counts-are;
+      counted = record { inside = k .inside; size = omega (arith, f .counted .size, line-left, line-plan); counts-are = t .counts-are };
     }
 
   -- each line that has the tip is listed
@@ -199,7 +202,7 @@ module _ {tip : ℕ} {left plan counts : List ℕ} (k : Counted tip left plan co
               (λ i l. all-done i (omega arith) .left-is ∙ sym (getD-map (cleared tip) 0 0 left i (omega arith)));
           plan-is = ext-getD 0 plan' (planBy (placed tip) left plan) (b ∙ sym (length-planBy (placed tip) left plan))
               (λ i l. all-done i (omega arith) .plan-is ∙ sym (planBy-at (placed tip) left plan i (omega arith) (omega arith)));
-          counts-are = f .counts-are;
+          counts-are = f .counted .counts-are;
         }
 
 -- the blocks with the tip are listed, and of those the lines with the tip: so is each line with the tip

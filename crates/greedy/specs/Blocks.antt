@@ -6,8 +6,7 @@ use mathlib.Core.List.{List}
 use lib.Dec.{T}
 use lib.ListN.{length, getD}
 use Rattle.model.specs.Plan.{has}
-use Rattle.counts.specs.Counts.{Counts}
-use Rattle.greedy.specs.Rounds.{cleared, placed}
+use Rattle.greedy.specs.Rounds.{cleared, placed, Counted}
 
 -- each tip of the lines from i to before j is in the set u
 pub record Union (i j : ℕ) (lines : List ℕ) (u : ℕ) : Type 0 where
@@ -69,4 +68,4 @@ pub record ListTaken (tip r : ℕ) (list left plan left' plan' counts' : List �
   pub plan-size : length plan' ≡ length plan
   pub listed : (i : ℕ) → Among i r list → Done tip i left plan left' plan'
   pub others : (i : ℕ) → Done tip i left plan left' plan' ⊎ Kept i left plan left' plan'
-  pub counts-are : Counts left' counts'
+  pub counted : Counted tip left' plan' counts'

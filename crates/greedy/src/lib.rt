@@ -14,14 +14,7 @@ fn wide(x: u16) -> usize
     x as usize
 }
 
-// The end of the block that begins at line i.
-fn block_end(i: usize, n: usize) -> usize
-    requires { ⌜ i ≤ n ⌝ }
-    ensures { λ r. ⌜ r ≡ min (i + 8) n ⌝ }
-{
-    if n - i < 8 { n } else { i + 8 }
-}
-
+// Each tip of the lines from `from` to before `to`.
 fn union_of(from: usize, to: usize, lines: &[u64]) -> u64
     requires { ⌜ to ≤ length (now lines) ⌝ }
     ensures { λ r. ⌜ Union from to (now (lines .entry)) r ⌝ }
@@ -35,13 +28,17 @@ fn union_of(from: usize, to: usize, lines: &[u64]) -> u64
     union
 }
 
+// The union of block b. Only the last block can have fewer than eight lines, and a loop over exactly eight is unrolled.
 fn renew_block(b: usize, lines: &[u64], unions: &mut [u64])
     requires { ⌜ (b * 8 < length (now lines)) × (b < length (now unions)) ⌝ }
     ensures { λ _. ⌜ Renewed b (now (lines .entry)) (now (unions .entry)) (now (unions .exit)) ⌝ }
 {
     let from = b * 8;
-    let to = block_end(from, lines.len());
-    unions[b] = union_of(from, to, lines);
+    if lines.len() - from < 8 {
+        unions[b] = union_of(from, lines.len(), lines);
+    } else {
+        unions[b] = union_of(from, from + 8, lines);
+    }
 }
 
 // The union of each block of eight lines.
@@ -56,7 +53,7 @@ fn unite(blocks: usize, lines: &[u64], unions: &mut [u64])
     }
 }
 
-// The unions of the listed blocks, whose lines have become fewer.
+// The unions of the listed blocks anew, of which lines have become empty.
 fn renew(n: usize, blocks: &[u16], lines: &[u64], unions: &mut [u64])
     requires { ⌜ Covers (now lines) (now unions) × Below ((length (now lines) + 7) / 8) n (now blocks) × (n ≤ length (now blocks)) ⌝ }
     ensures { λ _. ⌜ Covers (now (lines .entry)) (now (unions .exit)) ⌝ }
@@ -68,14 +65,14 @@ fn renew(n: usize, blocks: &[u16], lines: &[u64], unions: &mut [u64])
     }
 }
 
-fn one_if_has(set: u64, tip: usize) -> usize
+fn one_if_has(s: u64, tip: usize) -> usize
     requires { ⌜ tip < 64 ⌝ }
-    ensures { λ r. ⌜ r ≡ cond (has set tip) 1 0 ⌝ }
+    ensures { λ r. ⌜ r ≡ cond (has s tip) 1 0 ⌝ }
 {
-    if tips::has_tip(set, tip) { 1 } else { 0 }
+    if tips::has_tip(s, tip) { 1 } else { 0 }
 }
 
-// The places of the sets that have the tip. Each place is written and only those with the tip are counted: a branch would often be mispredicted.
+// Lists the places at which a set has the tip. Each place is written, and only those with the tip are counted: a branch would be mispredicted.
 fn add_places(tip: usize, from: usize, to: usize, sets: &[u64], n: usize, list: &mut [u16]) -> usize
     requires { ⌜ (tip < 64) × (from ≤ to) × (to ≤ length (now sets)) × (to ≤ 2 ^ 16) × (n + to ≤ length (now list) + from) ⌝ }
     ensures { λ r. ⌜ Added tip from to (now (sets .entry)) n (now (list .entry)) r (now (list .exit)) ⌝ }
@@ -90,7 +87,19 @@ fn add_places(tip: usize, from: usize, to: usize, sets: &[u64], n: usize, list: 
     count
 }
 
-// The lines of the listed blocks that have the tip.
+// Lists the lines of the block from `from` on that have the tip.
+fn add_block(tip: usize, from: usize, left: &[u64], n: usize, list: &mut [u16]) -> usize
+    requires { ⌜ (tip < 64) × (from < length (now left)) × (length (now left) ≤ 2 ^ 16) × (n + 8 ≤ length (now list)) ⌝ }
+    ensures { λ r. ⌜ Added tip from (min (from + 8) (length (now (left .entry)))) (now (left .entry)) n (now (list .entry)) r (now (list .exit)) ⌝ }
+{
+    if left.len() - from < 8 {
+        add_places(tip, from, left.len(), left, n, list)
+    } else {
+        add_places(tip, from, from + 8, left, n, list)
+    }
+}
+
+// Lists the lines of the listed blocks that have the tip.
 fn find_lines(tip: usize, n: usize, blocks: &[u16], left: &[u64], lines: &mut [u16]) -> usize
     requires { ⌜ (tip < 64) × Below ((length (now left) + 7) / 8) n (now blocks) × (n ≤ length (now blocks)) × (n * 8 ≤ length (now lines)) × (length (now left) ≤ 2 ^ 16) ⌝ }
     ensures { λ r. ⌜ Found tip n (now (blocks .entry)) (now (left .entry)) r (now (lines .exit)) ⌝ }
@@ -98,9 +107,7 @@ fn find_lines(tip: usize, n: usize, blocks: &[u16], left: &[u64], lines: &mut [u
     let mut found = 0;
     let mut i = 0;
     while i < n {
-        let from = wide(blocks[i]) * 8;
-        let to = block_end(from, left.len());
-        found = add_places(tip, from, to, left, found, lines);
+        found = add_block(tip, wide(blocks[i]) * 8, left, found, lines);
         i += 1;
     }
     found
@@ -119,6 +126,7 @@ fn take_line(tip: usize, i: usize, left: &mut [u64], plan: &mut [u8], counts: &m
     }
 }
 
+// The tip is taken for the listed lines.
 fn take_listed(
     tip: usize,
     n: usize,
@@ -137,7 +145,7 @@ fn take_listed(
     }
 }
 
-// One round: the tip is taken for each line that has it. The lists are room for those lines and their blocks.
+// One round: the tip is taken for each line that has it. Only lines of blocks whose union has it are looked at.
 fn take_lines(
     tip: usize,
     unions: &mut [u64],

@@ -1,5 +1,5 @@
 use Prim.Native.Nat.{_*_, _≤_, _<_, _-_}
-use mathlib.Core.Path.{_≡_, refl, _∙_}
+use mathlib.Core.Path.{_≡_, refl}
 use native.Mathlib.Omega.{arith}
 use lib.ListN.{length}
 use Rattle.greedy.specs.Blocks.{Found}
@@ -14,9 +14,9 @@ Inv-loop tip n blocks left lines₀ found₀ i₀ lines found i = (i ≤ n) × (
 abbrev μ-loop : tie.MeasureT-loop
 μ-loop tip n blocks left lines₀ found₀ i₀ lines found i = n - i
 
--- a listed block is one of the lines'
-block : (c : tie.After-wide Inv-loop μ-loop) → c .wide .result * 8 < length (c .before .before .before .before .before .before .before .args .left .now)
-block c =
+-- a listed block begins with a line
+first-line : (c : tie.After-wide Inv-loop μ-loop) → c .wide .result * 8 < length (c .before .before .before .before .before .before .before .args .left .now)
+first-line c =
     let b = c .before .before .before .before .before .before .before .pre .1 (c .before .before .before .loop .i) (omega arith) in
     omega (arith, c .wide .ensures)
 
@@ -32,19 +32,14 @@ shared-slice-read-wide c = search needs
 wide-requires : tie.Need-wide-requires Inv-loop μ-loop
 wide-requires c κs = search needs
 
-mul-from : tie.Need-mul-from Inv-loop μ-loop
-mul-from c = record { fits = omega (arith, block c) }
+mul-add-block : tie.Need-mul-add-block Inv-loop μ-loop
+mul-add-block c = record { fits = omega (arith, first-line c) }
 
-block-end-requires : tie.Need-block-end-requires Inv-loop μ-loop
-block-end-requires c κs = omega (arith, block c)
-
-add-places-requires : tie.Need-add-places-requires Inv-loop μ-loop
-add-places-requires c κs =
-    let l = c .before .before .before .before .before .loop in
-    let s = c .before .before .before .before .before .before .before .before .before in
-    let b = block (c .before .before) in
-    let e = c .before .block-end .ensures in
-    (s .pre .0, omega arith, omega arith, omega (arith, s .pre .4), omega (arith, l .inv .2 .most, s .pre .3))
+add-block-requires : tie.Need-add-block-requires Inv-loop μ-loop
+add-block-requires c κs =
+    let l = c .before .before .before .before .loop in
+    let s = c .before .before .before .before .before .before .before .before in
+    (s .pre .0, first-line (c .before), s .pre .4, omega (arith, l .inv .2 .most, s .pre .3))
 
 add-i : tie.Need-add-i Inv-loop μ-loop
 add-i c = search needs
@@ -54,9 +49,9 @@ loop-less c = search needs
 
 loop-again : tie.Need-loop-again Inv-loop μ-loop
 loop-again c =
-    let l = c .before .before .before .before .before .before .before .before .loop in
-    let a = c .before .before .before .before in
-    (omega arith, search needs, found-more (a .before .wide .result) (a .before .wide .ensures) (l .inv .2) (rw (← (a .block-end .ensures)) (c .before .before .add-places .ensures)))
+    let l = c .before .before .before .before .before .before .before .loop in
+    let b = c .before .before .before .before .wide in
+    (omega arith, search needs, found-more (b .result) (b .ensures) (l .inv .2) (c .before .before .add-block .ensures))
 
 same-length : tie.Need-same-length Inv-loop μ-loop
 same-length c = search needs
@@ -77,9 +72,8 @@ find-lines-spec =
     mul-wide
     shared-slice-read-wide
     wide-requires
-    mul-from
-    block-end-requires
-    add-places-requires
+    mul-add-block
+    add-block-requires
     add-i
     loop-less
     loop-again

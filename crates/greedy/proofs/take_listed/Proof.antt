@@ -1,9 +1,9 @@
 use Prim.Native.Nat.{_≤_, _-_}
-use mathlib.Core.Path.{_≡_, refl, _∙_}
+use mathlib.Core.Path.{_≡_, refl}
 use native.Mathlib.Omega.{arith}
-use lib.ListN.{length, getD}
+use lib.ListN.{length}
 use Rattle.greedy.specs.Blocks.{ListTaken}
-use Rattle.greedy.proofs.Lists.{listed-none, listed-counted, listed-more}
+use Rattle.greedy.proofs.Lists.{listed-none, listed-more}
 use borrow.Author.Needs.{needs}
 use Rattle.greedy.proofs.take_listed.Statement.{statement}
 use Rattle.greedy.proofs.take_listed.Tie as tie
@@ -30,7 +30,7 @@ take-line-requires : tie.Need-take-line-requires Inv-loop μ-loop
 take-line-requires c κs =
     let s = c .before .before .before .before .before .before .before .before .before .before .before in
     let l = c .before .before .before .before .before .before .loop in
-    (listed-counted (s .pre .0) (l .inv .2), omega (arith, s .pre .1 (l .i) (omega arith), l .inv .2 .left-size, c .before .before .before .wide .ensures))
+    (l .inv .2 .counted, omega (arith, s .pre .1 (l .i) (omega arith), l .inv .2 .left-size, c .before .before .before .wide .ensures))
 
 add-i : tie.Need-add-i Inv-loop μ-loop
 add-i c = search needs
