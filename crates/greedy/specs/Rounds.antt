@@ -1,6 +1,7 @@
 -- Quick sharing over a working copy of the lines, in which a planned line is the empty set.
 use Prim.Native.Nat.{ℕ, _≤_, _<_}
 use mathlib.Core.Path.{_≡_}
+use mathlib.Core.Logic.{_⊎_}
 use mathlib.Core.Bool.{cond}
 use mathlib.Core.List.{List, [], _∷_, map}
 use lib.ListN.{length, getD, set, replicate}
@@ -8,6 +9,7 @@ use Rattle.model.specs.Count.{All}
 use Rattle.model.specs.Plan.{has, pairs, Domain}
 use Rattle.model.specs.Greedy.{quickPlan}
 use Rattle.counts.specs.Counts.{Counts}
+use Rattle.blocks.specs.Blocks.{Among}
 
 -- f of each line's set and its tip in the plan; a tip without a line stays
 unfoldable pub planBy : (ℕ → ℕ → ℕ) → List ℕ → List ℕ → List ℕ
@@ -48,6 +50,24 @@ pub record LineTaken (tip i : ℕ) (left plan left' plan' counts' : List ℕ) : 
   pub left-is : left' ≡ set left i (cleared tip (getD left i 0))
   pub plan-is : plan' ≡ set plan i (placed tip (getD left i 0) (getD plan i 0))
   pub counts-are : Counts left' counts'
+
+-- line i is as after the tip is taken
+pub record Done (tip i : ℕ) (left plan left' plan' : List ℕ) : Type 0 where
+  pub left-is : getD left' i 0 ≡ cleared tip (getD left i 0)
+  pub plan-is : getD plan' i 0 ≡ placed tip (getD left i 0) (getD plan i 0)
+
+-- line i is as it was
+pub record Kept (i : ℕ) (left plan left' plan' : List ℕ) : Type 0 where
+  pub left-is : getD left' i 0 ≡ getD left i 0
+  pub plan-is : getD plan' i 0 ≡ getD plan i 0
+
+-- the tip is taken for the lines at the first r places of the list
+pub record ListTaken (tip r : ℕ) (list left plan left' plan' counts' : List ℕ) : Type 0 where
+  pub left-size : length left' ≡ length left
+  pub plan-size : length plan' ≡ length plan
+  pub listed : (i : ℕ) → Among i r list → Done tip i left plan left' plan'
+  pub others : (i : ℕ) → Done tip i left plan left' plan' ⊎ Kept i left plan left' plan'
+  pub counted : Counted tip left' plan' counts'
 
 -- the tip is taken for all lines
 pub record Taken (tip : ℕ) (left plan left' plan' counts' : List ℕ) : Type 0 where

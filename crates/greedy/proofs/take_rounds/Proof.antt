@@ -3,7 +3,7 @@ use native.Mathlib.Omega.{arith}
 use lib.ListN.{length}
 use Rattle.model.specs.Interval.{low}
 use borrow.Author.Needs.{needs}
-use Rattle.greedy.specs.Blocks.{Covers, Room}
+use Rattle.blocks.specs.Blocks.{Covers, Room}
 use Rattle.greedy.proofs.Unplanned.{unplanned}
 use Rattle.greedy.proofs.Round.{State, Begun, Chosen, start, few-lines, tip-counted, end-left, end-plan, end-pairs, pairs-fit, next, next-fewer}
 use Rattle.greedy.proofs.take_rounds.Statement.{statement}
