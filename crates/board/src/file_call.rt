@@ -55,7 +55,7 @@ impl Board {
                 bytes: 0,
             };
         }
-        let bytes = job::write_first_lines(self.rack, count, &self.sets, out);
+        let bytes = job_write::write_first_lines(self.rack, count, &self.sets, out);
         Written {
             board: self,
             number: 0,

@@ -156,12 +156,12 @@ pub fn read_refusal(file: &[u8]) -> Refusal
     if number != 0 {
         return refuse(number);
     }
-    if job::good_lines(file) {
+    if job_read::good_lines(file) {
         return refuse(0);
     }
-    let place = job::first_bad(file);
+    let place = job_read::first_bad(file);
     Refusal {
-        number: job::set_number(job::rack_in(file), job::set_in(file, place)),
+        number: job::set_number(job::rack_in(file), job_read::set_in(file, place)),
         place,
     }
 }
@@ -183,7 +183,7 @@ pub fn read_lines(file: &[u8], sets: &mut [u64]) -> Refusal
         return read_refusal(file);
     }
     let count = job::count_in(file);
-    if job::read_sets(file, &mut sets[..count]) {
+    if job_read::read_sets(file, &mut sets[..count]) {
         return refuse(0);
     }
     read_refusal(file)

@@ -63,7 +63,7 @@ fn keep_outcome(file: &[u8], k: u16, out: &mut [u8]) -> Outcome
         return refusal(short.number, short.place);
     }
     let bytes = job::file_length(count);
-    job::write_file(rack, &sets[..count], &mut out[..bytes]);
+    job_write::write_file(rack, &sets[..count], &mut out[..bytes]);
     Outcome {
         number: 0,
         place: 0,
