@@ -47,14 +47,14 @@ impl Board {
         ensures rule { λ r. ⌜ ReadRule (now (file .entry)) r ⌝ }
     {
         let mut sets = no_sets();
-        let refusal = state::read_lines(file, &mut sets);
-        if refusal.number != 0 {
-            return refused_read(refusal.number, refusal.place);
+        let read = state::read_lines(file, &mut sets);
+        if read.number != 0 {
+            return refused_read(read.number, read.place);
         }
         let board = Board {
-            rack: job::rack_in(file),
+            rack: read.rack,
             stage: Stage::Closed,
-            count: job::count_in(file),
+            count: read.count,
             sets,
         };
         Answer {

@@ -12,13 +12,12 @@ fn common_outcome(file: &[u8]) -> Outcome
     ensures rule { λ r. ⌜ CommonRuleOf (now (file .entry)) r ⌝ }
 {
     let mut sets = state::line_buffer();
-    let refused = state::read_lines(file, &mut sets);
-    if refused.number != 0 {
-        return refusal(refused.number, refused.place);
+    let read = state::read_lines(file, &mut sets);
+    if read.number != 0 {
+        return refusal(read.number, read.place);
     }
-    let rack = job::rack_in(file);
-    let count = job::count_in(file);
-    let busiest = common::common_tip(rack, &sets[..count]);
+    let count = read.count;
+    let busiest = common::common_tip(read.rack, &sets[..count]);
     Outcome {
         number: 0,
         place: 0,

@@ -1,10 +1,8 @@
-use mathlib.Core.Path.{sym, ap, subst, _∙_}
-use mathlib.Core.List.{_++_}
-use lib.ListN.{drop}
+use mathlib.Core.Path.{sym, subst, _∙_}
 use Rattle.model.proofs.Lists.{all-getD}
-use Rattle.job.specs.Job.{Bytes, countIn, setsIn}
+use Rattle.job.specs.Job.{Bytes}
 use Rattle.board.specs.JobFile.{ReadRule}
-use Rattle.board.proofs.JobFileRule.{read-rule, read-stopped, read-through, header-in}
+use Rattle.board.proofs.JobFileRule.{read-rule, read-stopped, read-through}
 use borrow.Author.Needs.{needs}
 use Rattle.board.proofs.Board.read.Statement.{statement}
 use Rattle.board.proofs.Board.read.Tie as tie
@@ -30,19 +28,12 @@ returns c =
     let e = c .refused-read .ensures ∙ read-stopped file (c .before .before .before .before .read-lines .ensures .0) (c .before .if1 .taken) in
     (e, subst (ReadRule file) (sym e) (read-rule file (bytes (c .before .before .before .before .before .before .before))))
 
-rack-in-requires : tie.Need-rack-in-requires
-rack-in-requires c κs = header-in _ (c .before .before .before .read-lines .ensures .0) (c .if1 .left) .long
-
-count-in-requires : tie.Need-count-in-requires
-count-in-requires c κs = header-in _ (c .before .before .before .before .read-lines .ensures .0) (c .before .if1 .left) .long
-
 returns-2 : tie.Need-returns-2
 returns-2 c =
-    let file = c .before .before .before .before .before .before .before .before .before .args .file .now in
-    let (refusal, sets) = c .before .before .before .before .before .read-lines .ensures in
-    let z = c .before .before .if1 .left in
-    let e = read-through file refusal z (c .before .rack-in .ensures) (c .count-in .ensures) (sets z ∙ ap (λ l. setsIn file ++ drop (countIn file) l) (c .before .before .before .before .before .before .before .no-sets .ensures)) in
-    (e, subst (ReadRule file) (sym e) (read-rule file (bytes (c .before .before .before .before .before .before .before .before))))
+    let file = c .before .before .before .before .before .before .before .args .file .now in
+    let (refusal, lines) = c .before .before .before .read-lines .ensures in
+    let e = read-through file refusal (c .if1 .left) (c .before .before .before .before .before .no-sets .ensures) (lines (c .if1 .left)) in
+    (e, subst (ReadRule file) (sym e) (read-rule file (bytes (c .before .before .before .before .before .before))))
 
 pub read-spec : {M : Type 1} → statement M
 read-spec =
@@ -53,6 +44,4 @@ read-spec =
     read-lines-requires
     refused-read-requires
     returns
-    rack-in-requires
-    count-in-requires
     returns-2)
