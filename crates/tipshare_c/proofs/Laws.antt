@@ -41,16 +41,16 @@ module _ {A : Type 0} (answer : List ℕ) (x y : A) where
   if-long h = rw (le-ltb (length answer) 4 h)
 
 -- the four places of an outcome were written, and it is the one that the call asks for
-module _ {o p : Outcome} (e : o ≡ p) (old : List ℕ) (h : 4 ≤ length old) where
-  pub number-long : o .number ≡ numberIn old p
-  number-long = ap (λ q. q .number) e ∙ if-long old 100 (p .number) h
+module _ {o p : Outcome} (e : o ≡ p) (old : List ℕ) (h : 4 ≤ length old) {r : ℕ} {last : List ℕ} (put : (r ≡ o .number) × (last ≡ answered (o .place) (o .first) (o .second) (o .third) old)) where
+  pub number-long : r ≡ numberIn old p
+  number-long = put .0 ∙ ap (λ q. q .number) e ∙ if-long old 100 (p .number) h
 
-  pub answer-long : {last : List ℕ} → last ≡ answered (o .place) (o .first) (o .second) (o .third) old → last ≡ answerIn old p
-  answer-long w = w ∙ ap (λ q. answered (q .place) (q .first) (q .second) (q .third) old) e ∙ if-long old old (answered (p .place) (p .first) (p .second) (p .third) old) h
+  pub answer-long : last ≡ answerIn old p
+  answer-long = put .1 ∙ ap (λ q. answered (q .place) (q .first) (q .second) (q .third) old) e ∙ if-long old old (answered (p .place) (p .first) (p .second) (p .third) old) h
 
--- the caller sees the outcome
-pub seen-is : (o : Outcome) (old : List ℕ) {last : List ℕ} → last ≡ answered (o .place) (o .first) (o .second) (o .third) old → o ≡ seen (o .number) last
-seen-is o old w = rw w refl
+  -- the caller sees the outcome
+  pub seen-is : o ≡ seen r last
+  seen-is = rw (put .0, put .1) refl
 
 -- ---- the job file
 

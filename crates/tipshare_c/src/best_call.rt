@@ -58,12 +58,5 @@ pub extern "C" fn tipshare_best(
         return 100;
     }
     let outcome = best_outcome(file, plan, table);
-    put_answer(
-        answer,
-        outcome.place,
-        outcome.first,
-        outcome.second,
-        outcome.third,
-    );
-    outcome.number
+    put_answer(outcome, answer)
 }

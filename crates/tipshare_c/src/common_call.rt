@@ -37,12 +37,5 @@ pub extern "C" fn tipshare_common(file: &[u8], answer: &mut [u64]) -> u32
         return 100;
     }
     let outcome = common_outcome(file);
-    put_answer(
-        answer,
-        outcome.place,
-        outcome.first,
-        outcome.second,
-        outcome.third,
-    );
-    outcome.number
+    put_answer(outcome, answer)
 }

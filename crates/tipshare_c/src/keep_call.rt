@@ -84,12 +84,5 @@ pub extern "C" fn tipshare_keep(file: &[u8], k: u16, out: &mut [u8], answer: &mu
         return 100;
     }
     let outcome = keep_outcome(file, k, out);
-    put_answer(
-        answer,
-        outcome.place,
-        outcome.first,
-        outcome.second,
-        outcome.third,
-    );
-    outcome.number
+    put_answer(outcome, answer)
 }

@@ -44,12 +44,5 @@ pub extern "C" fn tipshare_quick(file: &[u8], plan: &mut [u8], answer: &mut [u64
         return 100;
     }
     let outcome = quick_outcome(file, plan);
-    put_answer(
-        answer,
-        outcome.place,
-        outcome.first,
-        outcome.second,
-        outcome.third,
-    );
-    outcome.number
+    put_answer(outcome, answer)
 }
