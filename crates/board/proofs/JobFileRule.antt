@@ -15,6 +15,7 @@ use Rattle.job.proofs.Reading.{length-setsIn, length-fileOf, read-iff, rack-of-
 use Rattle.sound.proofs.Laws.{sound-iff}
 use Rattle.state.specs.declared.Stage.the-variants.{Closed}
 use Rattle.state.specs.declared.Refusal.{Refusal}
+use Rattle.state.specs.State.{LinesRead}
 use Rattle.board.specs.declared.Board.{Board}
 use Rattle.board.specs.declared.Answer.{Answer}
 use Rattle.board.specs.declared.Written.{Written}
@@ -93,10 +94,13 @@ module _ (file : List ℕ) where
       accepts-file : readNumber file ≡ 0
       accepts-file = ap (λ r. r .number) (sym e) ∙ z
 
-      pub read-through : {m n : ℕ} {sets : List ℕ} → m ≡ rackIn file → n ≡ countIn file → sets ≡ boardIn file .sets
+      pub read-through : {m n : ℕ} {old sets : List ℕ} → old ≡ noSets → LinesRead file m n old sets
           → answer (record { rack = m; stage = Closed; count = n; sets = sets }) unrefused ≡ readOf file
       unfolding readOf
-      read-through p q r = rw (p, q, r) (sym (accepted _ _ e z))
+      read-through o r = rw (r .rack-is, r .count-is, r .sets-are, o) (sym (accepted _ _ e z))
+
+      pub accepted-board : answer (boardIn file) unrefused ≡ readOf file
+      accepted-board = read-through refl (record { rack-is = refl; count-is = refl; sets-are = refl })
 
       -- what is known of an accepted file: its header is good, and its board is sound and closed
       pub header-in : GoodHeader file

@@ -13,8 +13,8 @@ impl Board {
         ensures rule { λ r. ⌜ ReadRule (now (file .entry)) r ⌝ }
     {
         let mut sets = sound::no_sets();
-        let refusal = state::read_lines(file, &mut sets);
-        if refusal.number != 0 {
+        let read = state::read_lines(file, &mut sets);
+        if read.number != 0 {
             let board = Board {
                 rack: 1,
                 stage: Stage::Open,
@@ -23,14 +23,14 @@ impl Board {
             };
             return Answer {
                 board,
-                number: refusal.number,
-                place: refusal.place,
+                number: read.number,
+                place: read.place,
             };
         }
         let board = Board {
-            rack: job::rack_in(file),
+            rack: read.rack,
             stage: Stage::Closed,
-            count: job::count_in(file),
+            count: read.count,
             sets,
         };
         Answer {

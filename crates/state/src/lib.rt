@@ -1,12 +1,11 @@
 // The refusals of the calls on a board, one ordered decision for each over what the board holds; and those of a job file.
 ghost use mathlib.Core.Path.{_≡_};
-ghost use mathlib.Core.List.{_++_};
 ghost use Prim.Native.Nat.{_≤_};
 ghost use lib.Dec.{ltb};
-ghost use lib.ListN.{length, drop};
-ghost use Rattle.job.specs.Job.{fileLength, countIn, setsIn, readNumber, readPlace};
+ghost use lib.ListN.{length};
+ghost use Rattle.job.specs.Job.{fileLength};
 ghost use Rattle.state.specs.Refusal.{refuse, when};
-ghost use Rattle.state.specs.State.{stageRefusal, stateRefusal, addRefusal, quickRefusal, linesRefusal, bestRefusal, writeRefusal};
+ghost use Rattle.state.specs.State.{stageRefusal, stateRefusal, addRefusal, quickRefusal, linesRefusal, bestRefusal, writeRefusal, fileRefusal, LinesRead};
 
 pub enum Stage {
     Open,
@@ -150,7 +149,7 @@ pub fn write_refusal(rack: usize, stage: Stage, count: usize, sets: &[u64], room
 
 // The refusal of a job file: by its header, else by its first bad line.
 pub fn read_refusal(file: &[u8]) -> Refusal
-    ensures { λ r. ⌜ r ≡ record { number = readNumber (now (file .entry)); place = readPlace (now (file .entry)) } ⌝ }
+    ensures { λ r. ⌜ r ≡ fileRefusal (now (file .entry)) ⌝ }
 {
     let number = job::header_number(file);
     if number != 0 {
@@ -173,18 +172,45 @@ pub fn line_buffer() -> [u64; 512]
     [0u64; 512]
 }
 
-// Reads the sets of a file's lines to the front of `sets`, and answers the file's refusal.
-pub fn read_lines(file: &[u8], sets: &mut [u64]) -> Refusal
+// What reading a file answers: its refusal, or its rack and the number of its lines.
+pub struct Lines {
+    pub number: u32,
+    pub place: usize,
+    pub rack: usize,
+    pub count: usize,
+}
+
+fn refused_lines(file: &[u8], rack: usize, count: usize) -> Lines
+    ensures refusal { λ r. ⌜ record { number = r .number; place = r .place } ≡ fileRefusal (now (file .entry)) ⌝ }
+    ensures lines { λ r. ⌜ (r .rack ≡ rack) × (r .count ≡ count) ⌝ }
+{
+    let refusal = read_refusal(file);
+    Lines {
+        number: refusal.number,
+        place: refusal.place,
+        rack,
+        count,
+    }
+}
+
+// Reads the sets of a file's lines to the front of `sets`.
+pub fn read_lines(file: &[u8], sets: &mut [u64]) -> Lines
     requires { ⌜ length (now sets) ≡ 512 ⌝ }
-    ensures refusal { λ r. ⌜ r ≡ record { number = readNumber (now (file .entry)); place = readPlace (now (file .entry)) } ⌝ }
-    ensures sets { λ r. ⌜ (r .number ≡ 0 → now (sets .exit) ≡ setsIn (now (file .entry)) ++ drop (countIn (now (file .entry))) (now (sets .entry))) ⌝ }
+    ensures refusal { λ r. ⌜ record { number = r .number; place = r .place } ≡ fileRefusal (now (file .entry)) ⌝ }
+    ensures lines { λ r. ⌜ (r .number ≡ 0 → LinesRead (now (file .entry)) (r .rack) (r .count) (now (sets .entry)) (now (sets .exit))) ⌝ }
 {
     if job::header_number(file) != 0 {
-        return read_refusal(file);
+        return refused_lines(file, 0, 0);
     }
+    let rack = job::rack_in(file);
     let count = job::count_in(file);
     if job_read::read_sets(file, &mut sets[..count]) {
-        return refuse(0);
+        return Lines {
+            number: 0,
+            place: 0,
+            rack,
+            count,
+        };
     }
-    read_refusal(file)
+    refused_lines(file, rack, count)
 }

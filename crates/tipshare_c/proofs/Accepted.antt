@@ -19,7 +19,7 @@ use Rattle.job.proofs.Reading.{length-setsIn}
 use Rattle.state.specs.declared.Stage.the-variants.{Closed}
 use Rattle.state.specs.declared.Refusal.{Refusal}
 use Rattle.state.specs.Refusal.{none, when}
-use Rattle.state.specs.State.{linesRefusal}
+use Rattle.state.specs.State.{linesRefusal, LinesRead}
 use Rattle.state.proofs.Refusals.{plan-known, best-known, write-known, quick-left, best-left, write-left}
 use Rattle.board.specs.declared.Board.{Board}
 use Rattle.board.specs.declared.Kept.{Kept}
@@ -37,16 +37,6 @@ use Rattle.tipshare_c.specs.Calls.{boardOf, refusal, commonBy, commonIn,
 use Rattle.tipshare_c.specs.Rules.{CommonRuleOf, HalfRuleOf, BestRuleOf, KeepRuleOf}
 use Rattle.tipshare_c.proofs.Laws
 
--- the rack, the number of lines and the lines that were read
-pub record Read (file : List ℕ) (m n : ℕ) (lines : List ℕ) : Type 0 where
-  pub rack-is : m ≡ rackIn file
-  pub count-is : n ≡ countIn file
-  pub lines-are : lines ≡ linesOf (boardIn file)
-
--- the lines stand in the first places of the sets
-pub lines-read : (file : List ℕ) {n : ℕ} {sets : List ℕ} (old : List ℕ) → n ≡ countIn file → sets ≡ setsIn file ++ drop (countIn file) old → take n sets ≡ linesOf (boardIn file)
-lines-read file old p q = rw (p, q) (take-at (setsIn file) (drop (countIn file) old) (countIn file) (length-setsIn file) ∙ sym (lines-in file))
-
 -- what is known of the lines that were read
 pub record GoodLines (m n : ℕ) (lines : List ℕ) : Type 0 where
   pub some : 1 ≤ m
@@ -55,9 +45,16 @@ pub record GoodLines (m n : ℕ) (lines : List ℕ) : Type 0 where
   pub size : length lines ≡ n
   pub domains : All (Domain m) lines
 
-module _ (file : List ℕ) {d : Refusal} (e : d ≡ readRefusal file) (z : d .number ≡ 0) {m n : ℕ} {lines : List ℕ} (read : Read file m n lines) where
+module _ (file : List ℕ) {d : Refusal} (e : d ≡ readRefusal file) (z : d .number ≡ 0) {m n : ℕ} {old sets : List ℕ} (read : LinesRead file m n old sets) where
   abbrev b : Board
   b = boardIn file
+
+  -- the lines stand in the first places of the sets
+  abbrev lines : List ℕ
+  lines = take n sets
+
+  lines-are : lines ≡ linesOf b
+  lines-are = rw (read .count-is, read .sets-are) (take-at (setsIn file) (drop (countIn file) old) (countIn file) (length-setsIn file) ∙ sym (lines-in file))
 
   count-lines : length (linesOf b) ≡ countIn file
   count-lines = lines-count b (full-in file e z) (ready-in file e z .sound .count-most)
@@ -65,11 +62,11 @@ module _ (file : List ℕ) {d : Refusal} (e : d ≡ readRefusal file) (z : d .nu
   pub good-lines : GoodLines m n lines
   good-lines =
       let s = ready-in file e z .sound in
-      rw (read .rack-is, read .count-is, read .lines-are) (record { some = s .rack-least; most = s .rack-most; few = s .count-most; size = count-lines; domains = s .domains })
+      rw (lines-are, read .rack-is, read .count-is) (record { some = s .rack-least; most = s .rack-most; few = s .count-most; size = count-lines; domains = s .domains })
 
   -- what is said of the lines that were read, of those of the board
   of-lines : {A : Type 0} (f : ℕ → List ℕ → A) {x : A} → x ≡ f m lines → x ≡ f (b .rack) (linesOf b)
-  of-lines f q = q ∙ ap₂ f (read .rack-is) (read .lines-are)
+  of-lines f q = q ∙ ap₂ f (read .rack-is) (lines-are)
 
   pub common-in : {t w : ℕ} → t ≡ top m lines → w ≡ W m lines
       → let o : Outcome = record { number = 0; place = 0; first = t; second = n - t; third = w } in (o ≡ commonIn file) × CommonRuleOf file o
@@ -110,7 +107,7 @@ module _ (file : List ℕ) {d : Refusal} (e : d ≡ readRefusal file) (z : d .nu
     pub best-room : s .number ≡ 0 → (n ≤ length plan) × (m * m ≤ length cells) × Runs m lines
     best-room y =
         let k = best-known best-by y in
-        rw (read .rack-is, read .count-is, read .lines-are) (k .bytes, k .cells, best-runs b (full-in file e z) k)
+        rw (lines-are, read .rack-is, read .count-is) (k .bytes, k .cells, best-runs b (full-in file e z) k)
 
     pub best-short : (s .number ≡ 0 → ⊥)
         → let o = refusal (s .number) (s .place) in

@@ -6,17 +6,16 @@ use native.Mathlib.Omega.{arith}
 use lib.ListN.{length, set}
 use borrow.Author.Tests.{lt-ltb, le-ltb, eq-eqb, ne-eqb}
 use Rattle.state.specs.declared.Refusal.{Refusal}
-use Rattle.state.specs.Refusal.{none}
 use Rattle.board.specs.declared.Board.{Board}
 use Rattle.board.specs.declared.Common.{Common}
 use Rattle.board.specs.declared.Kept.{Kept}
 use Rattle.board.specs.declared.Shared.{Shared}
 use Rattle.board.specs.declared.Written.{Written}
 use Rattle.board.specs.Common.{CommonRule}
-use Rattle.board.specs.Board.{answer, emptyBoard}
+use Rattle.board.specs.Board.{emptyBoard}
 use Rattle.board.specs.JobFile.{readRefusal, boardIn, readOf, writeOf, writeBuffer}
 use Rattle.board.specs.Sharing.{HalfRule, BestRule}
-use Rattle.board.proofs.JobFileRule.{read-stopped, read-through}
+use Rattle.board.proofs.JobFileRule.{read-stopped, accepted-board}
 use Rattle.tipshare_c.specs.declared.Outcome.{Outcome}
 use Rattle.tipshare_c.specs.Answer.{ifShort, answered, numberIn, answerIn, seen, twosComplement}
 use Rattle.tipshare_c.specs.Calls.{boardOf, ifNone, refusal, onBoard, lentTo, commonBy, sharedBy, writtenBy, keptBy, keptFile}
@@ -42,16 +41,16 @@ module _ {A : Type 0} (answer : List ℕ) (x y : A) where
   if-long h = rw (le-ltb (length answer) 4 h)
 
 -- the four places of an outcome were written, and it is the one that the call asks for
-module _ {o p : Outcome} (e : o ≡ p) (old : List ℕ) (h : 4 ≤ length old) where
-  pub number-long : o .number ≡ numberIn old p
-  number-long = ap (λ q. q .number) e ∙ if-long old 100 (p .number) h
+module _ {o p : Outcome} (e : o ≡ p) (old : List ℕ) (h : 4 ≤ length old) {r : ℕ} {last : List ℕ} (put : (r ≡ o .number) × (last ≡ answered (o .place) (o .first) (o .second) (o .third) old)) where
+  pub number-long : r ≡ numberIn old p
+  number-long = put .0 ∙ ap (λ q. q .number) e ∙ if-long old 100 (p .number) h
 
-  pub answer-long : {last : List ℕ} → last ≡ answered (o .place) (o .first) (o .second) (o .third) old → last ≡ answerIn old p
-  answer-long w = w ∙ ap (λ q. answered (q .place) (q .first) (q .second) (q .third) old) e ∙ if-long old old (answered (p .place) (p .first) (p .second) (p .third) old) h
+  pub answer-long : last ≡ answerIn old p
+  answer-long = put .1 ∙ ap (λ q. answered (q .place) (q .first) (q .second) (q .third) old) e ∙ if-long old old (answered (p .place) (p .first) (p .second) (p .third) old) h
 
--- the caller sees the outcome
-pub seen-is : (o : Outcome) (old : List ℕ) {last : List ℕ} → last ≡ answered (o .place) (o .first) (o .second) (o .third) old → o ≡ seen (o .number) last
-seen-is o old w = rw w refl
+  -- the caller sees the outcome
+  pub seen-is : o ≡ seen r last
+  seen-is = rw (put .0, put .1) refl
 
 -- ---- the job file
 
@@ -74,20 +73,17 @@ module _ (file : List ℕ) {d : Refusal} (e : d ≡ readRefusal file) where
     lent-refused call old = subst (λ a. old ≡ ifNone (a .number) (call (a .board)) old) (read-stopped file e n) (if-refused (call (emptyBoard 1)) old n)
 
   module _ (z : d .number ≡ 0) where
-    accepted : answer (boardIn file) none ≡ readOf file
-    accepted = read-through file e z refl refl refl
-
     pub on-board : (call : Board → Outcome) → call (boardIn file) ≡ onBoard file call
     unfolding onBoard
-    on-board call = subst (λ a. call (boardIn file) ≡ ifNone (a .number) (call (a .board)) (refusal (a .number) (a .place))) accepted refl
+    on-board call = subst (λ a. call (boardIn file) ≡ ifNone (a .number) (call (a .board)) (refusal (a .number) (a .place))) (accepted-board file e z) refl
 
     pub lent-board : (call : Board → List ℕ) (old : List ℕ) → call (boardIn file) ≡ lentTo file call old
     unfolding lentTo
-    lent-board call old = subst (λ a. call (boardIn file) ≡ ifNone (a .number) (call (a .board)) old) accepted refl
+    lent-board call old = subst (λ a. call (boardIn file) ≡ ifNone (a .number) (call (a .board)) old) (accepted-board file e z) refl
 
     -- the rules of the board that was read
     pub of-board : (P : Board → Type 0) → P (boardIn file) → P (boardOf file)
-    of-board P h = subst (λ a. P (a .board)) accepted h
+    of-board P h = subst (λ a. P (a .board)) (accepted-board file e z) h
 
     pub common-rule : {r : Common} → CommonRule (boardIn file) r → CommonRuleOf file (commonBy r)
     common-rule {r} h =

@@ -15,12 +15,12 @@ fn best_outcome(file: &[u8], plan: &mut [u8], table: &mut [u32]) -> Outcome
     ensures rule { λ r. ⌜ BestRuleOf (now (file .entry)) (now (plan .exit)) r ⌝ }
 {
     let mut sets = state::line_buffer();
-    let refused = state::read_lines(file, &mut sets);
-    if refused.number != 0 {
-        return refusal(refused.number, refused.place);
+    let read = state::read_lines(file, &mut sets);
+    if read.number != 0 {
+        return refusal(read.number, read.place);
     }
-    let rack = job::rack_in(file);
-    let count = job::count_in(file);
+    let rack = read.rack;
+    let count = read.count;
     let short = state::lines_refusal(rack, &sets[..count], plan.len(), table.len());
     if short.number != 0 {
         return refusal(short.number, short.place);
@@ -58,12 +58,5 @@ pub extern "C" fn tipshare_best(
         return 100;
     }
     let outcome = best_outcome(file, plan, table);
-    put_answer(
-        answer,
-        outcome.place,
-        outcome.first,
-        outcome.second,
-        outcome.third,
-    );
-    outcome.number
+    put_answer(outcome, answer)
 }

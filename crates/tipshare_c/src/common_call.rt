@@ -12,13 +12,12 @@ fn common_outcome(file: &[u8]) -> Outcome
     ensures rule { λ r. ⌜ CommonRuleOf (now (file .entry)) r ⌝ }
 {
     let mut sets = state::line_buffer();
-    let refused = state::read_lines(file, &mut sets);
-    if refused.number != 0 {
-        return refusal(refused.number, refused.place);
+    let read = state::read_lines(file, &mut sets);
+    if read.number != 0 {
+        return refusal(read.number, read.place);
     }
-    let rack = job::rack_in(file);
-    let count = job::count_in(file);
-    let busiest = common::common_tip(rack, &sets[..count]);
+    let count = read.count;
+    let busiest = common::common_tip(read.rack, &sets[..count]);
     Outcome {
         number: 0,
         place: 0,
@@ -38,12 +37,5 @@ pub extern "C" fn tipshare_common(file: &[u8], answer: &mut [u64]) -> u32
         return 100;
     }
     let outcome = common_outcome(file);
-    put_answer(
-        answer,
-        outcome.place,
-        outcome.first,
-        outcome.second,
-        outcome.third,
-    );
-    outcome.number
+    put_answer(outcome, answer)
 }

@@ -41,12 +41,12 @@ fn keep_outcome(file: &[u8], k: u16, out: &mut [u8]) -> Outcome
     ensures rule { λ r. ⌜ KeepRuleOf (boardOf (now (file .entry))) k (now (out .exit)) r ⌝ }
 {
     let mut sets = state::line_buffer();
-    let refused = state::read_lines(file, &mut sets);
-    if refused.number != 0 {
-        return refusal(refused.number, refused.place);
+    let read = state::read_lines(file, &mut sets);
+    if read.number != 0 {
+        return refusal(read.number, read.place);
     }
-    let rack = job::rack_in(file);
-    let count = job::count_in(file);
+    let rack = read.rack;
+    let count = read.count;
     let margin = keep_lines(rack, &mut sets[..count], k);
     let first = twos_complement(margin);
     if margin < 0 {
@@ -84,12 +84,5 @@ pub extern "C" fn tipshare_keep(file: &[u8], k: u16, out: &mut [u8], answer: &mu
         return 100;
     }
     let outcome = keep_outcome(file, k, out);
-    put_answer(
-        answer,
-        outcome.place,
-        outcome.first,
-        outcome.second,
-        outcome.third,
-    );
-    outcome.number
+    put_answer(outcome, answer)
 }

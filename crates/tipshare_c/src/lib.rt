@@ -21,15 +21,17 @@ pub struct Outcome {
     pub third: u64,
 }
 
-// The first four places; the others stay as they were.
-fn put_answer(answer: &mut [u64], a: u64, b: u64, c: u64, d: u64)
+// Answers the number, and writes the first four places; the others stay as they were.
+fn put_answer(outcome: Outcome, answer: &mut [u64]) -> u32
     requires { ⌜ 4 ≤ length (now answer) ⌝ }
-    ensures { λ _. ⌜ now (answer .exit) ≡ answered a b c d (now (answer .entry)) ⌝ }
+    ensures number { λ r. ⌜ r ≡ outcome .number ⌝ }
+    ensures answer { λ _. ⌜ now (answer .exit) ≡ answered (outcome .place) (outcome .first) (outcome .second) (outcome .third) (now (answer .entry)) ⌝ }
 {
-    answer[0] = a;
-    answer[1] = b;
-    answer[2] = c;
-    answer[3] = d;
+    answer[0] = outcome.place;
+    answer[1] = outcome.first;
+    answer[2] = outcome.second;
+    answer[3] = outcome.third;
+    outcome.number
 }
 
 fn refusal(number: u32, place: usize) -> Outcome
@@ -69,14 +71,7 @@ pub extern "C" fn tipshare_read(file: &[u8], answer: &mut [u64]) -> u32
         return 100;
     }
     let outcome = read_outcome(file);
-    put_answer(
-        answer,
-        outcome.place,
-        outcome.first,
-        outcome.second,
-        outcome.third,
-    );
-    outcome.number
+    put_answer(outcome, answer)
 }
 
 #[no_mangle]

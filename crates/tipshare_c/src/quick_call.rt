@@ -14,17 +14,16 @@ fn quick_outcome(file: &[u8], plan: &mut [u8]) -> Outcome
     ensures rule { λ r. ⌜ HalfRuleOf (now (file .entry)) (now (plan .exit)) r ⌝ }
 {
     let mut sets = state::line_buffer();
-    let refused = state::read_lines(file, &mut sets);
-    if refused.number != 0 {
-        return refusal(refused.number, refused.place);
+    let read = state::read_lines(file, &mut sets);
+    if read.number != 0 {
+        return refusal(read.number, read.place);
     }
-    let rack = job::rack_in(file);
-    let count = job::count_in(file);
+    let count = read.count;
     let short = state::room_refusal(count, plan.len());
     if short.number != 0 {
         return refusal(short.number, short.place);
     }
-    let pairs = greedy::plan_lines(rack, &mut sets[..count], &mut plan[..count]);
+    let pairs = greedy::plan_lines(read.rack, &mut sets[..count], &mut plan[..count]);
     Outcome {
         number: 0,
         place: 0,
@@ -45,12 +44,5 @@ pub extern "C" fn tipshare_quick(file: &[u8], plan: &mut [u8], answer: &mut [u64
         return 100;
     }
     let outcome = quick_outcome(file, plan);
-    put_answer(
-        answer,
-        outcome.place,
-        outcome.first,
-        outcome.second,
-        outcome.third,
-    );
-    outcome.number
+    put_answer(outcome, answer)
 }

@@ -4,10 +4,11 @@ use mathlib.Core.List.{_++_}
 use native.Mathlib.Omega.{arith}
 use lib.ListN.{length, drop}
 use lib.Seq.{length-take-le}
-use Rattle.job.specs.Job.{countIn, setsIn, headerNumber, GoodHeader}
+use Rattle.job.specs.Job.{headerNumber, GoodHeader}
 use Rattle.job.proofs.Header.{header-good, good-header}
 use Rattle.job.proofs.Reading.{read-iff}
 use Rattle.job.proofs.Good.{good-accepted}
+use Rattle.state.specs.State.{LinesRead}
 use borrow.Author.Needs.{needs}
 use Rattle.state.proofs.read_lines.Statement.{statement}
 use Rattle.state.proofs.read_lines.Tie as tie
@@ -20,28 +21,33 @@ good : (c : tie.Else1) → GoodHeader (c .before .before .before .before .args .
 good c = header-good _ (header c)
 
 -- there is a place for each line
-room : (c : tie.After-count-in) → c .count-in .result ≤ length (c .before .before .before .before .before .args .sets .now)
-room c = omega (arith, c .count-in .ensures, good (c .before) .fewLines, c .before .before .before .before .before .pre)
+room : (c : tie.After-count-in) → c .count-in .result ≤ length (c .before .before .before .before .before .before .args .sets .now)
+room c = omega (arith, c .count-in .ensures, good (c .before .before) .fewLines, c .before .before .before .before .before .before .pre)
 
--- the sets as they end
-sets : (c : tie.After-read-sets) →
-    let a = c .before .before .before .before .before .before .before .args in
-    c .read-sets .last .1 .0 ++ drop (c .before .before .count-in .result) (a .sets .now) ≡ setsIn (a .file .now) ++ drop (countIn (a .file .now)) (a .sets .now)
-sets c = ap₂ (λ x n. x ++ drop n (c .before .before .before .before .before .before .before .args .sets .now)) (c .read-sets .ensures .1) (c .before .before .count-in .ensures)
+-- the lines that were read
+lines : (c : tie.After-read-sets) →
+    let a = c .before .before .before .before .before .before .before .before .args in
+    LinesRead (a .file .now) (c .before .before .before .rack-in .result) (c .before .before .count-in .result) (a .sets .now) (c .read-sets .last .1 .0 ++ drop (c .before .before .count-in .result) (a .sets .now))
+lines c =
+    let n = c .before .before .count-in .ensures in
+    record { rack-is = c .before .before .before .rack-in .ensures; count-is = n; sets-are = ap₂ (λ x k. x ++ drop k (c .before .before .before .before .before .before .before .before .args .sets .now)) (c .read-sets .ensures .1) n }
 
 header-number-requires : tie.Need-header-number-requires
 header-number-requires c κs = search needs
 
-read-refusal-requires : tie.Need-read-refusal-requires
-read-refusal-requires c κs = search needs
+refused-lines-requires : tie.Need-refused-lines-requires
+refused-lines-requires c κs = search needs
 
 returns : tie.Need-returns
 returns c =
-    let e = c .read-refusal .ensures in
+    let e = c .refused-lines .ensures .0 in
     (e, λ z. absurd (c .before .if1 .taken (c .before .before .header-number .ensures ∙ good-header _ (read-iff _ .0 (sym (ap (λ r. r .number) e) ∙ z) .0))))
 
+rack-in-requires : tie.Need-rack-in-requires
+rack-in-requires c κs = good c .long
+
 count-in-requires : tie.Need-count-in-requires
-count-in-requires c κs = good c .long
+count-in-requires c κs = good (c .before) .long
 
 slice-relend-prefix-read-sets : tie.Need-slice-relend-prefix-read-sets
 slice-relend-prefix-read-sets c = room c
@@ -50,42 +56,41 @@ slice-aggregate-read-sets : tie.Need-slice-aggregate-read-sets
 slice-aggregate-read-sets c = sym (length-take-le _ _ (room (c .before)))
 
 read-sets-requires : tie.Need-read-sets-requires
-read-sets-requires c κs = (length-take-le _ _ (room (c .before)) ∙ c .before .count-in .ensures, omega (arith, good (c .before .before) .whole))
-
-refuse-requires : tie.Need-refuse-requires
-refuse-requires c κs = search needs
+read-sets-requires c κs = (length-take-le _ _ (room (c .before)) ∙ c .before .count-in .ensures, omega (arith, good (c .before .before .before) .whole))
 
 same-length : tie.Need-same-length
 same-length c = search needs
 
 returns-2 : tie.Need-returns-2
 returns-2 c =
-    let (p, q) = good-accepted _ (header (c .before .before .before .before .before .before .before)) (sym (c .before .before .before .before .read-sets .ensures .0) ∙ c .before .if2 .taken) in
-    (c .refuse .ensures ∙ rw (p, q) refl, λ _. sets (c .before .before .before .before))
+    let (p, q) = good-accepted _ (header (c .before .before .before .before .before .before .before)) (sym (c .before .before .before .read-sets .ensures .0) ∙ c .if2 .taken) in
+    (rw (p, q) refl, λ _. lines (c .before .before .before))
 
-read-refusal-requires-2 : tie.Need-read-refusal-requires-2
-read-refusal-requires-2 c κs = search needs
+refused-lines-requires-2 : tie.Need-refused-lines-requires-2
+refused-lines-requires-2 c κs = search needs
 
 same-length-2 : tie.Need-same-length-2
 same-length-2 c = search needs
 
 returns-3 : tie.Need-returns-3
-returns-3 c = (c .read-refusal2 .ensures, λ _. sets (c .before .before .before .before))
+returns-3 c =
+    let (e, (m, n)) = c .refused-lines2 .ensures in
+    (e, λ _. rw (m, n) (lines (c .before .before .before .before)))
 
 pub read-lines-spec : {M : Type 1} → statement M
 read-lines-spec =
     tie.close
     (tie.spec
     header-number-requires
-    read-refusal-requires
+    refused-lines-requires
     returns
+    rack-in-requires
     count-in-requires
     slice-relend-prefix-read-sets
     slice-aggregate-read-sets
     read-sets-requires
-    refuse-requires
     same-length
     returns-2
-    read-refusal-requires-2
+    refused-lines-requires-2
     same-length-2
     returns-3)

@@ -6,10 +6,9 @@ use lib.ListN.{length, take}
 use lib.Seq.{length-take-le}
 use Rattle.interval.specs.Cells.{Runs}
 use Rattle.state.proofs.Refusals.{square-most}
-use Rattle.board.proofs.JobFileRule.{header-in}
 use Rattle.tipshare_c.specs.Calls.{bestIn, bestPlanIn, bestTableIn}
 use Rattle.tipshare_c.proofs.Laws.{on-refused, lent-refused, best-none}
-use Rattle.tipshare_c.proofs.Accepted.{Read, GoodLines, lines-read, good-lines, best-room, best-short, best-in}
+use Rattle.tipshare_c.proofs.Accepted.{GoodLines, good-lines, best-room, best-short, best-in}
 use borrow.Author.Needs.{needs}
 use Rattle.tipshare_c.proofs.best_call.best_outcome.Statement.{statement}
 use Rattle.tipshare_c.proofs.best_call.best_outcome.Tie as tie
@@ -34,24 +33,15 @@ returns c =
     let e = c .before .before .before .before .read-lines .ensures .0 in
     (r ∙ on-refused _ e nz _, (lent-refused _ e nz _ _, (lent-refused _ e nz _ _, best-none _ (c .refusal .result) (λ z. nz (ap (λ o. o .number) (sym r) ∙ z)) _)))
 
-rack-in-requires : tie.Need-rack-in-requires
-rack-in-requires c κs = header-in _ (c .before .before .before .read-lines .ensures .0) (c .if1 .left) .long
-
-count-in-requires : tie.Need-count-in-requires
-count-in-requires c κs = header-in _ (c .before .before .before .before .read-lines .ensures .0) (c .before .if1 .left) .long
-
 -- the lines that were read
-abbrev lines : tie.After-count-in → List ℕ
-lines c = take (c .count-in .result) (c .before .before .before .before .before .read-lines .last .1 .0)
+abbrev lines : tie.Else1 → List ℕ
+lines d = take (d .before .before .before .read-lines .result .count) (d .before .before .before .read-lines .last .1 .0)
 
-known : (c : tie.After-count-in) → Read (c .before .before .before .before .before .before .before .before .before .before .before .args .file .now) (c .before .rack-in .result) (c .count-in .result) (lines c)
-known c = record { rack-is = c .before .rack-in .ensures; count-is = c .count-in .ensures; lines-are = lines-read _ _ (c .count-in .ensures) (c .before .before .before .before .before .read-lines .ensures .1 (c .before .before .if1 .left)) }
+good : (d : tie.Else1) → GoodLines (d .before .before .before .read-lines .result .rack) (d .before .before .before .read-lines .result .count) (lines d)
+good d = let (e, read) = d .before .before .before .read-lines .ensures in good-lines _ e (d .if1 .left) (read (d .if1 .left))
 
-good : (c : tie.After-count-in) → GoodLines (c .before .rack-in .result) (c .count-in .result) (lines c)
-good c = good-lines _ (c .before .before .before .before .before .read-lines .ensures .0) (c .before .before .if1 .left) (known c)
-
-room : (c : tie.After-count-in) → c .count-in .result ≤ length (c .before .before .before .before .before .read-lines .last .1 .0)
-room c = omega (arith, good c .few, c .before .before .before .before .before .read-lines .kept .1 .0, c .before .before .before .before .before .before .before .line-buffer .ensures)
+room : (d : tie.Else1) → d .before .before .before .read-lines .result .count ≤ length (d .before .before .before .read-lines .last .1 .0)
+room d = omega (arith, good d .few, d .before .before .before .read-lines .kept .1 .0, d .before .before .before .before .before .line-buffer .ensures)
 
 array-share-prefix-sets : tie.Need-array-share-prefix-sets
 array-share-prefix-sets c = room c
@@ -68,11 +58,11 @@ refusal-requires-2 c κs = search needs
 returns-2 : tie.Need-returns-2
 returns-2 c =
     let d = c .before .before .before .before .before in
-    rw (c .refusal2 .ensures) (best-short _ (d .before .before .before .before .before .read-lines .ensures .0) (d .before .before .if1 .left) (known d) _ _ (c .before .before .before .lines-refusal .ensures) (c .before .if2 .taken))
+    rw (c .refusal2 .ensures) (best-short _ (d .before .before .before .read-lines .ensures .0) (d .if1 .left) (d .before .before .before .read-lines .ensures .1 (d .if1 .left)) _ _ (c .before .before .before .lines-refusal .ensures) (c .before .if2 .taken))
 
 -- both buffers have room, and the lines are runs
-fits : (c : tie.Else2) → (c .before .before .before .before .count-in .result ≤ length (c .before .before .before .before .before .before .before .before .before .before .before .before .before .before .before .args .plan .now)) × (c .before .before .before .before .before .rack-in .result * c .before .before .before .before .before .rack-in .result ≤ length (c .before .before .before .before .before .before .before .before .before .before .before .before .before .before .before .args .table .now)) × Runs (c .before .before .before .before .before .rack-in .result) (lines (c .before .before .before .before))
-fits c = let d = c .before .before .before .before in best-room _ (d .before .before .before .before .before .read-lines .ensures .0) (d .before .before .if1 .left) (known d) (c .before .before .before .before .before .before .before .before .before .before .before .before .before .before .before .args .plan .now) (c .before .before .before .before .before .before .before .before .before .before .before .before .before .before .before .args .table .now) (c .before .before .lines-refusal .ensures) (c .if2 .left)
+fits : (c : tie.Else2) → (c .before .before .before .before .before .before .before .read-lines .result .count ≤ length (c .before .before .before .before .before .before .before .before .before .before .before .before .before .args .plan .now)) × (c .before .before .before .before .before .before .before .read-lines .result .rack * c .before .before .before .before .before .before .before .read-lines .result .rack ≤ length (c .before .before .before .before .before .before .before .before .before .before .before .before .before .args .table .now)) × Runs (c .before .before .before .before .before .before .before .read-lines .result .rack) (lines (c .before .before .before .before))
+fits c = let d = c .before .before .before .before in best-room _ (d .before .before .before .read-lines .ensures .0) (d .if1 .left) (d .before .before .before .read-lines .ensures .1 (d .if1 .left)) (c .before .before .before .before .before .before .before .before .before .before .before .before .before .args .plan .now) (c .before .before .before .before .before .before .before .before .before .before .before .before .before .args .table .now) (c .before .before .lines-refusal .ensures) (c .if2 .left)
 
 mul-square : tie.Need-mul-square
 mul-square c = omega (arith, square-most _ (good (c .before .before .before .before) .most))
@@ -113,7 +103,7 @@ returns-3 : tie.Need-returns-3
 returns-3 c =
     let d = c .before .before .before .before .before .before .before .before .before .before .before .before in
     let r = c .before .before .before .before .plan-lines .ensures in
-    best-in _ (d .before .before .before .before .before .read-lines .ensures .0) (d .before .before .if1 .left) (known d) _ _ (c .before .before .before .before .before .before .before .before .before .before .lines-refusal .ensures) (c .before .before .before .before .before .before .before .before .if2 .left) (r .0) (r .1 .0) (r .1 .1)
+    best-in _ (d .before .before .before .read-lines .ensures .0) (d .if1 .left) (d .before .before .before .read-lines .ensures .1 (d .if1 .left)) _ _ (c .before .before .before .before .before .before .before .before .before .before .lines-refusal .ensures) (c .before .before .before .before .before .before .before .before .if2 .left) (r .0) (r .1 .0) (r .1 .1)
 
 pub best-outcome-spec : {M : Type 1} → statement M
 best-outcome-spec =
@@ -124,8 +114,6 @@ best-outcome-spec =
     read-lines-requires
     refusal-requires
     returns
-    rack-in-requires
-    count-in-requires
     array-share-prefix-sets
     slice-aggregate-lines-refusal
     lines-refusal-requires

@@ -34,7 +34,7 @@ returns-2 c =
     let r = c .before .before .before .before .before .before .before .before .best-outcome .ensures in
     let long = c .before .before .before .before .before .before .before .before .before .before .before .if1 .left in
     let put = c .before .before .put-answer .ensures in
-    (number-long (r .0) old long, (answer-long (r .0) old long put, (r .1 .0 ∙ if-long old _ _ long, (r .1 .1 .0 ∙ if-long old _ _ long, subst (BestRuleOf (c .before .before .before .before .before .before .before .before .before .before .before .before .before .before .before .before .args .file .now) (c .before .before .before .before .before .before .before .before .best-outcome .last .1 .0)) (seen-is _ old put) (r .1 .1 .1)))))
+    (number-long (r .0) old long put, (answer-long (r .0) old long put, (r .1 .0 ∙ if-long old _ _ long, (r .1 .1 .0 ∙ if-long old _ _ long, subst (BestRuleOf (c .before .before .before .before .before .before .before .before .before .before .before .before .before .before .before .before .args .file .now) (c .before .before .before .before .before .before .before .before .best-outcome .last .1 .0)) (seen-is (r .0) old long put) (r .1 .1 .1)))))
 
 pub tipshare-best-spec : {M : Type 1} → statement M
 tipshare-best-spec =

@@ -5,10 +5,9 @@ use native.Mathlib.Omega.{arith}
 use lib.ListN.{length, take}
 use lib.Seq.{length-take-le}
 use Rattle.model.proofs.Occ.{top-length}
-use Rattle.board.proofs.JobFileRule.{header-in}
 use Rattle.tipshare_c.specs.Calls.{commonIn}
 use Rattle.tipshare_c.proofs.Laws.{on-refused, common-none}
-use Rattle.tipshare_c.proofs.Accepted.{Read, GoodLines, lines-read, good-lines, common-in}
+use Rattle.tipshare_c.proofs.Accepted.{GoodLines, good-lines, common-in}
 use borrow.Author.Needs.{needs}
 use Rattle.tipshare_c.proofs.common_call.common_outcome.Statement.{statement}
 use Rattle.tipshare_c.proofs.common_call.common_outcome.Tie as tie
@@ -32,24 +31,15 @@ returns c =
     let nz = c .before .if1 .taken in
     (r ∙ on-refused _ (c .before .before .before .before .read-lines .ensures .0) nz _, common-none _ (c .refusal .result) (λ z. nz (ap (λ o. o .number) (sym r) ∙ z)))
 
-rack-in-requires : tie.Need-rack-in-requires
-rack-in-requires c κs = header-in _ (c .before .before .before .read-lines .ensures .0) (c .if1 .left) .long
-
-count-in-requires : tie.Need-count-in-requires
-count-in-requires c κs = header-in _ (c .before .before .before .before .read-lines .ensures .0) (c .before .if1 .left) .long
-
 -- the lines that were read
-abbrev lines : tie.After-count-in → List ℕ
-lines c = take (c .count-in .result) (c .before .before .before .before .before .read-lines .last .1 .0)
+abbrev lines : tie.Else1 → List ℕ
+lines d = take (d .before .before .before .read-lines .result .count) (d .before .before .before .read-lines .last .1 .0)
 
-known : (c : tie.After-count-in) → Read (c .before .before .before .before .before .before .before .before .before .args .file .now) (c .before .rack-in .result) (c .count-in .result) (lines c)
-known c = record { rack-is = c .before .rack-in .ensures; count-is = c .count-in .ensures; lines-are = lines-read _ _ (c .count-in .ensures) (c .before .before .before .before .before .read-lines .ensures .1 (c .before .before .if1 .left)) }
+good : (d : tie.Else1) → GoodLines (d .before .before .before .read-lines .result .rack) (d .before .before .before .read-lines .result .count) (lines d)
+good d = let (e, read) = d .before .before .before .read-lines .ensures in good-lines _ e (d .if1 .left) (read (d .if1 .left))
 
-good : (c : tie.After-count-in) → GoodLines (c .before .rack-in .result) (c .count-in .result) (lines c)
-good c = good-lines _ (c .before .before .before .before .before .read-lines .ensures .0) (c .before .before .if1 .left) (known c)
-
-room : (c : tie.After-count-in) → c .count-in .result ≤ length (c .before .before .before .before .before .read-lines .last .1 .0)
-room c = omega (arith, good c .few, c .before .before .before .before .before .read-lines .kept .1 .0, c .before .before .before .before .before .before .before .line-buffer .ensures)
+room : (d : tie.Else1) → d .before .before .before .read-lines .result .count ≤ length (d .before .before .before .read-lines .last .1 .0)
+room d = omega (arith, good d .few, d .before .before .before .read-lines .kept .1 .0, d .before .before .before .before .before .line-buffer .ensures)
 
 array-share-prefix-sets : tie.Need-array-share-prefix-sets
 array-share-prefix-sets c = room c
@@ -60,16 +50,16 @@ slice-aggregate-common-tip c = sym (good (c .before) .size)
 common-tip-requires : tie.Need-common-tip-requires
 common-tip-requires c κs = let g = good (c .before) in (g .most, omega (arith, g .size, g .few))
 
-sub-t14 : tie.Need-sub-t14
-sub-t14 c =
+sub-t13 : tie.Need-sub-t13
+sub-t13 c =
     let d = c .before .before .before in
-    omega (arith, c .before .common-tip .ensures .0, top-length (d .before .rack-in .result) (lines d), good d .size)
+    omega (arith, c .before .common-tip .ensures .0, top-length (d .before .before .before .read-lines .result .rack) (lines d), good d .size)
 
 returns-2 : tie.Need-returns-2
 returns-2 c =
     let d = c .before .before .before in
     let e = c .before .common-tip .ensures in
-    common-in _ (d .before .before .before .before .before .read-lines .ensures .0) (d .before .before .if1 .left) (known d) (e .0) (e .1)
+    common-in _ (d .before .before .before .read-lines .ensures .0) (d .if1 .left) (d .before .before .before .read-lines .ensures .1 (d .if1 .left)) (e .0) (e .1)
 
 pub common-outcome-spec : {M : Type 1} → statement M
 common-outcome-spec =
@@ -80,10 +70,8 @@ common-outcome-spec =
     read-lines-requires
     refusal-requires
     returns
-    rack-in-requires
-    count-in-requires
     array-share-prefix-sets
     slice-aggregate-common-tip
     common-tip-requires
-    sub-t14
+    sub-t13
     returns-2)

@@ -26,7 +26,7 @@ returns-2 c =
     let r = c .before .before .before .before .common-outcome .ensures in
     let long = c .before .before .before .before .before .if1 .left in
     let put = c .before .before .put-answer .ensures in
-    (number-long (r .0) old long, (answer-long (r .0) old long put, subst (CommonRuleOf (c .before .before .before .before .before .before .before .before .args .file .now)) (seen-is _ old put) (r .1)))
+    (number-long (r .0) old long put, (answer-long (r .0) old long put, subst (CommonRuleOf (c .before .before .before .before .before .before .before .before .args .file .now)) (seen-is (r .0) old long put) (r .1)))
 
 pub tipshare-common-spec : {M : Type 1} → statement M
 tipshare-common-spec =

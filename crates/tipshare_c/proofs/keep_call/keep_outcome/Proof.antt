@@ -11,12 +11,11 @@ use mir.Syntax.{w32}
 use mir.Val.{toZ, ofZ}
 use Rattle.job.specs.Job.{fileLength, fileOf}
 use Rattle.board.specs.Common.{isNegative}
-use Rattle.board.proofs.JobFileRule.{header-in}
 use Rattle.board.proofs.Margin.{read-back, sign-test}
 use Rattle.tipshare_c.specs.Answer.{twosComplement}
 use Rattle.tipshare_c.specs.Calls.{keepIn, keepFileIn}
 use Rattle.tipshare_c.proofs.Laws.{on-refused, lent-refused}
-use Rattle.tipshare_c.proofs.Accepted.{Read, GoodLines, lines-read, good-lines, keep-refused, keep-room, keep-short, keep-in}
+use Rattle.tipshare_c.proofs.Accepted.{GoodLines, good-lines, keep-refused, keep-room, keep-short, keep-in}
 use borrow.Author.Needs.{needs}
 use Rattle.tipshare_c.proofs.keep_call.keep_outcome.Statement.{statement}
 use Rattle.tipshare_c.proofs.keep_call.keep_outcome.Tie as tie
@@ -41,24 +40,15 @@ returns c =
     let e = c .before .before .before .before .read-lines .ensures .0 in
     (r ∙ on-refused _ e nz _, (lent-refused _ e nz _ _, λ z. absurd (nz (ap (λ o. o .number) (sym r) ∙ z))))
 
-rack-in-requires : tie.Need-rack-in-requires
-rack-in-requires c κs = header-in _ (c .before .before .before .read-lines .ensures .0) (c .if1 .left) .long
-
-count-in-requires : tie.Need-count-in-requires
-count-in-requires c κs = header-in _ (c .before .before .before .before .read-lines .ensures .0) (c .before .if1 .left) .long
-
 -- the lines that were read
-abbrev lines : tie.After-count-in → List ℕ
-lines c = take (c .count-in .result) (c .before .before .before .before .before .read-lines .last .1 .0)
+abbrev lines : tie.Else1 → List ℕ
+lines d = take (d .before .before .before .read-lines .result .count) (d .before .before .before .read-lines .last .1 .0)
 
-known : (c : tie.After-count-in) → Read (c .before .before .before .before .before .before .before .before .before .before .args .file .now) (c .before .rack-in .result) (c .count-in .result) (lines c)
-known c = record { rack-is = c .before .rack-in .ensures; count-is = c .count-in .ensures; lines-are = lines-read _ _ (c .count-in .ensures) (c .before .before .before .before .before .read-lines .ensures .1 (c .before .before .if1 .left)) }
+good : (d : tie.Else1) → GoodLines (d .before .before .before .read-lines .result .rack) (d .before .before .before .read-lines .result .count) (lines d)
+good d = let (e, read) = d .before .before .before .read-lines .ensures in good-lines _ e (d .if1 .left) (read (d .if1 .left))
 
-good : (c : tie.After-count-in) → GoodLines (c .before .rack-in .result) (c .count-in .result) (lines c)
-good c = good-lines _ (c .before .before .before .before .before .read-lines .ensures .0) (c .before .before .if1 .left) (known c)
-
-room : (c : tie.After-count-in) → c .count-in .result ≤ length (c .before .before .before .before .before .read-lines .last .1 .0)
-room c = omega (arith, good c .few, c .before .before .before .before .before .read-lines .kept .1 .0, c .before .before .before .before .before .before .before .line-buffer .ensures)
+room : (d : tie.Else1) → d .before .before .before .read-lines .result .count ≤ length (d .before .before .before .read-lines .last .1 .0)
+room d = omega (arith, good d .few, d .before .before .before .read-lines .kept .1 .0, d .before .before .before .before .before .line-buffer .ensures)
 
 array-borrow-prefix-sets : tie.Need-array-borrow-prefix-sets
 array-borrow-prefix-sets c = room c
@@ -83,7 +73,7 @@ returns-2 : tie.Need-returns-2
 returns-2 c =
     let d = c .before .before .before .before .before in
     let kept = c .before .before .before .keep-lines in
-    keep-refused _ (d .before .before .before .before .before .read-lines .ensures .0) (d .before .before .if1 .left) (known d) _ (kept .ensures .0) (margin (c .before)) _ (sign (c .before) true (c .if2 .taken))
+    keep-refused _ (d .before .before .before .read-lines .ensures .0) (d .if1 .left) (d .before .before .before .read-lines .ensures .1 (d .if1 .left)) _ (kept .ensures .0) (margin (c .before)) _ (sign (c .before) true (c .if2 .taken))
 
 file-refusal-requires : tie.Need-file-refusal-requires
 file-refusal-requires c κs = good (c .before .before .before .before .before) .few
@@ -95,29 +85,29 @@ returns-3 : tie.Need-returns-3
 returns-3 c =
     let d = c .before .before .before .before .before .before .before .before .before in
     let kept = c .before .before .before .before .before .before .before .keep-lines in
-    rw (c .refusal2 .ensures) (keep-short _ (d .before .before .before .before .before .read-lines .ensures .0) (d .before .before .if1 .left) (known d) _ (kept .ensures .0) (margin (c .before .before .before .before .before)) _ (sign (c .before .before .before .before .before) false (c .before .before .before .before .if2 .left)) (c .before .before .before .file-refusal .ensures) (c .before .if3 .taken))
+    rw (c .refusal2 .ensures) (keep-short _ (d .before .before .before .read-lines .ensures .0) (d .if1 .left) (d .before .before .before .read-lines .ensures .1 (d .if1 .left)) _ (kept .ensures .0) (margin (c .before .before .before .before .before)) _ (sign (c .before .before .before .before .before) false (c .before .before .before .before .if2 .left)) (c .before .before .before .file-refusal .ensures) (c .before .if3 .taken))
 
 file-length-requires : tie.Need-file-length-requires
 file-length-requires c κs = omega (arith, good (c .before .before .before .before .before .before .before .before) .few)
 
 -- the kept lines are as many, and stand in the first places of the sets
-size : (c : tie.After-file-length) → length (c .before .before .before .before .before .before .before .keep-lines .last .1 .0) ≡ c .before .before .before .before .before .before .before .before .before .count-in .result
+size : (c : tie.After-file-length) → length (c .before .before .before .before .before .before .before .keep-lines .last .1 .0) ≡ c .before .before .before .before .before .before .before .before .before .before .before .before .read-lines .result .count
 size c = c .before .before .before .before .before .before .before .keep-lines .kept .1 .0 ∙ good (c .before .before .before .before .before .before .before .before .before) .size
 
 front : (c : tie.After-file-length) →
-    let n = c .before .before .before .before .before .before .before .before .before .count-in .result in
+    let n = c .before .before .before .before .before .before .before .before .before .before .before .before .read-lines .result .count in
     let kept = c .before .before .before .before .before .before .before .keep-lines .last .1 .0 in
-    take n (kept ++ drop n (c .before .before .before .before .before .before .before .before .before .before .before .before .before .before .read-lines .last .1 .0)) ≡ kept
-front c = take-at (c .before .before .before .before .before .before .before .keep-lines .last .1 .0) (drop (c .before .before .before .before .before .before .before .before .before .count-in .result) (c .before .before .before .before .before .before .before .before .before .before .before .before .before .before .read-lines .last .1 .0)) (c .before .before .before .before .before .before .before .before .before .count-in .result) (size c)
+    take n (kept ++ drop n (c .before .before .before .before .before .before .before .before .before .before .before .before .read-lines .last .1 .0)) ≡ kept
+front c = take-at (c .before .before .before .before .before .before .before .keep-lines .last .1 .0) (drop (c .before .before .before .before .before .before .before .before .before .before .before .before .read-lines .result .count) (c .before .before .before .before .before .before .before .before .before .before .before .before .read-lines .last .1 .0)) (c .before .before .before .before .before .before .before .before .before .before .before .before .read-lines .result .count) (size c)
 
 -- the output has room for the file
-bytes : (c : tie.After-file-length) → c .file-length .result ≤ length (c .before .before .before .before .before .before .before .before .before .before .before .before .before .before .before .before .before .before .before .args .out .now)
+bytes : (c : tie.After-file-length) → c .file-length .result ≤ length (c .before .before .before .before .before .before .before .before .before .before .before .before .before .before .before .before .before .args .out .now)
 bytes c =
     let d = c .before .before .before .before .before .before .before .before .before in
-    omega (arith, c .file-length .ensures, keep-room _ (d .before .before .before .before .before .read-lines .ensures .0) (d .before .before .if1 .left) (known d) _ (c .before .before .before .before .before .before .before .keep-lines .ensures .0) (margin (c .before .before .before .before .before)) (c .before .before .before .before .before .before .before .before .before .before .before .before .before .before .before .before .before .before .before .args .out .now) (sign (c .before .before .before .before .before) false (c .before .before .before .before .if2 .left)) (c .before .before .before .file-refusal .ensures) (c .before .if3 .left))
+    omega (arith, c .file-length .ensures, keep-room _ (d .before .before .before .read-lines .ensures .0) (d .if1 .left) (d .before .before .before .read-lines .ensures .1 (d .if1 .left)) _ (c .before .before .before .before .before .before .before .keep-lines .ensures .0) (margin (c .before .before .before .before .before)) (c .before .before .before .before .before .before .before .before .before .before .before .before .before .before .before .before .before .args .out .now) (sign (c .before .before .before .before .before) false (c .before .before .before .before .if2 .left)) (c .before .before .before .file-refusal .ensures) (c .before .if3 .left))
 
 array-share-prefix-sets : tie.Need-array-share-prefix-sets
-array-share-prefix-sets c = omega (arith, length-append (c .before .before .before .before .before .before .before .keep-lines .last .1 .0) (drop (c .before .before .before .before .before .before .before .before .before .count-in .result) (c .before .before .before .before .before .before .before .before .before .before .before .before .before .before .read-lines .last .1 .0)), size c)
+array-share-prefix-sets c = omega (arith, length-append (c .before .before .before .before .before .before .before .keep-lines .last .1 .0) (drop (c .before .before .before .before .before .before .before .before .before .before .before .before .read-lines .result .count) (c .before .before .before .before .before .before .before .before .before .before .before .before .read-lines .last .1 .0)), size c)
 
 slice-aggregate-write-file : tie.Need-slice-aggregate-write-file
 slice-aggregate-write-file c = sym (ap length (front (c .before)) ∙ size (c .before))
@@ -138,7 +128,7 @@ returns-4 : tie.Need-returns-4
 returns-4 c =
     let d = c .before .before .before .before .before .before .before .before .before .before .before .before .before .before in
     let l = c .before .before .before .before .before in
-    keep-in _ (d .before .before .before .before .before .read-lines .ensures .0) (d .before .before .if1 .left) (known d) _ (c .before .before .before .before .before .before .before .before .before .before .before .before .keep-lines .ensures .0) (margin (c .before .before .before .before .before .before .before .before .before .before)) _ (sign (c .before .before .before .before .before .before .before .before .before .before) false (c .before .before .before .before .before .before .before .before .before .if2 .left)) (c .before .before .before .before .before .before .before .before .file-refusal .ensures) (c .before .before .before .before .before .before .if3 .left) (l .file-length .ensures) (c .before .before .write-file .ensures ∙ ap (fileOf (d .before .rack-in .result)) (front l ∙ c .before .before .before .before .before .before .before .before .before .before .before .before .keep-lines .ensures .1))
+    keep-in _ (d .before .before .before .read-lines .ensures .0) (d .if1 .left) (d .before .before .before .read-lines .ensures .1 (d .if1 .left)) _ (c .before .before .before .before .before .before .before .before .before .before .before .before .keep-lines .ensures .0) (margin (c .before .before .before .before .before .before .before .before .before .before)) _ (sign (c .before .before .before .before .before .before .before .before .before .before) false (c .before .before .before .before .before .before .before .before .before .if2 .left)) (c .before .before .before .before .before .before .before .before .file-refusal .ensures) (c .before .before .before .before .before .before .if3 .left) (l .file-length .ensures) (c .before .before .write-file .ensures ∙ ap (fileOf (d .before .before .before .read-lines .result .rack)) (front l ∙ c .before .before .before .before .before .before .before .before .before .before .before .before .keep-lines .ensures .1))
 
 pub keep-outcome-spec : {M : Type 1} → statement M
 keep-outcome-spec =
@@ -149,8 +139,6 @@ keep-outcome-spec =
     read-lines-requires
     refusal-requires
     returns
-    rack-in-requires
-    count-in-requires
     array-borrow-prefix-sets
     slice-aggregate-keep-lines
     keep-lines-requires
