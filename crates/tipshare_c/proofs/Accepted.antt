@@ -19,7 +19,8 @@ use Rattle.job.proofs.Reading.{length-setsIn}
 use Rattle.state.specs.declared.Stage.the-variants.{Closed}
 use Rattle.state.specs.declared.Refusal.{Refusal}
 use Rattle.state.specs.Refusal.{none, when}
-use Rattle.state.specs.State.{linesRefusal, LinesRead}
+use Rattle.state.specs.State.{linesRefusal}
+use Rattle.reading.specs.Reading.{LinesRead}
 use Rattle.state.proofs.Refusals.{plan-known, best-known, write-known, quick-left, best-left, write-left}
 use Rattle.board.specs.declared.Board.{Board}
 use Rattle.board.specs.declared.Kept.{Kept}

@@ -14,8 +14,8 @@ fn best_outcome(file: &[u8], plan: &mut [u8], table: &mut [u32]) -> Outcome
     ensures table { λ _. ⌜ now (table .exit) ≡ bestTableIn (now (file .entry)) (length (now (plan .entry))) (now (table .entry)) ⌝ }
     ensures rule { λ r. ⌜ BestRuleOf (now (file .entry)) (now (plan .exit)) r ⌝ }
 {
-    let mut sets = state::line_buffer();
-    let read = state::read_lines(file, &mut sets);
+    let mut sets = reading::line_buffer();
+    let read = reading::read_lines(file, &mut sets);
     if read.number != 0 {
         return refusal(read.number, read.place);
     }

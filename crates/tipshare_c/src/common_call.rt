@@ -11,8 +11,8 @@ fn common_outcome(file: &[u8]) -> Outcome
     ensures outcome { λ r. ⌜ r ≡ commonIn (now (file .entry)) ⌝ }
     ensures rule { λ r. ⌜ CommonRuleOf (now (file .entry)) r ⌝ }
 {
-    let mut sets = state::line_buffer();
-    let read = state::read_lines(file, &mut sets);
+    let mut sets = reading::line_buffer();
+    let read = reading::read_lines(file, &mut sets);
     if read.number != 0 {
         return refusal(read.number, read.place);
     }

@@ -40,8 +40,8 @@ fn keep_outcome(file: &[u8], k: u16, out: &mut [u8]) -> Outcome
     ensures out { λ _. ⌜ now (out .exit) ≡ keepFileIn (now (file .entry)) k (now (out .entry)) ⌝ }
     ensures rule { λ r. ⌜ KeepRuleOf (boardOf (now (file .entry))) k (now (out .exit)) r ⌝ }
 {
-    let mut sets = state::line_buffer();
-    let read = state::read_lines(file, &mut sets);
+    let mut sets = reading::line_buffer();
+    let read = reading::read_lines(file, &mut sets);
     if read.number != 0 {
         return refusal(read.number, read.place);
     }

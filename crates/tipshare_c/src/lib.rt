@@ -49,7 +49,7 @@ fn refusal(number: u32, place: usize) -> Outcome
 fn read_outcome(file: &[u8]) -> Outcome
     ensures { λ r. ⌜ r ≡ readIn (now (file .entry)) ⌝ }
 {
-    let refused = state::read_refusal(file);
+    let refused = reading::read_refusal(file);
     if refused.number != 0 {
         return refusal(refused.number, refused.place);
     }

@@ -13,8 +13,8 @@ fn quick_outcome(file: &[u8], plan: &mut [u8]) -> Outcome
     ensures plan { λ _. ⌜ now (plan .exit) ≡ quickPlanIn (now (file .entry)) (now (plan .entry)) ⌝ }
     ensures rule { λ r. ⌜ HalfRuleOf (now (file .entry)) (now (plan .exit)) r ⌝ }
 {
-    let mut sets = state::line_buffer();
-    let read = state::read_lines(file, &mut sets);
+    let mut sets = reading::line_buffer();
+    let read = reading::read_lines(file, &mut sets);
     if read.number != 0 {
         return refusal(read.number, read.place);
     }

@@ -8,10 +8,10 @@ use Rattle.job.specs.Job.{headerNumber, GoodHeader}
 use Rattle.job.proofs.Header.{header-good, good-header}
 use Rattle.job.proofs.Reading.{read-iff}
 use Rattle.job.proofs.Good.{good-accepted}
-use Rattle.state.specs.State.{LinesRead}
+use Rattle.reading.specs.Reading.{LinesRead}
 use borrow.Author.Needs.{needs}
-use Rattle.state.proofs.read_lines.Statement.{statement}
-use Rattle.state.proofs.read_lines.Tie as tie
+use Rattle.reading.proofs.read_lines.Statement.{statement}
+use Rattle.reading.proofs.read_lines.Tie as tie
 
 header : (c : tie.Else1) → headerNumber (c .before .before .before .before .args .file .now) ≡ 0
 header c = sym (c .before .header-number .ensures) ∙ c .if1 .left
