@@ -8,10 +8,11 @@ use native.Mathlib.Omega.{arith}
 use native.Mathlib.Nat.{min-eq-left, min-eq-right}
 use lib.ListN.{length, take, length-append, length-drop}
 use lib.Seq.{take-all, take-length}
-use borrow.Author.Tests.{eq-eqb, ne-eqb, lt-ltb, le-ltb}
+use borrow.Author.Tests.{ne-eqb, lt-ltb, le-ltb}
 use Rattle.model.proofs.Tests.{le-or-lt}
-use Rattle.board.specs.declared.Answer.{Answer}
-use Rattle.board.specs.JobFile.{readOf}
+use Rattle.state.specs.declared.Refusal.{Refusal}
+use Rattle.board.specs.JobFile.{readRefusal, boardIn}
+use Rattle.board.proofs.JobFileRule.{read-stopped, accepted-board}
 use Rattle.report.specs.Report.{reportOf, refusedText}
 use Rattle.report.specs.Buffer.{Printed}
 use Rattle.summary.specs.Summary.{factsOf, textOf, summaryOf}
@@ -20,14 +21,14 @@ use Rattle.summary.specs.Summary.{factsOf, textOf, summaryOf}
 pub printed-fits : {text before after : List ℕ} {n : ℕ} → Printed text before n after → length after ≡ length before → n ≤ length after
 printed-fits {text} {before} p e = omega (arith, p .size, e, simp (length-append, length-drop) at (ap length (p .bytes)))
 
-module _ (file : List ℕ) {r : Answer} (e : r ≡ readOf file) where
-  pub text-refused : (r .number ≡ 0 → ⊥) → textOf file ≡ refusedText (r .number)
+module _ (file : List ℕ) {d : Refusal} (e : d ≡ readRefusal file) where
+  pub text-refused : (d .number ≡ 0 → ⊥) → textOf file ≡ refusedText (d .number)
   unfolding textOf
-  text-refused n = rw (← e, ne-eqb (r .number) 0 n)
+  text-refused n = rw (← (read-stopped file e n), ne-eqb (d .number) 0 n)
 
-  pub text-accepted : r .number ≡ 0 → textOf file ≡ reportOf (factsOf (r .board))
+  pub text-accepted : d .number ≡ 0 → textOf file ≡ reportOf (factsOf (boardIn file))
   unfolding textOf
-  text-accepted z = rw (← e, eq-eqb (r .number) 0 z)
+  text-accepted z = rw (← (accepted-board file e z))
 
 -- at most n elements, and no more than there are
 take-least : (n : ℕ) (xs : List ℕ) → take (min (length xs) n) xs ≡ take n xs
