@@ -1,8 +1,12 @@
 // The whole of what the program tipshare prints for a file, written into a buffer.
-use board::Board;
 ghost use mathlib.Core.Path.{_≡_};
 ghost use Prim.Native.Nat.{_≤_, min};
+ghost use lib.Dec.{T};
 ghost use lib.ListN.{length};
+ghost use Rattle.model.specs.Count.{each};
+ghost use Rattle.model.specs.Interval.{isRun, C, bestPlan};
+ghost use Rattle.greedy.specs.Rounds.{Shareable};
+ghost use Rattle.state.specs.declared.Stage.the-variants.{Closed};
 ghost use Rattle.report.specs.Report.{reportOf};
 ghost use Rattle.text.specs.Buffer.{Printed};
 ghost use Rattle.summary.specs.Summary.{factsOf, textOf, summaryOf, Printable};
@@ -27,27 +31,59 @@ fn table_buffer() -> [u32; 4096]
     [0u32; 4096]
 }
 
-// The report on a sound and closed board.
-fn write_board(board: Board, out: &mut [u8]) -> usize
-    requires { ⌜ Printable board (now out) ⌝ }
-    ensures { λ r. ⌜ Printed (reportOf (factsOf board)) (now (out .entry)) r (now (out .exit)) ⌝ }
+// Whether each line is a run, and the pairs of best sharing where it is so.
+struct Best {
+    runs: bool,
+    pairs: u32,
+}
+
+// Best sharing of the lines. Where some line is no run the plan stays as it was.
+fn best_lines(rack: usize, lines: &[u64], plan: &mut [u8]) -> Best
+    requires { ⌜ Shareable rack (now lines) (now plan) ⌝ }
+    ensures runs { λ r. ⌜ r .runs ≡ each isRun (now (lines .entry)) ⌝ }
+    ensures best { λ r. ⌜ (T (r .runs) → (r .pairs ≡ C (now (lines .entry)) 0 rack) × (now (plan .exit) ≡ bestPlan rack (now (lines .entry)))) ⌝ }
 {
-    let common = board.common_tip();
-    let mut quick_plan = plan_buffer();
-    let quick = board.quick(&mut quick_plan);
-    let mut best_plan = plan_buffer();
+    if spans::first_not_run(lines) < lines.len() {
+        return Best {
+            runs: false,
+            pairs: 0,
+        };
+    }
     let mut table = table_buffer();
-    let best = board.best(&mut best_plan, &mut table);
-    let count = board.count;
+    let square = rack * rack;
+    let pairs = best::plan_lines(rack, lines, plan, &mut table[..square]);
+    Best { runs: true, pairs }
+}
+
+// The report on good lines, which quick sharing uses up; both plans have a byte a line.
+fn write_lines(
+    rack: usize,
+    lines: &mut [u64],
+    quick: &mut [u8],
+    best: &mut [u8],
+    out: &mut [u8],
+) -> usize
+    requires { ⌜ Printable (record { rack = rack; stage = Closed; count = length (now lines); sets = now lines }) (now out) ⌝ }
+    requires { ⌜ (length (now quick) ≡ length (now lines)) × (length (now best) ≡ length (now lines)) ⌝ }
+    ensures { λ r. ⌜ Printed
+        (reportOf (factsOf (record { rack = rack; stage = Closed; count = length (now (lines .entry)); sets = now (lines .entry) })))
+        (now (out .entry))
+        r
+        (now (out .exit)) ⌝ }
+{
+    let common = common::common_tip(rack, lines);
+    let off = lines.len() - common.top;
+    let shared = best_lines(rack, lines, best);
+    let pairs = greedy::plan_lines(rack, lines, quick);
     report::write_report(
-        board.rack,
-        common.off,
+        rack,
+        off,
         common.tips,
-        quick.pairs,
-        best.number == 0,
-        best.pairs,
-        &quick_plan[..count],
-        &best_plan[..count],
+        pairs,
+        shared.runs,
+        shared.pairs,
+        quick,
+        best,
         out,
     )
 }
@@ -57,12 +93,21 @@ fn write_file(file: &[u8], out: &mut [u8]) -> usize
     requires { ⌜ 16384 ≤ length (now out) ⌝ }
     ensures { λ r. ⌜ Printed (textOf (now (file .entry))) (now (out .entry)) r (now (out .exit)) ⌝ }
 {
-    let answer = Board::read(file);
-    if answer.number != 0 {
-        return report::write_refused(answer.number, out);
+    let mut sets = reading::line_buffer();
+    let read = reading::read_lines(file, &mut sets);
+    if read.number != 0 {
+        return report::write_refused(read.number, out);
     }
-    let board = answer.board;
-    write_board(board, out)
+    let count = read.count;
+    let mut quick = plan_buffer();
+    let mut best = plan_buffer();
+    write_lines(
+        read.rack,
+        &mut sets[..count],
+        &mut quick[..count],
+        &mut best[..count],
+        out,
+    )
 }
 
 // The size of the part that is taken of a file of this size.

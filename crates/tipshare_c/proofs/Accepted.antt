@@ -7,15 +7,12 @@ use native.Mathlib.Omega.{arith}
 use lib.Dec.{ltb}
 use lib.IntN.{ℤ}
 use lib.ListN.{length, take, drop}
-use lib.Seq.{take-at}
-use Rattle.model.specs.Count.{All}
-use Rattle.model.specs.Plan.{Domain, pairs}
+use Rattle.model.specs.Plan.{pairs}
 use Rattle.model.specs.CommonTip.{top, W, margin, prune, Exact}
 use Rattle.model.specs.Greedy.{quickPlan}
 use Rattle.model.specs.Interval.{C, bestPlan, table}
 use Rattle.interval.specs.Cells.{Runs}
-use Rattle.job.specs.Job.{fileLength, fileOf, rackIn, countIn, setsIn}
-use Rattle.job.proofs.Reading.{length-setsIn}
+use Rattle.job.specs.Job.{fileLength, fileOf, rackIn, countIn}
 use Rattle.state.specs.declared.Stage.the-variants.{Closed}
 use Rattle.state.specs.declared.Refusal.{Refusal}
 use Rattle.state.specs.Refusal.{none, when}
@@ -28,8 +25,8 @@ use Rattle.board.specs.Board.{linesOf, held, stateRefusal}
 use Rattle.board.specs.Common.{CommonRule, marginOf, isNegative, keptBoard, keepOf, KeepRule}
 use Rattle.board.specs.JobFile.{readRefusal, boardIn, writeRefusal}
 use Rattle.board.specs.Sharing.{quickRefusal, bestRefusal}
-use Rattle.board.proofs.Sets.{lines-count}
-use Rattle.board.proofs.JobFileRule.{lines-in, state-in, ready-in, full-in, write-refused, write-accepted}
+use Rattle.board.proofs.JobFileRule.{state-in, full-in, write-refused, write-accepted}
+use Rattle.board.proofs.ReadLines.{lines-are, count-lines, of-lines}
 use Rattle.board.proofs.CommonRule.{common-rule, common-accepted, keep-rule, keep-below, keep-meets, by-sign, kept-ready}
 use Rattle.board.proofs.SharingRule.{quick-refused, quick-accepted, best-runs, best-refused, best-accepted}
 use Rattle.tipshare_c.specs.declared.Outcome.{Outcome}
@@ -37,14 +34,6 @@ use Rattle.tipshare_c.specs.Answer.{twosComplement}
 use Rattle.tipshare_c.specs.Calls.{boardOf, refusal, commonBy, commonIn, sharedBy, quickIn, quickPlanIn, bestIn, bestPlanIn, bestTableIn, keptBy, keptFile, keepIn, keepFileIn}
 use Rattle.tipshare_c.specs.Rules.{CommonRuleOf, HalfRuleOf, BestRuleOf, KeepRuleOf}
 use Rattle.tipshare_c.proofs.Laws
-
--- what is known of the lines that were read
-pub record GoodLines (m n : ℕ) (lines : List ℕ) : Type 0 where
-  pub some : 1 ≤ m
-  pub most : m ≤ 64
-  pub few : n ≤ 512
-  pub size : length lines ≡ n
-  pub domains : All (Domain m) lines
 
 module _ (file : List ℕ) {d : Refusal} (e : d ≡ readRefusal file) (z : d .number ≡ 0) {m n : ℕ} {old sets : List ℕ} (read : LinesRead file m n old sets) where
   abbrev b : Board
@@ -54,26 +43,11 @@ module _ (file : List ℕ) {d : Refusal} (e : d ≡ readRefusal file) (z : d .nu
   abbrev lines : List ℕ
   lines = take n sets
 
-  lines-are : lines ≡ linesOf b
-  lines-are = rw (read .count-is, read .sets-are) (take-at (setsIn file) (drop (countIn file) old) (countIn file) (length-setsIn file) ∙ sym (lines-in file))
-
-  count-lines : length (linesOf b) ≡ countIn file
-  count-lines = lines-count b (full-in file e z) (ready-in file e z .sound .count-most)
-
-  pub good-lines : GoodLines m n lines
-  good-lines =
-      let s = ready-in file e z .sound in
-      rw (lines-are, read .rack-is, read .count-is) (record { some = s .rack-least; most = s .rack-most; few = s .count-most; size = count-lines; domains = s .domains })
-
-  -- what is said of the lines that were read, of those of the board
-  of-lines : {A : Type 0} (f : ℕ → List ℕ → A) {x : A} → x ≡ f m lines → x ≡ f (b .rack) (linesOf b)
-  of-lines f q = q ∙ ap₂ f (read .rack-is) (lines-are)
-
   pub common-in : {t w : ℕ} → t ≡ top m lines → w ≡ W m lines
       → let o : Outcome = record { number = 0; place = 0; first = t; second = n - t; third = w } in (o ≡ commonIn file) × CommonRuleOf file o
   unfolding commonIn
   common-in {t} {w} q r =
-      let a = common-accepted b {d = none} (sym (state-in file e z)) refl t w (of-lines top q) (of-lines W r) in
+      let a = common-accepted b {d = none} (sym (state-in file e z)) refl t w (of-lines file e z read top q) (of-lines file e z read W r) in
       rw (read .count-is) (ap commonBy a ∙ Laws.on-board file e z _, Laws.common-rule file e z (subst (CommonRule b) (sym a) (common-rule b (full-in file e z))))
 
   -- quick sharing
@@ -96,19 +70,19 @@ module _ (file : List ℕ) {d : Refusal} (e : d ≡ readRefusal file) (z : d .nu
         (o ≡ quickIn file (length plan)) × ((last ≡ quickPlanIn file plan) × HalfRuleOf file last o)
     unfolding quickIn quickPlanIn
     quick-in y {x} {out} g h =
-        let (p, (q, r)) = quick-accepted b (full-in file e z) plan quick-by y {p = x} {out = out} (of-lines (λ k l. pairs (quickPlan k l)) g) (of-lines quickPlan h) in
+        let (p, (q, r)) = quick-accepted b (full-in file e z) plan quick-by y {p = x} {out = out} (of-lines file e z read (λ k l. pairs (quickPlan k l)) g) (of-lines file e z read quickPlan h) in
         rw (read .count-is) (ap sharedBy p ∙ Laws.on-board file e z _, (q ∙ Laws.lent-board file e z _ _, Laws.half-rule file e z r))
 
   -- best sharing
   module _ (plan cells : List ℕ) {s : Refusal} (f : s ≡ linesRefusal m lines (length plan) (length cells)) where
     best-by : s ≡ bestRefusal b (length plan) (length cells)
-    best-by = of-lines (λ k l. linesRefusal k l (length plan) (length cells)) f ∙ best-left (held b) (length plan) (length cells) (state-in file e z) count-lines
+    best-by = of-lines file e z read (λ k l. linesRefusal k l (length plan) (length cells)) f ∙ best-left (held b) (length plan) (length cells) (state-in file e z) (count-lines file e z read)
 
     -- both buffers have room, and the lines are runs
     pub best-room : s .number ≡ 0 → (n ≤ length plan) × (m * m ≤ length cells) × Runs m lines
     best-room y =
         let k = best-known best-by y in
-        rw (lines-are, read .rack-is, read .count-is) (k .bytes, k .cells, best-runs b (full-in file e z) k)
+        rw (lines-are file e z read, read .rack-is, read .count-is) (k .bytes, k .cells, best-runs b (full-in file e z) k)
 
     pub best-short : (s .number ≡ 0 → ⊥)
         → let o = refusal (s .number) (s .place) in
@@ -126,15 +100,15 @@ module _ (file : List ℕ) {d : Refusal} (e : d ≡ readRefusal file) (z : d .nu
         × ((last ≡ bestPlanIn file plan (length cells)) × ((grid ++ drop (m * m) cells ≡ bestTableIn file (length plan) cells) × BestRuleOf file last o))
     unfolding bestIn bestPlanIn bestTableIn
     best-in y {x} {out} {grid} g h i =
-        let o = ap (λ l. l ++ drop (countIn file) plan) (of-lines bestPlan h) in
-        let t = ap (λ l. l ++ drop (rackIn file * rackIn file) cells) (of-lines table i) in
-        let (p, (q, (c, r))) = best-accepted b (full-in file e z) plan cells best-by y {p = x} (of-lines (λ k l. C l 0 k) g) o t in
+        let o = ap (λ l. l ++ drop (countIn file) plan) (of-lines file e z read bestPlan h) in
+        let t = ap (λ l. l ++ drop (rackIn file * rackIn file) cells) (of-lines file e z read table i) in
+        let (p, (q, (c, r))) = best-accepted b (full-in file e z) plan cells best-by y {p = x} (of-lines file e z read (λ k l. C l 0 k) g) o t in
         rw (read .rack-is, read .count-is) (ap sharedBy p ∙ Laws.on-board file e z _, (q ∙ Laws.lent-board file e z _ _, (c ∙ Laws.lent-board file e z _ _, Laws.best-rule file e z r)))
 
   -- keep within k, by its margin
   module _ (k : ℕ) {y : ℤ} (q : y ≡ margin m lines k) {w : ℕ} (t : w ≡ twosComplement y) (out : List ℕ) where
     margin-is : y ≡ marginOf b k
-    margin-is = of-lines (λ r l. margin r l k) q
+    margin-is = of-lines file e z read (λ r l. margin r l k) q
 
     abbrev Kept-as : List ℕ → Outcome → Type 0
     Kept-as last o = (o ≡ keepIn file k (length out)) × ((last ≡ keepFileIn file k out) × KeepRuleOf (boardOf file) k last o)
@@ -178,7 +152,7 @@ module _ (file : List ℕ) {d : Refusal} (e : d ≡ readRefusal file) (z : d .nu
           → Kept-as (bytes ++ drop size out) (record { number = 0; place = 0; first = w; second = size; third = 0 })
       keep-in v {size} {bytes} g h =
           let size-is : size ≡ fileLength (countIn file) = g ∙ ap fileLength (read .count-is) in
-          let bytes-are = of-lines (λ r l. fileOf r (prune r l k)) h ∙ ap (fileOf (rackIn file)) (sym (ready .2)) in
+          let bytes-are = of-lines file e z read (λ r l. fileOf r (prune r l k)) h ∙ ap (fileOf (rackIn file)) (sym (ready .2)) in
           let (p, (o, r)) = write-accepted (keptBoard b k) out write-by (ready .1) v {n = size} size-is (ap₂ (λ l j. l ++ drop j out) bytes-are size-is) in
           let rule = subst (KeepRule b k) (sym kept-is) (keep-rule b k (full-in file e z)) in
           of-kept {kept = kept} kept-is (Laws.kept-written kept t refl (length out) p refl) (o ∙ Laws.file-written kept refl out)

@@ -6,9 +6,10 @@ use lib.ListN.{length, take}
 use lib.Seq.{length-take-le}
 use Rattle.interval.specs.Cells.{Runs}
 use Rattle.state.proofs.Refusals.{square-most}
+use Rattle.board.proofs.ReadLines.{GoodLines, good-lines}
 use Rattle.tipshare_c.specs.Calls.{bestIn, bestPlanIn, bestTableIn}
 use Rattle.tipshare_c.proofs.Laws.{on-refused, lent-refused, best-none}
-use Rattle.tipshare_c.proofs.Accepted.{GoodLines, good-lines, best-room, best-short, best-in}
+use Rattle.tipshare_c.proofs.Accepted.{best-room, best-short, best-in}
 use borrow.Author.Needs.{needs}
 use Rattle.tipshare_c.proofs.best_call.best_outcome.Statement.{statement}
 use Rattle.tipshare_c.proofs.best_call.best_outcome.Tie as tie

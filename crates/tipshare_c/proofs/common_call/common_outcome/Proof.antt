@@ -5,9 +5,10 @@ use native.Mathlib.Omega.{arith}
 use lib.ListN.{length, take}
 use lib.Seq.{length-take-le}
 use Rattle.model.proofs.Occ.{top-length}
+use Rattle.board.proofs.ReadLines.{GoodLines, good-lines}
 use Rattle.tipshare_c.specs.Calls.{commonIn}
 use Rattle.tipshare_c.proofs.Laws.{on-refused, common-none}
-use Rattle.tipshare_c.proofs.Accepted.{GoodLines, good-lines, common-in}
+use Rattle.tipshare_c.proofs.Accepted.{common-in}
 use borrow.Author.Needs.{needs}
 use Rattle.tipshare_c.proofs.common_call.common_outcome.Statement.{statement}
 use Rattle.tipshare_c.proofs.common_call.common_outcome.Tie as tie

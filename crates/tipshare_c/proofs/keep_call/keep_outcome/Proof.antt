@@ -12,10 +12,11 @@ use mir.Val.{toZ, ofZ}
 use Rattle.job.specs.Job.{fileLength, fileOf}
 use Rattle.board.specs.Common.{isNegative}
 use Rattle.board.proofs.Margin.{read-back, sign-test}
+use Rattle.board.proofs.ReadLines.{GoodLines, good-lines}
 use Rattle.tipshare_c.specs.Answer.{twosComplement}
 use Rattle.tipshare_c.specs.Calls.{keepIn, keepFileIn}
 use Rattle.tipshare_c.proofs.Laws.{on-refused, lent-refused}
-use Rattle.tipshare_c.proofs.Accepted.{GoodLines, good-lines, keep-refused, keep-room, keep-short, keep-in}
+use Rattle.tipshare_c.proofs.Accepted.{keep-refused, keep-room, keep-short, keep-in}
 use borrow.Author.Needs.{needs}
 use Rattle.tipshare_c.proofs.keep_call.keep_outcome.Statement.{statement}
 use Rattle.tipshare_c.proofs.keep_call.keep_outcome.Tie as tie

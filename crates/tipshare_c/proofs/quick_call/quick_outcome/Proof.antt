@@ -4,9 +4,10 @@ use mathlib.Core.List.{List}
 use native.Mathlib.Omega.{arith}
 use lib.ListN.{length, take}
 use lib.Seq.{length-take-le}
+use Rattle.board.proofs.ReadLines.{GoodLines, good-lines}
 use Rattle.tipshare_c.specs.Calls.{quickIn, quickPlanIn}
 use Rattle.tipshare_c.proofs.Laws.{on-refused, lent-refused, half-none}
-use Rattle.tipshare_c.proofs.Accepted.{GoodLines, good-lines, quick-room, quick-short, quick-in}
+use Rattle.tipshare_c.proofs.Accepted.{quick-room, quick-short, quick-in}
 use borrow.Author.Needs.{needs}
 use Rattle.tipshare_c.proofs.quick_call.quick_outcome.Statement.{statement}
 use Rattle.tipshare_c.proofs.quick_call.quick_outcome.Tie as tie
