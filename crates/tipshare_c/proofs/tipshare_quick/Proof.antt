@@ -1,0 +1,39 @@
+use mathlib.Core.Path.{subst, _∙_}
+use native.Mathlib.Omega.{arith}
+use Rattle.tipshare_c.specs.Answer.{seen}
+use Rattle.outcome.specs.Rules.{HalfRuleOf}
+use Rattle.outcome.proofs.Laws.{half-none}
+use Rattle.tipshare_c.proofs.Laws.{if-short, if-long, number-long, answer-long, seen-is}
+use borrow.Author.Needs.{needs}
+use Rattle.tipshare_c.proofs.tipshare_quick.Statement.{statement}
+use Rattle.tipshare_c.proofs.tipshare_quick.Tie as tie
+
+returns : tie.Need-returns
+returns c =
+    let old = c .before .before .before .before .args .answer .now in
+    let short = c .if1 .taken in
+    (if-short old _ _ short, (if-short old _ _ short, (if-short old _ _ short, half-none (c .before .before .before .before .args .file .now) (seen 100 old) (λ z. omega (arith, z)) _)))
+
+quick-outcome-requires : tie.Need-quick-outcome-requires
+quick-outcome-requires c κs = search needs
+
+put-answer-requires : tie.Need-put-answer-requires
+put-answer-requires c κs = search needs
+
+same-length : tie.Need-same-length
+same-length c = search needs
+
+same-length-2 : tie.Need-same-length-2
+same-length-2 c = search needs
+
+returns-2 : tie.Need-returns-2
+returns-2 c =
+    let old = c .before .before .before .before .before .before .before .before .before .before .before .before .args .answer .now in
+    let r = c .before .before .before .before .before .before .quick-outcome .ensures in
+    let long = c .before .before .before .before .before .before .before .before .if1 .left in
+    let put = c .before .before .put-answer .ensures in
+    (number-long (r .0) old long put, (answer-long (r .0) old long put, (r .1 .0 ∙ if-long old _ _ long, subst (HalfRuleOf (c .before .before .before .before .before .before .before .before .before .before .before .before .args .file .now) (c .before .before .before .before .before .before .quick-outcome .last .1 .0)) (seen-is (r .0) old long put) (r .1 .1))))
+
+pub tipshare-quick-spec : {M : Type 1} → statement M
+tipshare-quick-spec =
+    tie.close (tie.spec returns quick-outcome-requires put-answer-requires same-length same-length-2 returns-2)
