@@ -29,7 +29,7 @@ pub fn line_buffer() -> [u64; 512]
     [0u64; 512]
 }
 
-// What reading a file answers: its refusal, or its rack and the number of its lines.
+// What reading a file answers: its refusal, or its rack and the number of its lines; a refused file has neither.
 pub struct Lines {
     pub number: u32,
     pub place: usize,
@@ -37,16 +37,16 @@ pub struct Lines {
     pub count: usize,
 }
 
-fn refused_lines(file: &[u8], rack: usize, count: usize) -> Lines
+fn refused_lines(file: &[u8]) -> Lines
     ensures refusal { λ r. ⌜ record { number = r .number; place = r .place } ≡ fileRefusal (now (file .entry)) ⌝ }
-    ensures lines { λ r. ⌜ (r .rack ≡ rack) × (r .count ≡ count) ⌝ }
+    ensures none { λ r. ⌜ (r .rack ≡ 0) × (r .count ≡ 0) ⌝ }
 {
     let refusal = read_refusal(file);
     Lines {
         number: refusal.number,
         place: refusal.place,
-        rack,
-        count,
+        rack: 0,
+        count: 0,
     }
 }
 
@@ -55,9 +55,10 @@ pub fn read_lines(file: &[u8], sets: &mut [u64]) -> Lines
     requires { ⌜ length (now sets) ≡ 512 ⌝ }
     ensures refusal { λ r. ⌜ record { number = r .number; place = r .place } ≡ fileRefusal (now (file .entry)) ⌝ }
     ensures lines { λ r. ⌜ (r .number ≡ 0 → LinesRead (now (file .entry)) (r .rack) (r .count) (now (sets .entry)) (now (sets .exit))) ⌝ }
+    ensures none { λ r. ⌜ ((r .number ≡ 0 → ⊥) → (r .rack ≡ 0) × (r .count ≡ 0)) ⌝ }
 {
     if job::header_number(file) != 0 {
-        return refused_lines(file, 0, 0);
+        return refused_lines(file);
     }
     let rack = job::rack_in(file);
     let count = job::count_in(file);
@@ -69,5 +70,5 @@ pub fn read_lines(file: &[u8], sets: &mut [u64]) -> Lines
             count,
         };
     }
-    refused_lines(file, rack, count)
+    refused_lines(file)
 }

@@ -39,7 +39,7 @@ abbrev lines : tie.Else1 → List ℕ
 lines d = take (d .before .before .before .read-lines .result .count) (d .before .before .before .read-lines .last .1 .0)
 
 good : (d : tie.Else1) → GoodLines (d .before .before .before .read-lines .result .rack) (d .before .before .before .read-lines .result .count) (lines d)
-good d = let (e, read) = d .before .before .before .read-lines .ensures in good-lines _ e (d .if1 .left) (read (d .if1 .left))
+good d = let (e, (read, _)) = d .before .before .before .read-lines .ensures in good-lines _ e (d .if1 .left) (read (d .if1 .left))
 
 room : (d : tie.Else1) → d .before .before .before .read-lines .result .count ≤ length (d .before .before .before .read-lines .last .1 .0)
 room d = omega (arith, good d .few, d .before .before .before .read-lines .kept .1 .0, d .before .before .before .before .before .line-buffer .ensures)
@@ -59,11 +59,11 @@ refusal-requires-2 c κs = search needs
 returns-2 : tie.Need-returns-2
 returns-2 c =
     let d = c .before .before .before .before .before in
-    rw (c .refusal2 .ensures) (best-short _ (d .before .before .before .read-lines .ensures .0) (d .if1 .left) (d .before .before .before .read-lines .ensures .1 (d .if1 .left)) _ _ (c .before .before .before .lines-refusal .ensures) (c .before .if2 .taken))
+    rw (c .refusal2 .ensures) (best-short _ (d .before .before .before .read-lines .ensures .0) (d .if1 .left) (d .before .before .before .read-lines .ensures .1 .0 (d .if1 .left)) _ _ (c .before .before .before .lines-refusal .ensures) (c .before .if2 .taken))
 
 -- both buffers have room, and the lines are runs
 fits : (c : tie.Else2) → (c .before .before .before .before .before .before .before .read-lines .result .count ≤ length (c .before .before .before .before .before .before .before .before .before .before .before .before .before .args .plan .now)) × (c .before .before .before .before .before .before .before .read-lines .result .rack * c .before .before .before .before .before .before .before .read-lines .result .rack ≤ length (c .before .before .before .before .before .before .before .before .before .before .before .before .before .args .table .now)) × Runs (c .before .before .before .before .before .before .before .read-lines .result .rack) (lines (c .before .before .before .before))
-fits c = let d = c .before .before .before .before in best-room _ (d .before .before .before .read-lines .ensures .0) (d .if1 .left) (d .before .before .before .read-lines .ensures .1 (d .if1 .left)) (c .before .before .before .before .before .before .before .before .before .before .before .before .before .args .plan .now) (c .before .before .before .before .before .before .before .before .before .before .before .before .before .args .table .now) (c .before .before .lines-refusal .ensures) (c .if2 .left)
+fits c = let d = c .before .before .before .before in best-room _ (d .before .before .before .read-lines .ensures .0) (d .if1 .left) (d .before .before .before .read-lines .ensures .1 .0 (d .if1 .left)) (c .before .before .before .before .before .before .before .before .before .before .before .before .before .args .plan .now) (c .before .before .before .before .before .before .before .before .before .before .before .before .before .args .table .now) (c .before .before .lines-refusal .ensures) (c .if2 .left)
 
 mul-square : tie.Need-mul-square
 mul-square c = omega (arith, square-most _ (good (c .before .before .before .before) .most))
@@ -104,7 +104,7 @@ returns-3 : tie.Need-returns-3
 returns-3 c =
     let d = c .before .before .before .before .before .before .before .before .before .before .before .before in
     let r = c .before .before .before .before .plan-lines .ensures in
-    best-in _ (d .before .before .before .read-lines .ensures .0) (d .if1 .left) (d .before .before .before .read-lines .ensures .1 (d .if1 .left)) _ _ (c .before .before .before .before .before .before .before .before .before .before .lines-refusal .ensures) (c .before .before .before .before .before .before .before .before .if2 .left) (r .0) (r .1 .0) (r .1 .1)
+    best-in _ (d .before .before .before .read-lines .ensures .0) (d .if1 .left) (d .before .before .before .read-lines .ensures .1 .0 (d .if1 .left)) _ _ (c .before .before .before .before .before .before .before .before .before .before .lines-refusal .ensures) (c .before .before .before .before .before .before .before .before .if2 .left) (r .0) (r .1 .0) (r .1 .1)
 
 pub best-outcome-spec : {M : Type 1} → statement M
 best-outcome-spec =

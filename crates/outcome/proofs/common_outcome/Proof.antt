@@ -37,7 +37,7 @@ abbrev lines : tie.Else1 → List ℕ
 lines d = take (d .before .before .before .read-lines .result .count) (d .before .before .before .read-lines .last .1 .0)
 
 good : (d : tie.Else1) → GoodLines (d .before .before .before .read-lines .result .rack) (d .before .before .before .read-lines .result .count) (lines d)
-good d = let (e, read) = d .before .before .before .read-lines .ensures in good-lines _ e (d .if1 .left) (read (d .if1 .left))
+good d = let (e, (read, _)) = d .before .before .before .read-lines .ensures in good-lines _ e (d .if1 .left) (read (d .if1 .left))
 
 room : (d : tie.Else1) → d .before .before .before .read-lines .result .count ≤ length (d .before .before .before .read-lines .last .1 .0)
 room d = omega (arith, good d .few, d .before .before .before .read-lines .kept .1 .0, d .before .before .before .before .before .line-buffer .ensures)
@@ -60,7 +60,7 @@ returns-2 : tie.Need-returns-2
 returns-2 c =
     let d = c .before .before .before in
     let e = c .before .common-tip .ensures in
-    common-in _ (d .before .before .before .read-lines .ensures .0) (d .if1 .left) (d .before .before .before .read-lines .ensures .1 (d .if1 .left)) (e .0) (e .1)
+    common-in _ (d .before .before .before .read-lines .ensures .0) (d .if1 .left) (d .before .before .before .read-lines .ensures .1 .0 (d .if1 .left)) (e .0) (e .1)
 
 pub common-outcome-spec : {M : Type 1} → statement M
 common-outcome-spec =

@@ -46,7 +46,7 @@ abbrev lines : tie.Else1 → List ℕ
 lines d = take (d .before .before .before .read-lines .result .count) (d .before .before .before .read-lines .last .1 .0)
 
 good : (d : tie.Else1) → GoodLines (d .before .before .before .read-lines .result .rack) (d .before .before .before .read-lines .result .count) (lines d)
-good d = let (e, read) = d .before .before .before .read-lines .ensures in good-lines _ e (d .if1 .left) (read (d .if1 .left))
+good d = let (e, (read, _)) = d .before .before .before .read-lines .ensures in good-lines _ e (d .if1 .left) (read (d .if1 .left))
 
 room : (d : tie.Else1) → d .before .before .before .read-lines .result .count ≤ length (d .before .before .before .read-lines .last .1 .0)
 room d = omega (arith, good d .few, d .before .before .before .read-lines .kept .1 .0, d .before .before .before .before .before .line-buffer .ensures)
@@ -74,7 +74,7 @@ returns-2 : tie.Need-returns-2
 returns-2 c =
     let d = c .before .before .before .before .before in
     let kept = c .before .before .before .keep-lines in
-    keep-refused _ (d .before .before .before .read-lines .ensures .0) (d .if1 .left) (d .before .before .before .read-lines .ensures .1 (d .if1 .left)) _ (kept .ensures .0) (margin (c .before)) _ (sign (c .before) true (c .if2 .taken))
+    keep-refused _ (d .before .before .before .read-lines .ensures .0) (d .if1 .left) (d .before .before .before .read-lines .ensures .1 .0 (d .if1 .left)) _ (kept .ensures .0) (margin (c .before)) _ (sign (c .before) true (c .if2 .taken))
 
 file-refusal-requires : tie.Need-file-refusal-requires
 file-refusal-requires c κs = good (c .before .before .before .before .before) .few
@@ -86,7 +86,7 @@ returns-3 : tie.Need-returns-3
 returns-3 c =
     let d = c .before .before .before .before .before .before .before .before .before in
     let kept = c .before .before .before .before .before .before .before .keep-lines in
-    rw (c .refusal2 .ensures) (keep-short _ (d .before .before .before .read-lines .ensures .0) (d .if1 .left) (d .before .before .before .read-lines .ensures .1 (d .if1 .left)) _ (kept .ensures .0) (margin (c .before .before .before .before .before)) _ (sign (c .before .before .before .before .before) false (c .before .before .before .before .if2 .left)) (c .before .before .before .file-refusal .ensures) (c .before .if3 .taken))
+    rw (c .refusal2 .ensures) (keep-short _ (d .before .before .before .read-lines .ensures .0) (d .if1 .left) (d .before .before .before .read-lines .ensures .1 .0 (d .if1 .left)) _ (kept .ensures .0) (margin (c .before .before .before .before .before)) _ (sign (c .before .before .before .before .before) false (c .before .before .before .before .if2 .left)) (c .before .before .before .file-refusal .ensures) (c .before .if3 .taken))
 
 file-length-requires : tie.Need-file-length-requires
 file-length-requires c κs = omega (arith, good (c .before .before .before .before .before .before .before .before) .few)
@@ -105,7 +105,7 @@ front c = take-at (c .before .before .before .before .before .before .before .ke
 bytes : (c : tie.After-file-length) → c .file-length .result ≤ length (c .before .before .before .before .before .before .before .before .before .before .before .before .before .before .before .before .before .args .out .now)
 bytes c =
     let d = c .before .before .before .before .before .before .before .before .before in
-    omega (arith, c .file-length .ensures, keep-room _ (d .before .before .before .read-lines .ensures .0) (d .if1 .left) (d .before .before .before .read-lines .ensures .1 (d .if1 .left)) _ (c .before .before .before .before .before .before .before .keep-lines .ensures .0) (margin (c .before .before .before .before .before)) (c .before .before .before .before .before .before .before .before .before .before .before .before .before .before .before .before .before .args .out .now) (sign (c .before .before .before .before .before) false (c .before .before .before .before .if2 .left)) (c .before .before .before .file-refusal .ensures) (c .before .if3 .left))
+    omega (arith, c .file-length .ensures, keep-room _ (d .before .before .before .read-lines .ensures .0) (d .if1 .left) (d .before .before .before .read-lines .ensures .1 .0 (d .if1 .left)) _ (c .before .before .before .before .before .before .before .keep-lines .ensures .0) (margin (c .before .before .before .before .before)) (c .before .before .before .before .before .before .before .before .before .before .before .before .before .before .before .before .before .args .out .now) (sign (c .before .before .before .before .before) false (c .before .before .before .before .if2 .left)) (c .before .before .before .file-refusal .ensures) (c .before .if3 .left))
 
 array-share-prefix-sets : tie.Need-array-share-prefix-sets
 array-share-prefix-sets c = omega (arith, length-append (c .before .before .before .before .before .before .before .keep-lines .last .1 .0) (drop (c .before .before .before .before .before .before .before .before .before .before .before .before .read-lines .result .count) (c .before .before .before .before .before .before .before .before .before .before .before .before .read-lines .last .1 .0)), size c)
@@ -129,7 +129,7 @@ returns-4 : tie.Need-returns-4
 returns-4 c =
     let d = c .before .before .before .before .before .before .before .before .before .before .before .before .before .before in
     let l = c .before .before .before .before .before in
-    keep-in _ (d .before .before .before .read-lines .ensures .0) (d .if1 .left) (d .before .before .before .read-lines .ensures .1 (d .if1 .left)) _ (c .before .before .before .before .before .before .before .before .before .before .before .before .keep-lines .ensures .0) (margin (c .before .before .before .before .before .before .before .before .before .before)) _ (sign (c .before .before .before .before .before .before .before .before .before .before) false (c .before .before .before .before .before .before .before .before .before .if2 .left)) (c .before .before .before .before .before .before .before .before .file-refusal .ensures) (c .before .before .before .before .before .before .if3 .left) (l .file-length .ensures) (c .before .before .write-file .ensures ∙ ap (fileOf (d .before .before .before .read-lines .result .rack)) (front l ∙ c .before .before .before .before .before .before .before .before .before .before .before .before .keep-lines .ensures .1))
+    keep-in _ (d .before .before .before .read-lines .ensures .0) (d .if1 .left) (d .before .before .before .read-lines .ensures .1 .0 (d .if1 .left)) _ (c .before .before .before .before .before .before .before .before .before .before .before .before .keep-lines .ensures .0) (margin (c .before .before .before .before .before .before .before .before .before .before)) _ (sign (c .before .before .before .before .before .before .before .before .before .before) false (c .before .before .before .before .before .before .before .before .before .if2 .left)) (c .before .before .before .before .before .before .before .before .file-refusal .ensures) (c .before .before .before .before .before .before .if3 .left) (l .file-length .ensures) (c .before .before .write-file .ensures ∙ ap (fileOf (d .before .before .before .read-lines .result .rack)) (front l ∙ c .before .before .before .before .before .before .before .before .before .before .before .before .keep-lines .ensures .1))
 
 pub keep-outcome-spec : {M : Type 1} → statement M
 keep-outcome-spec =

@@ -37,7 +37,7 @@ abbrev lines : tie.Else1 → List ℕ
 lines d = take (d .before .before .before .read-lines .result .count) (d .before .before .before .read-lines .last .1 .0)
 
 good : (d : tie.Else1) → GoodLines (d .before .before .before .read-lines .result .rack) (d .before .before .before .read-lines .result .count) (lines d)
-good d = let (e, read) = d .before .before .before .read-lines .ensures in good-lines _ e (d .if1 .left) (read (d .if1 .left))
+good d = let (e, (read, _)) = d .before .before .before .read-lines .ensures in good-lines _ e (d .if1 .left) (read (d .if1 .left))
 
 room : (d : tie.Else1) → d .before .before .before .read-lines .result .count ≤ length (d .before .before .before .read-lines .last .1 .0)
 room d = omega (arith, good d .few, d .before .before .before .read-lines .kept .1 .0, d .before .before .before .before .before .line-buffer .ensures)
@@ -51,11 +51,11 @@ refusal-requires-2 c κs = search needs
 returns-2 : tie.Need-returns-2
 returns-2 c =
     let d = c .before .before .before .before in
-    rw (c .refusal2 .ensures) (quick-short _ (d .before .before .before .read-lines .ensures .0) (d .if1 .left) (d .before .before .before .read-lines .ensures .1 (d .if1 .left)) _ (c .before .before .before .room-refusal .ensures) (c .before .if2 .taken))
+    rw (c .refusal2 .ensures) (quick-short _ (d .before .before .before .read-lines .ensures .0) (d .if1 .left) (d .before .before .before .read-lines .ensures .1 .0 (d .if1 .left)) _ (c .before .before .before .room-refusal .ensures) (c .before .if2 .taken))
 
 -- the plan has a byte a line
 bytes : (c : tie.Else2) → c .before .before .before .before .before .before .read-lines .result .count ≤ length (c .before .before .before .before .before .before .before .before .before .before .before .args .plan .now)
-bytes c = let d = c .before .before .before in quick-room _ (d .before .before .before .read-lines .ensures .0) (d .if1 .left) (d .before .before .before .read-lines .ensures .1 (d .if1 .left)) (c .before .before .before .before .before .before .before .before .before .before .before .args .plan .now) (c .before .before .room-refusal .ensures) (c .if2 .left)
+bytes c = let d = c .before .before .before in quick-room _ (d .before .before .before .read-lines .ensures .0) (d .if1 .left) (d .before .before .before .read-lines .ensures .1 .0 (d .if1 .left)) (c .before .before .before .before .before .before .before .before .before .before .before .args .plan .now) (c .before .before .room-refusal .ensures) (c .if2 .left)
 
 array-borrow-prefix-sets : tie.Need-array-borrow-prefix-sets
 array-borrow-prefix-sets c = room (c .before .before .before)
@@ -84,7 +84,7 @@ returns-3 : tie.Need-returns-3
 returns-3 c =
     let d = c .before .before .before .before .before .before .before .before .before in
     let r = c .before .before .before .plan-lines .ensures in
-    quick-in _ (d .before .before .before .read-lines .ensures .0) (d .if1 .left) (d .before .before .before .read-lines .ensures .1 (d .if1 .left)) _ (c .before .before .before .before .before .before .before .before .room-refusal .ensures) (c .before .before .before .before .before .before .if2 .left) (r .pairs-are) (r .plan-is)
+    quick-in _ (d .before .before .before .read-lines .ensures .0) (d .if1 .left) (d .before .before .before .read-lines .ensures .1 .0 (d .if1 .left)) _ (c .before .before .before .before .before .before .before .before .room-refusal .ensures) (c .before .before .before .before .before .before .if2 .left) (r .pairs-are) (r .plan-is)
 
 pub quick-outcome-spec : {M : Type 1} → statement M
 quick-outcome-spec =

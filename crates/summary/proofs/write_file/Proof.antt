@@ -35,7 +35,7 @@ plan-buffer-requires-2 : tie.Need-plan-buffer-requires-2
 plan-buffer-requires-2 c κs = search needs
 
 good : (c : tie.Else1) → GoodLines (c .before .before .before .read-lines .result .rack) (c .before .before .before .read-lines .result .count) (take (c .before .before .before .read-lines .result .count) (c .before .before .before .read-lines .last .1 .0))
-good c = let (e, read) = c .before .before .before .read-lines .ensures in good-lines _ e (c .if1 .left) (read (c .if1 .left))
+good c = let (e, (read, _)) = c .before .before .before .read-lines .ensures in good-lines _ e (c .if1 .left) (read (c .if1 .left))
 
 array-borrow-prefix-sets : tie.Need-array-borrow-prefix-sets
 array-borrow-prefix-sets c = let d = c .before .before in omega (arith, good d .few, d .before .before .before .read-lines .kept .1 .0, d .before .before .before .before .before .line-buffer .ensures)
@@ -67,7 +67,7 @@ same-length-2 c = search needs
 
 returns-2 : tie.Need-returns-2
 returns-2 c =
-    let (e, read) = c .before .before .before .before .before .before .before .before .before .before .before .before .before .before .before .read-lines .ensures in
+    let (e, (read, _)) = c .before .before .before .before .before .before .before .before .before .before .before .before .before .before .before .read-lines .ensures in
     let z = c .before .before .before .before .before .before .before .before .before .before .before .before .if1 .left in
     rw (text-accepted _ e z, ← (same-facts _ e z (read z))) (c .before .before .before .before .before .write-lines .ensures)
 
