@@ -11,70 +11,75 @@ use try_lib::differences;
 use try_lib::junk_file;
 use try_lib::junk_plan;
 use try_lib::junk_table;
-use try_lib::number;
-use try_lib::signed;
+use try_lib::show;
+use try_lib::show_answer;
+use try_lib::show_board;
 use try_lib::size;
 use try_lib::sum;
 use try_lib::text;
+use try_lib::three_lines;
+ghost use Prim.Native.Nat.{_≤_, _<_};
+ghost use lib.ListN.{length};
 
 // A call's number; the sum of its place and counts; how many values of the board and of the lent buffers differ from before it.
 struct Seen {
-    number: u32,
+    number: u64,
     told: u64,
     board: u64,
     buffers: u64,
 }
 
-fn show_stage(stage: Stage) {
-    match stage {
-        Stage::Open => text(b" open"),
-        Stage::Closed => text(b" closed"),
+// A call's number, place and count; how many values of the board differ from before it; how many bytes of its buffer changed, the first bytes that
+// it may write, how many changed behind them and how many there are; how many places of its table changed, and how many behind the first nine.
+struct Lent {
+    number: u64,
+    place: u64,
+    count: u64,
+    board: u64,
+    changed: u64,
+    first: u64,
+    behind: u64,
+    rest: u64,
+    places: u64,
+    places_behind: u64,
+}
+
+fn show_margin(margin: i32) {
+    let size = size(margin);
+    if margin < 0 {
+        show(b" margin -#", &[size]);
+    } else {
+        show(b" margin #", &[size]);
     }
-}
-
-fn show_board(board: Board) {
-    let stage = board.stage;
-    number(b"; board rack", board.rack as u64);
-    show_stage(stage);
-    number(b" lines", board.count as u64);
-    text(b"\n");
-}
-
-fn show_answer(words: &[u8], answer: Answer) {
-    let board = answer.board;
-    text(words);
-    number(b": number", answer.number as u64);
-    number(b" place", answer.place as u64);
-    show_board(board);
 }
 
 fn show_keep(words: &[u8], board: Board, k: u16) {
     let answer = board.keep(k);
     let back = answer.board;
     text(words);
-    number(b" k", k as u64);
-    number(b": number", answer.number as u64);
-    number(b" place", answer.place as u64);
-    signed(b" margin", answer.margin);
+    show(
+        b" k #: number # place #",
+        &[k as u64, answer.number as u64, answer.place as u64],
+    );
+    show_margin(answer.margin);
     show_board(back);
 }
 
 fn b11() {
-    let board = Board::open(1).board;
-    let board = board.add(1).board;
-    let board = board.close().board;
-    show_keep(b"B11 keep", board, 5);
+    show_keep(b"B11 keep", closed_board(1, [1, 0, 0, 0, 0, 0, 0, 0], 1), 5);
+}
+
+fn show_open(rack: usize) {
+    show(b"B12 open #", &[rack as u64]);
+    show_answer(b"", Board::open(rack));
 }
 
 fn b12() {
-    show_answer(b"B12 open 0", Board::open(0));
-    show_answer(b"B12 open 1", Board::open(1));
-    show_answer(b"B12 open 64", Board::open(64));
-    show_answer(b"B12 open 65", Board::open(65));
-    show_answer(
-        b"B12 open 18446744073709551615",
-        Board::open(18446744073709551615),
-    );
+    show_open(0);
+    show_open(1);
+    show_open(64);
+    show_open(65);
+    show_open(18446744073709551615);
 }
 
 fn b13() {
@@ -111,22 +116,10 @@ fn b14() {
     show_write(b"B14 closed", closed, 4112);
 }
 
-fn seen_add(board: Board) -> Seen {
-    let answer = board.add(1);
+fn seen_answer(board: Board, answer: Answer) -> Seen {
     let back = answer.board;
     Seen {
-        number: answer.number,
-        told: answer.place as u64,
-        board: differences(board, back),
-        buffers: 0,
-    }
-}
-
-fn seen_close(board: Board) -> Seen {
-    let answer = board.close();
-    let back = answer.board;
-    Seen {
-        number: answer.number,
+        number: answer.number as u64,
         told: answer.place as u64,
         board: differences(board, back),
         buffers: 0,
@@ -138,7 +131,7 @@ fn seen_common(board: Board) -> Seen {
     let back = answer.board;
     let counts = sum(answer.top as u64, sum(answer.off as u64, answer.tips));
     Seen {
-        number: answer.number,
+        number: answer.number as u64,
         told: sum(answer.place as u64, counts),
         board: differences(board, back),
         buffers: 0,
@@ -149,84 +142,58 @@ fn seen_keep(board: Board) -> Seen {
     let answer = board.keep(5);
     let back = answer.board;
     Seen {
-        number: answer.number,
+        number: answer.number as u64,
         told: sum(answer.place as u64, size(answer.margin)),
         board: differences(board, back),
         buffers: 0,
     }
 }
 
-fn seen_quick(board: Board) -> Seen {
-    let mut plan = junk_plan();
-    let answer = board.quick(&mut plan);
-    let buffers = changed_bytes(&plan, 0);
-    let back = answer.board;
+fn seen_lent(lent: Lent) -> Seen {
     Seen {
-        number: answer.number,
-        told: sum(answer.place as u64, answer.pairs as u64),
-        board: differences(board, back),
-        buffers,
+        number: lent.number,
+        told: sum(lent.place, lent.count),
+        board: lent.board,
+        buffers: sum(lent.changed, lent.places),
     }
 }
 
-fn seen_best(board: Board) -> Seen {
-    let mut plan = junk_plan();
-    let mut table = junk_table();
-    let answer = board.best(&mut plan, &mut table);
-    let buffers = sum(changed_bytes(&plan, 0), changed_places(&table, 0));
-    let back = answer.board;
-    Seen {
-        number: answer.number,
-        told: sum(answer.place as u64, answer.pairs as u64),
-        board: differences(board, back),
-        buffers,
-    }
-}
-
-fn seen_write(board: Board) -> Seen {
-    let mut file = junk_file();
-    let answer = board.write(&mut file);
-    let buffers = changed_bytes(&file, 0);
-    let back = answer.board;
-    Seen {
-        number: answer.number,
-        told: sum(answer.place as u64, answer.bytes as u64),
-        board: differences(board, back),
-        buffers,
-    }
-}
-
-fn show_seen(word: &[u8], seen: Seen, before: Seen) -> Seen {
-    number(word, seen.number as u64);
+// What two calls told and changed.
+fn both(a: Seen, b: Seen) -> Seen {
     Seen {
         number: 0,
-        told: sum(before.told, seen.told),
-        board: sum(before.board, seen.board),
-        buffers: sum(before.buffers, seen.buffers),
+        told: sum(a.told, b.told),
+        board: sum(a.board, b.board),
+        buffers: sum(a.buffers, b.buffers),
     }
 }
 
 // The numbers of the seven calls on a board, and over all of them what was told and changed.
 fn each_call(board: Board) {
-    let none = Seen {
-        number: 0,
-        told: 0,
-        board: 0,
-        buffers: 0,
-    };
-    let all = show_seen(b" add", seen_add(board), none);
-    let all = show_seen(b" close", seen_close(board), all);
-    let all = show_seen(b" common tip", seen_common(board), all);
-    let all = show_seen(b" keep", seen_keep(board), all);
-    let all = show_seen(b" quick", seen_quick(board), all);
-    let all = show_seen(b" best", seen_best(board), all);
-    let all = show_seen(b" write", seen_write(board), all);
-    number(b"; told", all.told);
-    number(b"; changed", all.board);
-    number(b" of", 7 * (3 + 512));
-    number(b" in boards,", all.buffers);
-    number(b" of", 520 + 520 + 4100 + 4112);
-    text(b" in buffers\n");
+    let add = seen_answer(board, board.add(1));
+    let close = seen_answer(board, board.close());
+    let common = seen_common(board);
+    let keep = seen_keep(board);
+    let quick = seen_lent(lent_quick(board, 520));
+    let best = seen_lent(lent_best(board, 520, 4100));
+    let write = seen_lent(lent_write(board, 4112));
+    let asked = both(both(add, close), both(common, keep));
+    let all = both(asked, both(quick, both(best, write)));
+    show(
+        b" add # close # common tip # keep # quick # best # write #; told #; changed # of 3605 in boards, # of 9252 in buffers\n",
+        &[
+            add.number,
+            close.number,
+            common.number,
+            keep.number,
+            quick.number,
+            best.number,
+            write.number,
+            all.told,
+            all.board,
+            all.buffers,
+        ],
+    );
 }
 
 fn each_stage(words: &[u8], rack: usize, count: usize, sets: [u64; 512]) {
@@ -248,22 +215,12 @@ fn each_stage(words: &[u8], rack: usize, count: usize, sets: [u64; 512]) {
     });
 }
 
-fn with_set(given: [u64; 512], at: usize, set: u64) -> [u64; 512] {
+fn with_set(given: [u64; 512], at: usize, set: u64) -> [u64; 512]
+    requires { ⌜ at < 512 ⌝ }
+{
     let mut sets = given;
-    if at < 512 {
-        sets[at] = set;
-    }
+    sets[at] = set;
     sets
-}
-
-// Rack 3; {0}, {0,1}, {1,2}: all runs.
-fn three_lines() -> Board {
-    closed_board(3, [1, 3, 6, 0, 0, 0, 0, 0], 3)
-}
-
-// Rack 3; {0}, {0,2}, {1,2}: line 1 is no run.
-fn with_gap() -> Board {
-    closed_board(3, [1, 5, 6, 0, 0, 0, 0, 0], 3)
 }
 
 fn opened(board: Board) -> Board {
@@ -298,211 +255,208 @@ fn ranges() {
     each_stage(b"count 513", 3, 513, sets);
 }
 
-// The number of values from a place to the end.
-fn values_from(from: usize, length: usize) -> u64 {
-    if from <= length {
-        (length - from) as u64
-    } else {
-        0
+fn lent_bytes(
+    number: u32,
+    place: usize,
+    count: u64,
+    board: u64,
+    buffer: &[u8],
+    first: usize,
+) -> Lent {
+    Lent {
+        number: number as u64,
+        place: place as u64,
+        count,
+        board,
+        changed: changed_bytes(buffer, 0),
+        first: first as u64,
+        behind: changed_bytes(buffer, first),
+        rest: std::num::wrapping_sub_u64(buffer.len() as u64, first as u64),
+        places: 0,
+        places_behind: 0,
     }
-}
-
-// How many bytes are changed, and how many of those behind the first `from`.
-fn show_bytes(word: &[u8], buffer: &[u8], from: usize) {
-    number(word, changed_bytes(buffer, 0));
-    number(b" of", buffer.len() as u64);
-    number(b", behind the first", from as u64);
-    number(b":", changed_bytes(buffer, from));
-    number(b" of", values_from(from, buffer.len()));
-}
-
-fn show_places(word: &[u8], table: &[u32], from: usize) {
-    number(word, changed_places(table, 0));
-    number(b" of", table.len() as u64);
-    number(b", behind the first", from as u64);
-    number(b":", changed_places(table, from));
-    number(b" of", values_from(from, table.len()));
-}
-
-fn show_shared(board: Board, answer: Shared) {
-    let back = answer.board;
-    number(b": number", answer.number as u64);
-    number(b" place", answer.place as u64);
-    number(b" pairs", answer.pairs as u64);
-    number(b"; board changed", differences(board, back));
 }
 
 // Quick sharing into the first `room` bytes.
-fn quick_in(board: Board, plan: &mut [u8], room: usize) -> Shared {
-    if room <= plan.len() {
-        board.quick(&mut plan[..room])
-    } else {
-        board.quick(plan)
-    }
+fn quick_in(board: Board, plan: &mut [u8], room: usize) -> Shared
+    requires { ⌜ room ≤ length (now plan) ⌝ }
+{
+    board.quick(&mut plan[..room])
 }
 
-fn show_quick(words: &[u8], board: Board, room: usize) {
+fn lent_quick(board: Board, room: usize) -> Lent
+    requires { ⌜ room ≤ 520 ⌝ }
+{
     let mut plan = junk_plan();
     let answer = quick_in(board, &mut plan, room);
-    text(words);
-    number(b" quick, room", room as u64);
-    show_shared(board, answer);
-    show_bytes(b"; plan changed", &plan, board.count);
-    text(b"\n");
+    let back = answer.board;
+    let pairs = answer.pairs as u64;
+    let changed = differences(board, back);
+    lent_bytes(
+        answer.number,
+        answer.place,
+        pairs,
+        changed,
+        &plan,
+        board.count,
+    )
 }
 
-fn best_in(board: Board, plan: &mut [u8], room: usize, table: &mut [u32], places: usize) -> Shared {
-    if plan.len() < room {
-        return board.best(plan, table);
-    }
-    if table.len() < places {
-        return board.best(plan, table);
-    }
+fn best_in(board: Board, plan: &mut [u8], room: usize, table: &mut [u32], places: usize) -> Shared
+    requires { ⌜ (room ≤ length (now plan)) × (places ≤ length (now table)) ⌝ }
+{
     board.best(&mut plan[..room], &mut table[..places])
 }
 
-fn show_best(words: &[u8], board: Board, room: usize, places: usize) {
+fn lent_best(board: Board, room: usize, places: usize) -> Lent
+    requires { ⌜ (room ≤ 520) × (places ≤ 4100) ⌝ }
+{
     let mut plan = junk_plan();
     let mut table = junk_table();
     let answer = best_in(board, &mut plan, room, &mut table, places);
-    text(words);
-    number(b" best, room", room as u64);
-    number(b" places", places as u64);
-    show_shared(board, answer);
-    show_bytes(b"; plan changed", &plan, board.count);
-    show_places(b"; table changed", &table, 9);
-    text(b"\n");
+    let back = answer.board;
+    let pairs = answer.pairs as u64;
+    let changed = differences(board, back);
+    let mut lent = lent_bytes(
+        answer.number,
+        answer.place,
+        pairs,
+        changed,
+        &plan,
+        board.count,
+    );
+    lent.places = changed_places(&table, 0);
+    lent.places_behind = changed_places(&table, 9);
+    lent
 }
 
-fn write_in(board: Board, file: &mut [u8], room: usize) -> Written {
-    if room <= file.len() {
-        board.write(&mut file[..room])
-    } else {
-        board.write(file)
-    }
+fn write_in(board: Board, file: &mut [u8], room: usize) -> Written
+    requires { ⌜ room ≤ length (now file) ⌝ }
+{
+    board.write(&mut file[..room])
 }
 
-fn read_from(file: &[u8], length: usize) -> Answer {
-    if length <= file.len() {
-        Board::read(&file[..length])
-    } else {
-        Board::read(file)
-    }
-}
-
-fn show_write(words: &[u8], board: Board, room: usize) {
+fn lent_write(board: Board, room: usize) -> Lent
+    requires { ⌜ room ≤ 4112 ⌝ }
+{
     let mut file = junk_file();
     let answer = write_in(board, &mut file, room);
     let back = answer.board;
+    let bytes = answer.bytes;
+    let changed = differences(board, back);
+    lent_bytes(
+        answer.number,
+        answer.place,
+        bytes as u64,
+        changed,
+        &file,
+        bytes,
+    )
+}
+
+fn show_quick(words: &[u8], board: Board, room: usize)
+    requires { ⌜ room ≤ 520 ⌝ }
+{
+    let lent = lent_quick(board, room);
     text(words);
-    number(b" write, room", room as u64);
-    number(b": number", answer.number as u64);
-    number(b" place", answer.place as u64);
-    number(b" bytes", answer.bytes as u64);
-    number(b"; board changed", differences(board, back));
-    show_bytes(b"; file changed", &file, answer.bytes);
-    text(b"\n");
+    show(b" quick, room #", &[room as u64]);
+    show(
+        b": number # place # pairs #; board changed #; plan changed # of 520, behind the first #: # of #\n",
+        &[
+            lent.number,
+            lent.place,
+            lent.count,
+            lent.board,
+            lent.changed,
+            lent.first,
+            lent.behind,
+            lent.rest,
+        ],
+    );
+}
+
+fn show_best(words: &[u8], board: Board, room: usize, places: usize)
+    requires { ⌜ (room ≤ 520) × (places ≤ 4100) ⌝ }
+{
+    let lent = lent_best(board, room, places);
+    text(words);
+    show(b" best, room # places #", &[room as u64, places as u64]);
+    show(
+        b": number # place # pairs #; board changed #; plan changed # of 520, behind the first #: # of #; table changed # of 4100, behind the first 9: # of 4091\n",
+        &[
+            lent.number,
+            lent.place,
+            lent.count,
+            lent.board,
+            lent.changed,
+            lent.first,
+            lent.behind,
+            lent.rest,
+            lent.places,
+            lent.places_behind,
+        ],
+    );
+}
+
+fn show_write(words: &[u8], board: Board, room: usize)
+    requires { ⌜ room ≤ 4112 ⌝ }
+{
+    let lent = lent_write(board, room);
+    text(words);
+    show(b" write, room #", &[room as u64]);
+    show(
+        b": number # place # bytes #; board changed #; file changed # of 4112, behind the first #: # of #\n",
+        &[
+            lent.number,
+            lent.place,
+            lent.count,
+            lent.board,
+            lent.changed,
+            lent.first,
+            lent.behind,
+            lent.rest,
+        ],
+    );
 }
 
 fn buffers() {
+    let closed: &[u8] = b"closed";
+    let open: &[u8] = b"open";
     let three = three_lines();
-    show_quick(b"closed", three, 2);
-    show_quick(b"closed", three, 3);
-    show_quick(b"closed", three, 520);
-    show_quick(b"open", opened(three), 2);
-    show_best(b"closed", three, 2, 9);
-    show_best(b"closed", three, 3, 8);
-    show_best(b"closed", three, 2, 8);
-    show_best(b"closed", three, 3, 9);
-    show_best(b"closed", three, 520, 4100);
-    show_best(b"open", opened(three), 2, 8);
-    show_write(b"closed", three, 31);
-    show_write(b"closed", three, 32);
-    show_write(b"closed", three, 4112);
-    show_write(b"open", opened(three), 31);
+    let unclosed = opened(three);
+    show_quick(closed, three, 2);
+    show_quick(closed, three, 3);
+    show_quick(closed, three, 520);
+    show_quick(open, unclosed, 2);
+    show_best(closed, three, 2, 9);
+    show_best(closed, three, 3, 8);
+    show_best(closed, three, 2, 8);
+    show_best(closed, three, 3, 9);
+    show_best(closed, three, 520, 4100);
+    show_best(open, unclosed, 2, 8);
+    show_write(closed, three, 31);
+    show_write(closed, three, 32);
+    show_write(closed, three, 4112);
+    show_write(open, unclosed, 31);
 }
 
+// Rack 3; {0}, {0,2}, {1,2}: line 1 is no run.
 fn gaps() {
-    let gap = with_gap();
-    show_best(b"line 1 no run", gap, 2, 9);
-    show_best(b"line 1 no run", gap, 3, 8);
-    show_best(b"line 1 no run", gap, 3, 9);
+    let closed: &[u8] = b"line 1 no run";
+    let gap = closed_board(3, [1, 5, 6, 0, 0, 0, 0, 0], 3);
+    show_best(closed, gap, 2, 9);
+    show_best(closed, gap, 3, 8);
+    show_best(closed, gap, 3, 9);
     show_best(b"line 1 no run, open", opened(gap), 3, 9);
 }
 
 fn keeps() {
+    let closed: &[u8] = b"closed keep";
     let three = three_lines();
-    show_keep(b"closed keep", three, 0);
-    show_keep(b"closed keep", three, 1);
-    show_keep(b"closed keep", three, 65535);
+    show_keep(closed, three, 0);
+    show_keep(closed, three, 1);
+    show_keep(closed, three, 65535);
     show_keep(b"open keep", opened(three), 0);
-}
-
-// The job file of the board of three lines: 32 bytes, and junk behind them.
-fn good_file() -> [u8; 4112] {
-    let mut file = junk_file();
-    three_lines().write(&mut file);
-    file
-}
-
-fn with_byte(given: [u8; 4112], at: usize, byte: u8) -> [u8; 4112] {
-    let mut file = given;
-    if at < 4112 {
-        file[at] = byte;
-    }
-    file
-}
-
-fn show_read(words: &[u8], file: [u8; 4112], length: usize) {
-    let answer = read_from(&file, length);
-    show_answer(words, answer);
-}
-
-fn lengths() {
-    show_read(b"read", good_file(), 32);
-    show_read(b"read 0 bytes", good_file(), 0);
-    show_read(b"read 7 bytes", good_file(), 7);
-    show_read(b"read 8 bytes", good_file(), 8);
-    show_read(b"read 31 bytes", good_file(), 31);
-    show_read(b"read 33 bytes", good_file(), 33);
-}
-
-fn headers() {
-    show_read(b"read, byte 0 is 0", with_byte(good_file(), 0, 0), 32);
-    show_read(b"read, byte 1 is 0", with_byte(good_file(), 1, 0), 32);
-    show_read(b"read, byte 2 is 0", with_byte(good_file(), 2, 0), 32);
-    show_read(b"read, byte 3 is 1", with_byte(good_file(), 3, 1), 32);
-    show_read(b"read, byte 4 is 2", with_byte(good_file(), 4, 2), 32);
-    show_read(b"read, byte 5 is 0", with_byte(good_file(), 5, 0), 32);
-    show_read(b"read, byte 5 is 65", with_byte(good_file(), 5, 65), 32);
-    show_read(b"read, byte 6 is 3", with_byte(good_file(), 6, 3), 32);
-    show_read(b"read, byte 6 is 2", with_byte(good_file(), 6, 2), 32);
-    show_read(b"read, byte 7 is 4", with_byte(good_file(), 7, 4), 32);
-}
-
-fn lines() {
-    show_read(b"read, byte 23 is 0", with_byte(good_file(), 23, 0), 32);
-    show_read(b"read, byte 23 is 8", with_byte(good_file(), 23, 8), 32);
-    show_read(b"read, byte 24 is 128", with_byte(good_file(), 24, 128), 32);
-    show_read(b"read, byte 31 is 0", with_byte(good_file(), 31, 0), 32);
-}
-
-fn orders() {
-    let marked = with_byte(good_file(), 0, 0);
-    show_read(b"read 7 bytes, byte 0 is 0", marked, 7);
-    show_read(b"read, bytes 0 and 4 are 0", with_byte(marked, 4, 0), 32);
-    let version = with_byte(good_file(), 4, 0);
-    show_read(b"read, bytes 4 and 5 are 0", with_byte(version, 5, 0), 32);
-    let rack = with_byte(good_file(), 5, 0);
-    show_read(b"read, byte 5 is 0, byte 6 is 3", with_byte(rack, 6, 3), 32);
-    show_read(b"read 31 bytes, byte 5 is 0", rack, 31);
-    let empty = with_byte(good_file(), 23, 0);
-    show_read(b"read 31 bytes, byte 23 is 0", empty, 31);
-    show_read(
-        b"read, byte 23 is 0, byte 15 is 8",
-        with_byte(empty, 15, 8),
-        32,
-    );
 }
 
 fn main() {
@@ -515,8 +469,4 @@ fn main() {
     buffers();
     gaps();
     keeps();
-    lengths();
-    headers();
-    lines();
-    orders();
 }

@@ -3,21 +3,19 @@
 use board::Board;
 use try_lib::closed_board;
 use try_lib::digits;
-use try_lib::number;
 use try_lib::off;
 use try_lib::one_if;
 use try_lib::only;
 use try_lib::sum;
-use try_lib::text;
 ghost use Prim.Native.Nat.{_≤_};
 
 // Of the first assignments, how many are within the bound.
-fn within(n: usize, rack: u64, assignments: u64, bound: usize) -> u64
+fn within(n: usize, rack: u64, assignments: u64, bound: u64) -> u64
     requires { ⌜ n ≤ 8 ⌝ }
 {
     let mut count: u64 = 0;
     for code in 0..assignments {
-        count = sum(count, one_if(off(digits(code, rack), n, rack) <= bound));
+        count = sum(count, one_if(off(digits(code, rack, 0), n, rack) <= bound));
     }
     count
 }
@@ -37,7 +35,7 @@ fn single_tips(values: [u64; 8], n: usize) -> [u64; 8]
 fn board_of(code: u64, n: usize, rack: usize) -> Board
     requires { ⌜ n ≤ 8 ⌝ }
 {
-    closed_board(rack, single_tips(digits(code, rack as u64), n), n)
+    closed_board(rack, single_tips(digits(code, rack as u64, 0), n), n)
 }
 
 // Of the first assignments, how many have boards whose common tip has at most `bound` lines off it.
@@ -67,19 +65,13 @@ fn kept_within(n: usize, rack: usize, assignments: u64, bound: u16) -> u64
 fn show(n: usize, rack: usize, assignments: u64, bound: u16)
     requires { ⌜ n ≤ 8 ⌝ }
 {
-    number(b"variables", n as u64);
-    number(b" assignments", assignments);
-    number(b" bound", bound as u64);
-    number(
-        b" within",
-        within(n, rack as u64, assignments, bound as usize),
+    let tried = within(n, rack as u64, assignments, bound as u64);
+    let common = common_within(n, rack, assignments, bound as usize);
+    let kept = kept_within(n, rack, assignments, bound);
+    try_lib::show(
+        b"variables # assignments # bound # within # common tip # kept #\n",
+        &[n as u64, assignments, bound as u64, tried, common, kept],
     );
-    number(
-        b" common tip",
-        common_within(n, rack, assignments, bound as usize),
-    );
-    number(b" kept", kept_within(n, rack, assignments, bound));
-    text(b"\n");
 }
 
 // A line for each bound below `bounds`.

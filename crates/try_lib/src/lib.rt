@@ -1,4 +1,5 @@
 // What the test programs share: printing, counting, boards of up to eight lines, and buffers filled with junk.
+use board::Answer;
 use board::Board;
 use board::Stage;
 use libc::STDOUT_FILENO;
@@ -14,11 +15,22 @@ pub fn text(words: &[u8]) {
     io::write_all(STDOUT_FILENO, words);
 }
 
-// A word and a number after it.
-pub fn number(word: &[u8], n: u64) {
-    text(word);
-    text(b" ");
-    io::print_decimal(STDOUT_FILENO, n);
+// Prints a byte, or for # the next of the values, and returns the place of the one after it.
+fn show_byte(byte: u8, values: &[u64], next: usize) -> usize {
+    if byte == b'#' && next < values.len() {
+        io::print_decimal(STDOUT_FILENO, values[next]);
+        return std::num::wrapping_add_usize(next, 1);
+    }
+    text(&[byte]);
+    next
+}
+
+// Prints the words, with a value in the place of each #.
+pub fn show(words: &[u8], values: &[u64]) {
+    let mut next = 0;
+    for i in 0..words.len() {
+        next = show_byte(words[i], values, next);
+    }
 }
 
 // A number without its sign.
@@ -27,26 +39,6 @@ pub fn size(x: i32) -> u64 {
         (-(x as i64)) as u64
     } else {
         x as u64
-    }
-}
-
-// A word and a signed number after it.
-pub fn signed(word: &[u8], x: i32) {
-    text(word);
-    if x < 0 {
-        text(b" -");
-    } else {
-        text(b" ");
-    }
-    io::print_decimal(STDOUT_FILENO, size(x));
-}
-
-// x is a - b, for counts a and b.
-pub fn is_difference(x: i32, a: u64, b: u64) -> bool {
-    if x < 0 {
-        sum(a, size(x)) == b
-    } else {
-        sum(b, size(x)) == a
     }
 }
 
@@ -62,12 +54,8 @@ pub fn sum(a: u64, b: u64) -> u64 {
     std::num::wrapping_add_u64(a, b)
 }
 
-pub fn has(set: u64, tip: u64) -> bool {
-    if tip < 64 {
-        (set >> tip) % 2 == 1
-    } else {
-        false
-    }
+pub fn larger(a: u64, b: u64) -> u64 {
+    if a < b { b } else { a }
 }
 
 // The set with the one tip, empty for a tip past 63.
@@ -75,15 +63,15 @@ pub fn only(tip: u64) -> u64 {
     if tip < 64 { 1 << tip } else { 0 }
 }
 
-// The first eight digits of `code` to the base, the lowest first.
-pub fn digits(code: u64, base: u64) -> [u64; 8] {
+// The first eight digits of `code` to the base, the lowest first, each with `least` added.
+pub fn digits(code: u64, base: u64, least: u64) -> [u64; 8] {
     let mut digits = [0u64; 8];
     if base == 0 {
         return digits;
     }
     let mut rest = code;
     for i in 0..8 {
-        digits[i] = rest % base;
+        digits[i] = sum(rest % base, least);
         rest /= base;
     }
     digits
@@ -101,34 +89,25 @@ pub fn closed_board(rack: usize, lines: [u64; 8], n: usize) -> Board
 }
 
 // How many of the first n lines a plan puts on the tip.
-pub fn uses(plan: [u64; 8], n: usize, tip: u64) -> usize
+pub fn uses(plan: [u64; 8], n: usize, tip: u64) -> u64
     requires { ⌜ n ≤ 8 ⌝ }
-    ensures { λ r. ⌜ r ≤ n ⌝ }
 {
-    let mut count: usize = 0;
+    let mut count: u64 = 0;
     for i in 0..n {
-        count += one_if(plan[i] == tip) as usize;
+        count = sum(count, one_if(plan[i] == tip));
     }
     count
 }
 
-fn larger(a: usize, b: usize, n: usize) -> usize
-    requires { ⌜ (a ≤ n) × (b ≤ n) ⌝ }
-    ensures { λ r. ⌜ r ≤ n ⌝ }
-{
-    if a < b { b } else { a }
-}
-
 // How many of the first n lines are off the tip that a plan uses most.
-pub fn off(plan: [u64; 8], n: usize, rack: u64) -> usize
+pub fn off(plan: [u64; 8], n: usize, rack: u64) -> u64
     requires { ⌜ n ≤ 8 ⌝ }
-    ensures { λ r. ⌜ r ≤ n ⌝ }
 {
-    let mut most: usize = 0;
+    let mut most: u64 = 0;
     for tip in 0..rack {
-        most = larger(most, uses(plan, n, tip), n);
+        most = larger(most, uses(plan, n, tip));
     }
-    n - most
+    std::num::wrapping_sub_u64(n as u64, most)
 }
 
 fn is_closed(stage: Stage) -> bool {
@@ -138,9 +117,13 @@ fn is_closed(stage: Stage) -> bool {
     }
 }
 
-fn different_sets(a: [u64; 512], b: [u64; 512]) -> u64 {
+// How many of the values of `a` differ from those of `b` at their places; all of them where `b` is shorter.
+pub fn different(a: &[u64], b: &[u64]) -> u64 {
+    if b.len() < a.len() {
+        return a.len() as u64;
+    }
     let mut count: u64 = 0;
-    for i in 0..512 {
+    for i in 0..a.len() {
         count = sum(count, one_if(a[i] != b[i]));
     }
     count
@@ -150,16 +133,12 @@ fn different_sets(a: [u64; 512], b: [u64; 512]) -> u64 {
 pub fn differences(a: Board, b: Board) -> u64 {
     let a_sets = a.sets;
     let b_sets = b.sets;
+    let sets = different(&a_sets, &b_sets);
     let a_stage = a.stage;
     let b_stage = b.stage;
-    let count = sum(
-        one_if(a.rack != b.rack),
-        sum(
-            one_if(is_closed(a_stage) != is_closed(b_stage)),
-            one_if(a.count != b.count),
-        ),
-    );
-    sum(count, different_sets(a_sets, b_sets))
+    let stage = one_if(is_closed(a_stage) != is_closed(b_stage));
+    let numbers = sum(one_if(a.rack != b.rack), one_if(a.count != b.count));
+    sum(sum(sets, stage), numbers)
 }
 
 // Eight bytes more than a plan of 512 lines.
@@ -190,32 +169,45 @@ pub fn tips_of(plan: [u8; 520]) -> [u64; 8] {
     tips
 }
 
-fn changed_byte(i: usize, from: usize, byte: u8) -> u64 {
-    if i < from { 0 } else { one_if(byte != JUNK) }
-}
-
 // How many bytes from `from` on are no longer junk.
 pub fn changed_bytes(buffer: &[u8], from: usize) -> u64 {
     let mut count: u64 = 0;
-    for i in 0..buffer.len() {
-        count = sum(count, changed_byte(i, from, buffer[i]));
+    for i in from..buffer.len() {
+        count = sum(count, one_if(buffer[i] != JUNK));
     }
     count
-}
-
-fn changed_place(i: usize, from: usize, place: u32) -> u64 {
-    if i < from {
-        0
-    } else {
-        one_if(place != JUNK_PLACE)
-    }
 }
 
 // How many places from `from` on are no longer junk.
 pub fn changed_places(table: &[u32], from: usize) -> u64 {
     let mut count: u64 = 0;
-    for i in 0..table.len() {
-        count = sum(count, changed_place(i, from, table[i]));
+    for i in from..table.len() {
+        count = sum(count, one_if(table[i] != JUNK_PLACE));
     }
     count
+}
+
+// Rack 3; {0}, {0,1}, {1,2}: all runs.
+pub fn three_lines() -> Board {
+    closed_board(3, [1, 3, 6, 0, 0, 0, 0, 0], 3)
+}
+
+pub fn show_board(board: Board) {
+    let stage = board.stage;
+    let rack = board.rack as u64;
+    let count = board.count as u64;
+    match stage {
+        Stage::Open => show(b"; board rack # open lines #\n", &[rack, count]),
+        Stage::Closed => show(b"; board rack # closed lines #\n", &[rack, count]),
+    }
+}
+
+pub fn show_answer(words: &[u8], answer: Answer) {
+    let board = answer.board;
+    text(words);
+    show(
+        b": number # place #",
+        &[answer.number as u64, answer.place as u64],
+    );
+    show_board(board);
 }

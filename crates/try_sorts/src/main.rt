@@ -2,7 +2,6 @@
 use board::Board;
 use try_lib::closed_board;
 use try_lib::junk_plan;
-use try_lib::number;
 use try_lib::one_if;
 use try_lib::only;
 use try_lib::sum;
@@ -209,15 +208,15 @@ fn try_sorts(first: Answers, rack: usize, lines: [u64; 8], k: u16, sorts: usize)
 fn show_values(word: &[u8], values: [u64; 8]) {
     text(word);
     for i in 0..8 {
-        number(b"", values[i]);
+        try_lib::show(b" #", &[values[i]]);
     }
     text(b"\n");
 }
 
 fn show_plan(word: &[u8], plan: Plan) {
     let tips = plan.tips;
-    number(word, plan.number as u64);
-    number(b" pairs", plan.pairs as u64);
+    text(word);
+    try_lib::show(b" # pairs #", &[plan.number as u64, plan.pairs as u64]);
     show_values(b" tips", tips);
 }
 
@@ -225,30 +224,37 @@ fn show_answers(answers: Answers) {
     let kept = answers.kept;
     let quick = answers.quick;
     let best = answers.best;
-    number(b"common tip", answers.common as u64);
-    number(b" off", answers.off as u64);
-    number(b" set", answers.tips);
-    text(b"\n");
-    number(b"keep", answers.keep as u64);
+    try_lib::show(
+        b"common tip # off # set #\nkeep #",
+        &[
+            answers.common as u64,
+            answers.off as u64,
+            answers.tips,
+            answers.keep as u64,
+        ],
+    );
     show_values(b" lines", kept);
     show_plan(b"quick", quick);
     show_plan(b"best", best);
 }
 
 fn show_wrong(sorts: u64, wrong: Wrong) {
-    number(b"sorts", sorts);
-    number(b" wrong", wrong.sort);
-    number(b"; common tip wrong", wrong.common);
-    number(b"; keep wrong", wrong.keep);
-    number(b"; quick wrong", wrong.quick);
-    number(b"; best wrong", wrong.best);
-    text(b"\n");
+    try_lib::show(
+        b"sorts # wrong #; common tip wrong #; keep wrong #; quick wrong #; best wrong #\n",
+        &[
+            sorts,
+            wrong.sort,
+            wrong.common,
+            wrong.keep,
+            wrong.quick,
+            wrong.best,
+        ],
+    );
 }
 
 fn show(rack: usize, lines: [u64; 8], k: u16) {
     let first = answers_for(rack, lines, k);
-    number(b"rack", rack as u64);
-    number(b" k", k as u64);
+    try_lib::show(b"rack # k #", &[rack as u64, k as u64]);
     show_values(b" lines", lines);
     show_answers(first);
     show_wrong(40320, try_sorts(first, rack, lines, k, 40320));

@@ -1,33 +1,9 @@
-use native.Mathlib.Omega.{arith}
 use mathlib.Core.Path.{sym}
+use native.Mathlib.Omega.{arith}
 use lib.Seq.{length-take-le}
 use borrow.Author.Needs.{needs}
 use Rattle.try_calls.proofs.best_in.Statement.{statement}
 use Rattle.try_calls.proofs.best_in.Tie as tie
-
-best-requires : tie.Need-best-requires
-best-requires c κs = search needs
-
-same-length : tie.Need-same-length
-same-length c = search needs
-
-same-length-2 : tie.Need-same-length-2
-same-length-2 c = search needs
-
-returns : tie.Need-returns
-returns c = search needs
-
-best-requires-2 : tie.Need-best-requires-2
-best-requires-2 c κs = search needs
-
-same-length-3 : tie.Need-same-length-3
-same-length-3 c = search needs
-
-same-length-4 : tie.Need-same-length-4
-same-length-4 c = search needs
-
-returns-2 : tie.Need-returns-2
-returns-2 c = search needs
 
 slice-relend-prefix-best : tie.Need-slice-relend-prefix-best
 slice-relend-prefix-best c = search needs
@@ -41,35 +17,27 @@ slice-relend-prefix-best-2 c = search needs
 slice-aggregate-best-2 : tie.Need-slice-aggregate-best-2
 slice-aggregate-best-2 c = sym (length-take-le _ _ (omega arith))
 
-best-requires-3 : tie.Need-best-requires-3
-best-requires-3 c κs = search needs
+best-requires : tie.Need-best-requires
+best-requires c κs = search needs
 
-same-length-5 : tie.Need-same-length-5
-same-length-5 c = search needs
+same-length : tie.Need-same-length
+same-length c = search needs
 
-same-length-6 : tie.Need-same-length-6
-same-length-6 c = search needs
+same-length-2 : tie.Need-same-length-2
+same-length-2 c = search needs
 
-returns-3 : tie.Need-returns-3
-returns-3 c = search needs
+returns : tie.Need-returns
+returns c = search needs
 
 pub best-in-spec : {M : Type 1} → statement M
 best-in-spec =
     tie.close
     (tie.spec
-    best-requires
-    same-length
-    same-length-2
-    returns
-    best-requires-2
-    same-length-3
-    same-length-4
-    returns-2
     slice-relend-prefix-best
     slice-aggregate-best
     slice-relend-prefix-best-2
     slice-aggregate-best-2
-    best-requires-3
-    same-length-5
-    same-length-6
-    returns-3)
+    best-requires
+    same-length
+    same-length-2
+    returns)

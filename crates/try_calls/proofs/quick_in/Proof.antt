@@ -14,30 +14,13 @@ slice-aggregate-quick c = sym (length-take-le _ _ (omega arith))
 quick-requires : tie.Need-quick-requires
 quick-requires c κs = search needs
 
-quick-requires-2 : tie.Need-quick-requires-2
-quick-requires-2 c κs = search needs
-
 same-length : tie.Need-same-length
 same-length c = search needs
 
 returns : tie.Need-returns
 returns c = search needs
 
-same-length-2 : tie.Need-same-length-2
-same-length-2 c = search needs
-
-returns-2 : tie.Need-returns-2
-returns-2 c = search needs
-
 pub quick-in-spec : {M : Type 1} → statement M
 quick-in-spec =
     tie.close
-    (tie.spec
-    slice-relend-prefix-quick
-    slice-aggregate-quick
-    quick-requires
-    quick-requires-2
-    same-length
-    returns
-    same-length-2
-    returns-2)
+    (tie.spec slice-relend-prefix-quick slice-aggregate-quick quick-requires same-length returns)

@@ -1,12 +1,12 @@
 use borrow.Author.Needs.{needs}
-use Prim.Native.Nat.{_≤_, _-_}
+use Prim.Native.Nat.{_-_}
 use mathlib.Core.Path.{_≡_}
 use lib.ListN.{length}
 use Rattle.try_lib.proofs.changed_bytes.Statement.{statement}
 use Rattle.try_lib.proofs.changed_bytes.Tie as tie
 
 abbrev Inv-loop : tie.InvT-loop
-Inv-loop buffer from count₀ i₀ i-end count i = (i ≤ i-end) × (i-end ≡ length buffer)
+Inv-loop buffer from count₀ i₀ i-end count i = i-end ≡ length buffer
 
 abbrev μ-loop : tie.MeasureT-loop
 μ-loop buffer from count₀ i₀ i-end count i = i-end - i
@@ -14,11 +14,11 @@ abbrev μ-loop : tie.MeasureT-loop
 loop-holds : tie.Need-loop-holds Inv-loop μ-loop
 loop-holds c = search needs
 
-shared-slice-read-changed-byte : tie.Need-shared-slice-read-changed-byte Inv-loop μ-loop
-shared-slice-read-changed-byte c = search needs
+shared-slice-read-one-if : tie.Need-shared-slice-read-one-if Inv-loop μ-loop
+shared-slice-read-one-if c = search needs
 
-changed-byte-requires : tie.Need-changed-byte-requires Inv-loop μ-loop
-changed-byte-requires c κs = search needs
+one-if-requires : tie.Need-one-if-requires Inv-loop μ-loop
+one-if-requires c κs = search needs
 
 sum-requires : tie.Need-sum-requires Inv-loop μ-loop
 sum-requires c κs = search needs
@@ -42,8 +42,8 @@ changed-bytes-spec =
     Inv-loop
     μ-loop
     loop-holds
-    shared-slice-read-changed-byte
-    changed-byte-requires
+    shared-slice-read-one-if
+    one-if-requires
     sum-requires
     add-i
     loop-less

@@ -1,12 +1,12 @@
 use borrow.Author.Needs.{needs}
-use Prim.Native.Nat.{_≤_, _-_}
+use Prim.Native.Nat.{_-_}
 use mathlib.Core.Path.{_≡_}
 use lib.ListN.{length}
 use Rattle.try_lib.proofs.changed_places.Statement.{statement}
 use Rattle.try_lib.proofs.changed_places.Tie as tie
 
 abbrev Inv-loop : tie.InvT-loop
-Inv-loop table from count₀ i₀ i-end count i = (i ≤ i-end) × (i-end ≡ length table)
+Inv-loop table from count₀ i₀ i-end count i = i-end ≡ length table
 
 abbrev μ-loop : tie.MeasureT-loop
 μ-loop table from count₀ i₀ i-end count i = i-end - i
@@ -14,14 +14,14 @@ abbrev μ-loop : tie.MeasureT-loop
 loop-holds : tie.Need-loop-holds Inv-loop μ-loop
 loop-holds c = search needs
 
-mul-changed-place : tie.Need-mul-changed-place Inv-loop μ-loop
-mul-changed-place c = search needs
+mul-one-if : tie.Need-mul-one-if Inv-loop μ-loop
+mul-one-if c = search needs
 
-shared-slice-read-changed-place : tie.Need-shared-slice-read-changed-place Inv-loop μ-loop
-shared-slice-read-changed-place c = search needs
+shared-slice-read-one-if : tie.Need-shared-slice-read-one-if Inv-loop μ-loop
+shared-slice-read-one-if c = search needs
 
-changed-place-requires : tie.Need-changed-place-requires Inv-loop μ-loop
-changed-place-requires c κs = search needs
+one-if-requires : tie.Need-one-if-requires Inv-loop μ-loop
+one-if-requires c κs = search needs
 
 sum-requires : tie.Need-sum-requires Inv-loop μ-loop
 sum-requires c κs = search needs
@@ -45,9 +45,9 @@ changed-places-spec =
     Inv-loop
     μ-loop
     loop-holds
-    mul-changed-place
-    shared-slice-read-changed-place
-    changed-place-requires
+    mul-one-if
+    shared-slice-read-one-if
+    one-if-requires
     sum-requires
     add-i
     loop-less

@@ -1,15 +1,15 @@
 use borrow.Author.Needs.{needs}
-use Prim.Native.Nat.{_≤_, _-_}
+use Prim.Native.Nat.{_-_}
 use mathlib.Core.Path.{_≡_}
 use lib.ListN.{length}
 use Rattle.try_lib.proofs.digits.Statement.{statement}
 use Rattle.try_lib.proofs.digits.Tie as tie
 
 abbrev Inv-loop : tie.InvT-loop
-Inv-loop code base digits₀ rest₀ i₀ digits rest i = (i ≤ 8) × (length digits ≡ 8)
+Inv-loop code base least digits₀ rest₀ i₀ digits rest i = length digits ≡ 8
 
 abbrev μ-loop : tie.MeasureT-loop
-μ-loop code base digits₀ rest₀ i₀ digits rest i = 8 - i
+μ-loop code base least digits₀ rest₀ i₀ digits rest i = 8 - i
 
 returns : tie.Need-returns Inv-loop μ-loop
 returns c = search needs
@@ -17,8 +17,11 @@ returns c = search needs
 loop-holds : tie.Need-loop-holds Inv-loop μ-loop
 loop-holds c = search needs
 
-rem-digits : tie.Need-rem-digits Inv-loop μ-loop
-rem-digits c = search needs
+rem-sum : tie.Need-rem-sum Inv-loop μ-loop
+rem-sum c = search needs
+
+sum-requires : tie.Need-sum-requires Inv-loop μ-loop
+sum-requires c κs = search needs
 
 mul-digits : tie.Need-mul-digits Inv-loop μ-loop
 mul-digits c = search needs
@@ -49,7 +52,8 @@ digits-spec =
     μ-loop
     returns
     loop-holds
-    rem-digits
+    rem-sum
+    sum-requires
     mul-digits
     array-write-digits
     div-rest

@@ -4,7 +4,7 @@ use Rattle.try_lib.proofs.off.Statement.{statement}
 use Rattle.try_lib.proofs.off.Tie as tie
 
 abbrev Inv-loop : tie.InvT-loop
-Inv-loop plan n rack most₀ tip₀ most tip = (tip ≤ rack) × (most ≤ n)
+Inv-loop plan n rack most₀ tip₀ most tip = tip ≤ rack
 
 abbrev μ-loop : tie.MeasureT-loop
 μ-loop plan n rack most₀ tip₀ most tip = rack - tip
@@ -27,8 +27,8 @@ loop-less c = search needs
 loop-again : tie.Need-loop-again Inv-loop μ-loop
 loop-again c = search needs
 
-sub-result : tie.Need-sub-result Inv-loop μ-loop
-sub-result c = search needs
+wrapping-sub-u64-requires : tie.Need-wrapping-sub-u64-requires Inv-loop μ-loop
+wrapping-sub-u64-requires c κs = search needs
 
 returns : tie.Need-returns Inv-loop μ-loop
 returns c = search needs
@@ -45,5 +45,5 @@ off-spec =
     add-tip
     loop-less
     loop-again
-    sub-result
+    wrapping-sub-u64-requires
     returns)

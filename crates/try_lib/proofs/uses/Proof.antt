@@ -4,7 +4,7 @@ use Rattle.try_lib.proofs.uses.Statement.{statement}
 use Rattle.try_lib.proofs.uses.Tie as tie
 
 abbrev Inv-loop : tie.InvT-loop
-Inv-loop n tip plan count₀ i₀ count i = (i ≤ n) × (count ≤ i)
+Inv-loop n tip plan count₀ i₀ count i = i ≤ n
 
 abbrev μ-loop : tie.MeasureT-loop
 μ-loop n tip plan count₀ i₀ count i = n - i
@@ -21,8 +21,8 @@ array-read-one-if c = search needs
 one-if-requires : tie.Need-one-if-requires Inv-loop μ-loop
 one-if-requires c κs = search needs
 
-add-count : tie.Need-add-count Inv-loop μ-loop
-add-count c = search needs
+sum-requires : tie.Need-sum-requires Inv-loop μ-loop
+sum-requires c κs = search needs
 
 add-i : tie.Need-add-i Inv-loop μ-loop
 add-i c = search needs
@@ -46,7 +46,7 @@ uses-spec =
     mul-one-if
     array-read-one-if
     one-if-requires
-    add-count
+    sum-requires
     add-i
     loop-less
     loop-again

@@ -1,25 +1,33 @@
 use borrow.Author.Needs.{needs}
 use Prim.Native.Nat.{_≤_, _-_}
+use mathlib.Core.Path.{_≡_}
+use lib.ListN.{length}
 use Rattle.try_small.proofs.try_boards.Statement.{statement}
 use Rattle.try_small.proofs.try_boards.Tie as tie
 
 abbrev Inv-loop : tie.InvT-loop
-Inv-loop rack n boards plans tally₀ code₀ tally code = code ≤ boards
+Inv-loop rack n boards plans sets tally₀ code₀ tally code = (code ≤ boards) × (length tally ≡ 12)
 
 abbrev μ-loop : tie.MeasureT-loop
-μ-loop rack n boards plans tally₀ code₀ tally code = boards - code
+μ-loop rack n boards plans sets tally₀ code₀ tally code = boards - code
 
-no-tally-requires : tie.Need-no-tally-requires Inv-loop μ-loop
-no-tally-requires c κs = search needs
+only-requires : tie.Need-only-requires Inv-loop μ-loop
+only-requires c κs = search needs
+
+wrapping-sub-u64-requires : tie.Need-wrapping-sub-u64-requires Inv-loop μ-loop
+wrapping-sub-u64-requires c κs = search needs
 
 loop-holds : tie.Need-loop-holds Inv-loop μ-loop
 loop-holds c = search needs
 
-lines-of-requires : tie.Need-lines-of-requires Inv-loop μ-loop
-lines-of-requires c κs = search needs
+digits-requires : tie.Need-digits-requires Inv-loop μ-loop
+digits-requires c κs = search needs
 
 try-board-requires : tie.Need-try-board-requires Inv-loop μ-loop
 try-board-requires c κs = search needs
+
+added-requires : tie.Need-added-requires Inv-loop μ-loop
+added-requires c κs = search needs
 
 add-code : tie.Need-add-code Inv-loop μ-loop
 add-code c = search needs
@@ -39,10 +47,12 @@ try-boards-spec =
     (tie.spec
     Inv-loop
     μ-loop
-    no-tally-requires
+    only-requires
+    wrapping-sub-u64-requires
     loop-holds
-    lines-of-requires
+    digits-requires
     try-board-requires
+    added-requires
     add-code
     loop-less
     loop-again

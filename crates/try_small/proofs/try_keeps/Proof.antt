@@ -1,13 +1,15 @@
 use borrow.Author.Needs.{needs}
 use Prim.Native.Nat.{_≤_, _-_}
+use mathlib.Core.Path.{_≡_}
+use lib.ListN.{length}
 use Rattle.try_small.proofs.try_keeps.Statement.{statement}
 use Rattle.try_small.proofs.try_keeps.Tie as tie
 
 abbrev Inv-loop : tie.InvT-loop
-Inv-loop small board bounds next₀ k₀ next k = k ≤ bounds
+Inv-loop small board bounds tally₀ k₀ tally k = (k ≤ bounds) × (length tally ≡ 12)
 
 abbrev μ-loop : tie.MeasureT-loop
-μ-loop small board bounds next₀ k₀ next k = bounds - k
+μ-loop small board bounds tally₀ k₀ tally k = bounds - k
 
 cast-bounds : tie.Need-cast-bounds Inv-loop μ-loop
 cast-bounds c = search needs
@@ -20,6 +22,9 @@ loop-holds c = search needs
 
 try-keep-requires : tie.Need-try-keep-requires Inv-loop μ-loop
 try-keep-requires c κs = search needs
+
+added-requires : tie.Need-added-requires Inv-loop μ-loop
+added-requires c κs = search needs
 
 add-k : tie.Need-add-k Inv-loop μ-loop
 add-k c = search needs
@@ -43,6 +48,7 @@ try-keeps-spec =
     add-bounds
     loop-holds
     try-keep-requires
+    added-requires
     add-k
     loop-less
     loop-again

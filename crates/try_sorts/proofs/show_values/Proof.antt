@@ -15,17 +15,20 @@ text-requires c κs = search needs
 loop-holds : tie.Need-loop-holds Inv-loop μ-loop
 loop-holds c = search needs
 
-slice-aggregate-number : tie.Need-slice-aggregate-number Inv-loop μ-loop
-slice-aggregate-number c = search needs
+slice-aggregate-show : tie.Need-slice-aggregate-show Inv-loop μ-loop
+slice-aggregate-show c = search needs
 
-mul-number : tie.Need-mul-number Inv-loop μ-loop
-mul-number c = search needs
+mul-t13 : tie.Need-mul-t13 Inv-loop μ-loop
+mul-t13 c = search needs
 
-array-read-number : tie.Need-array-read-number Inv-loop μ-loop
-array-read-number c = search needs
+array-read-t16 : tie.Need-array-read-t16 Inv-loop μ-loop
+array-read-t16 c = search needs
 
-number-requires : tie.Need-number-requires Inv-loop μ-loop
-number-requires c κs = search needs
+slice-aggregate-show-2 : tie.Need-slice-aggregate-show-2 Inv-loop μ-loop
+slice-aggregate-show-2 c = search needs
+
+show-requires : tie.Need-show-requires Inv-loop μ-loop
+show-requires c κs = search needs
 
 add-i : tie.Need-add-i Inv-loop μ-loop
 add-i c = search needs
@@ -53,10 +56,11 @@ show-values-spec =
     μ-loop
     text-requires
     loop-holds
-    slice-aggregate-number
-    mul-number
-    array-read-number
-    number-requires
+    slice-aggregate-show
+    mul-t13
+    array-read-t16
+    slice-aggregate-show-2
+    show-requires
     add-i
     loop-less
     loop-again

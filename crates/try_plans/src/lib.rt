@@ -1,0 +1,170 @@
+// Small lists of lines solved by trying every plan.
+use try_lib::digits;
+use try_lib::larger;
+use try_lib::off;
+use try_lib::one_if;
+use try_lib::only;
+use try_lib::sum;
+use try_lib::uses;
+ghost use Prim.Native.Nat.{_≤_};
+
+// The first n lines over the rack; every plan, valid or not, is a number below `plans`, with the lines' tips as its digits.
+pub struct Small {
+    pub rack: u64,
+    pub n: usize,
+    pub plans: u64,
+    pub lines: [u64; 8],
+}
+
+// Each line on another tip, and none on a tip of a rack.
+const NO_PLAN: [u64; 8] = [64, 65, 66, 67, 68, 69, 70, 71];
+
+// How many of the first n lines are on a tip that is not their own.
+pub fn misses(lines: [u64; 8], plan: [u64; 8], n: usize) -> u64
+    requires { ⌜ n ≤ 8 ⌝ }
+{
+    let mut count: u64 = 0;
+    for i in 0..n {
+        count = sum(count, one_if(lines[i] & only(plan[i]) == 0));
+    }
+    count
+}
+
+// The pairs of a plan: each of the first n lines with the lines before it on its tip.
+pub fn pairs(plan: [u64; 8], n: usize) -> u64
+    requires { ⌜ n ≤ 8 ⌝ }
+{
+    let mut count: u64 = 0;
+    for i in 0..n {
+        count = sum(count, uses(plan, i, plan[i]));
+    }
+    count
+}
+
+// The plan of the code where it is valid and within k, and no plan where it is not.
+fn plan_of(small: Small, code: u64, k: u64) -> [u64; 8]
+    requires { ⌜ small .n ≤ 8 ⌝ }
+{
+    let n = small.n;
+    let lines = small.lines;
+    let plan = digits(code, small.rack, 0);
+    if misses(lines, plan, n) != 0 {
+        return NO_PLAN;
+    }
+    if k < off(plan, n, small.rack) {
+        return NO_PLAN;
+    }
+    plan
+}
+
+fn smaller(a: u64, b: u64) -> u64 {
+    if a < b { a } else { b }
+}
+
+// The least number of lines off the most used tip, over all valid plans.
+pub fn least_off(small: Small) -> u64
+    requires { ⌜ small .n ≤ 8 ⌝ }
+{
+    let n = small.n;
+    let plans = small.plans;
+    let mut least = n as u64;
+    for code in 0..plans {
+        least = smaller(least, off(plan_of(small, code, 8), n, small.rack));
+    }
+    least
+}
+
+// The most pairs over all valid plans.
+pub fn most_pairs(small: Small) -> u64
+    requires { ⌜ small .n ≤ 8 ⌝ }
+{
+    let n = small.n;
+    let plans = small.plans;
+    let mut most: u64 = 0;
+    for code in 0..plans {
+        most = larger(most, pairs(plan_of(small, code, 8), n));
+    }
+    most
+}
+
+// The lines, each with its tip in the plan added.
+fn with_tips(given: [u64; 8], plan: [u64; 8]) -> [u64; 8] {
+    let mut lines = given;
+    for i in 0..8 {
+        lines[i] |= only(plan[i]);
+    }
+    lines
+}
+
+// For each line the tips that some valid plan within k uses there.
+pub fn supported(small: Small, k: u64) -> [u64; 8]
+    requires { ⌜ small .n ≤ 8 ⌝ }
+{
+    let plans = small.plans;
+    let mut lines = [0u64; 8];
+    for code in 0..plans {
+        let more = with_tips(lines, plan_of(small, code, k));
+        lines = more;
+    }
+    lines
+}
+
+// The tips of the rack on which a plan puts `top` lines.
+fn tips_used(plan: [u64; 8], n: usize, rack: u64, top: u64) -> u64
+    requires { ⌜ n ≤ 8 ⌝ }
+{
+    let mut set: u64 = 0;
+    for tip in 0..rack {
+        if uses(plan, n, tip) == top {
+            set |= only(tip);
+        }
+    }
+    set
+}
+
+// The tips on which some valid plan puts `top` lines.
+pub fn busiest(small: Small, top: u64) -> u64
+    requires { ⌜ small .n ≤ 8 ⌝ }
+{
+    let n = small.n;
+    let plans = small.plans;
+    let mut set: u64 = 0;
+    for code in 0..plans {
+        set |= tips_used(plan_of(small, code, 8), n, small.rack, top);
+    }
+    set
+}
+
+// The first line that is no run, or n: the set has another number than 1 of tips without the tip below them.
+pub fn first_no_run(lines: [u64; 8], n: usize) -> usize
+    requires { ⌜ n ≤ 8 ⌝ }
+{
+    for i in 0..n {
+        if u64::count_ones(lines[i] & !(lines[i] << 1)) != 1 {
+            return i;
+        }
+    }
+    n
+}
+
+// The lines that have no tip outside the interval, in their order; the next line is laid over another.
+pub fn between(small: Small, low: u64, high: u64) -> Small
+    requires { ⌜ small .n ≤ 8 ⌝ }
+    ensures { λ r. ⌜ r .n ≤ 8 ⌝ }
+{
+    let n = small.n;
+    let lines = small.lines;
+    let interval = std::num::wrapping_sub_u64(only(sum(high, 1)), only(low));
+    let mut inside = lines;
+    let mut count: usize = 0;
+    for i in 0..n {
+        inside[count] = lines[i];
+        count += one_if(lines[i] & interval == lines[i]) as usize;
+    }
+    Small {
+        rack: small.rack,
+        n: count,
+        plans: small.plans,
+        lines: inside,
+    }
+}
