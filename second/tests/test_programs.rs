@@ -1,0 +1,56 @@
+//! What the proved test programs print, worked out again line by line with this implementation.
+//!
+//! The kept output was taken from the programs' own runs; here it is checked by answers that do not come from them.
+
+use std::collections::HashSet;
+use std::path::{Path, PathBuf};
+
+#[path = "test_programs/boards.rs"]
+mod boards;
+#[path = "test_programs/calls.rs"]
+mod calls;
+#[path = "test_programs/files.rs"]
+mod files;
+#[path = "test_programs/junk.rs"]
+mod junk;
+#[path = "test_programs/sorts.rs"]
+mod sorts;
+
+/// Where the output of a test program is kept.
+fn kept_output(program: &str) -> PathBuf {
+    Path::new(env!("CARGO_MANIFEST_DIR")).join("../crates").join(program).join("stdout")
+}
+
+fn printed_by(program: &str) -> String {
+    std::fs::read_to_string(kept_output(program)).expect(program)
+}
+
+/// Whole texts are compared, lines only to name the first that differs.
+fn assert_same(printed: &str, worked_out: &[String]) {
+    for (line, (printed, worked_out)) in printed.lines().zip(worked_out).enumerate() {
+        assert_eq!(printed, worked_out, "line {}", line + 1);
+    }
+    assert_eq!(printed.lines().count(), worked_out.len());
+    assert!(printed == worked_out.join("\n") + "\n", "line ends");
+}
+
+#[test]
+fn calls_and_files() {
+    let mut printed = printed_by("try_calls");
+    // One program may print both subjects.
+    if kept_output("try_files").exists() {
+        printed += &printed_by("try_files");
+    }
+    assert_same(&printed, &[calls::lines(), files::lines()].concat());
+}
+
+#[test]
+fn sorts() {
+    assert_same(&printed_by("try_sorts"), &sorts::lines());
+}
+
+#[test]
+fn sorts_are_all_different() {
+    let orders: HashSet<_> = sorts::orders().collect();
+    assert_eq!(orders.len(), sorts::SORTS);
+}
