@@ -77,6 +77,15 @@ pub fn digits(code: u64, base: u64, least: u64) -> [u64; 8] {
     digits
 }
 
+// The lines, each with its tip of a plan added.
+pub fn with_tips(given: [u64; 8], plan: [u64; 8]) -> [u64; 8] {
+    let mut lines = given;
+    for i in 0..8 {
+        lines[i] |= only(plan[i]);
+    }
+    lines
+}
+
 // The board that open, add for each of the first n lines, and close give.
 pub fn closed_board(rack: usize, lines: [u64; 8], n: usize) -> Board
     requires { ⌜ n ≤ 8 ⌝ }

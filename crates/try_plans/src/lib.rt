@@ -6,6 +6,7 @@ use try_lib::one_if;
 use try_lib::only;
 use try_lib::sum;
 use try_lib::uses;
+use try_lib::with_tips;
 ghost use Prim.Native.Nat.{_≤_};
 
 // The first n lines over the rack; every plan, valid or not, is a number below `plans`, with the lines' tips as its digits.
@@ -85,15 +86,6 @@ pub fn most_pairs(small: Small) -> u64
         most = larger(most, pairs(plan_of(small, code, 8), n));
     }
     most
-}
-
-// The lines, each with its tip in the plan added.
-fn with_tips(given: [u64; 8], plan: [u64; 8]) -> [u64; 8] {
-    let mut lines = given;
-    for i in 0..8 {
-        lines[i] |= only(plan[i]);
-    }
-    lines
 }
 
 // For each line the tips that some valid plan within k uses there.

@@ -9,6 +9,7 @@ use try_lib::changed_bytes;
 use try_lib::changed_places;
 use try_lib::closed_board;
 use try_lib::differences;
+use try_lib::different;
 use try_lib::digits;
 use try_lib::junk_plan;
 use try_lib::junk_table;
@@ -30,22 +31,28 @@ use try_plans::pairs;
 use try_plans::supported;
 ghost use Prim.Native.Nat.{_≤_};
 
+// How many of the numbers that a call answered are not those expected.
+fn wrong_told(told: [u64; 5], expected: [u64; 5]) -> u64 {
+    different(&told, &expected)
+}
+
 fn wrong_common(small: Small, board: Board) -> u64
     requires { ⌜ small .n ≤ 8 ⌝ }
 {
     let answer = board.common_tip();
     let back = answer.board;
+    let number = answer.number as u64;
+    let place = answer.place as u64;
     let top = answer.top as u64;
-    let least = answer.off as u64;
-    let refused = sum(one_if(answer.number != 0), one_if(answer.place != 0));
-    let counts = sum(
-        one_if(least != least_off(small)),
-        one_if(sum(top, least) != small.n as u64),
-    );
+    let off = answer.off as u64;
+    let least = least_off(small);
     let tips = if top == 0 { 0 } else { busiest(small, top) };
     sum(
-        sum(refused, counts),
-        sum(one_if(answer.tips != tips), differences(board, back)),
+        wrong_told(
+            [number, place, sum(top, off), off, answer.tips],
+            [0, 0, small.n as u64, least, tips],
+        ),
+        differences(board, back),
     )
 }
 
@@ -67,35 +74,22 @@ fn board_of(small: Small, lines: [u64; 8]) -> Board
     }
 }
 
-// x is a - b.
-fn is_difference(x: i32, a: u64, b: u64) -> bool {
-    if x < 0 {
-        sum(a, size(x)) == b
-    } else {
-        sum(b, size(x)) == a
-    }
-}
-
 fn wrong_keep(small: Small, board: Board, answer: Kept, k: u64) -> u64
     requires { ⌜ small .n ≤ 8 ⌝ }
 {
-    let least = least_off(small);
     let back = answer.board;
-    let told = sum(
-        one_if(answer.place != 0),
-        one_if(!is_difference(answer.margin, k, least)),
-    );
+    let number = answer.number as u64;
+    let place = answer.place as u64;
+    let negative = one_if(answer.margin < 0);
+    let told = [number, place, negative, size(answer.margin), 0];
+    let least = least_off(small);
     if k < least {
-        return sum(
-            told,
-            sum(one_if(answer.number != 26), differences(board, back)),
-        );
+        let wrong = wrong_told(told, [26, 0, 1, least - k, 0]);
+        return sum(wrong, differences(board, back));
     }
     let kept = board_of(small, supported(small, k));
-    sum(
-        told,
-        sum(one_if(answer.number != 0), differences(kept, back)),
-    )
+    let wrong = wrong_told(told, [0, 0, 0, k - least, 0]);
+    sum(wrong, differences(kept, back))
 }
 
 fn try_keep(small: Small, board: Board, k: u16) -> [u64; 12]
@@ -129,16 +123,15 @@ fn try_keeps(small: Small, board: Board) -> [u64; 12]
 }
 
 // What is wrong with an accepted plan: its tips, its number of pairs, its bytes past the lines.
-fn wrong_plan(small: Small, plan: [u8; 520], reported: u32) -> u64
+fn wrong_plan(small: Small, plan: [u8; 520], shared: u64) -> u64
     requires { ⌜ small .n ≤ 8 ⌝ }
 {
     let n = small.n;
     let lines = small.lines;
     let tips = tips_of(plan);
-    let counted = pairs(tips, n);
     sum(
         misses(lines, tips, n),
-        sum(one_if(counted != reported as u64), changed_bytes(&plan, n)),
+        sum(one_if(pairs(tips, n) != shared), changed_bytes(&plan, n)),
     )
 }
 
@@ -148,12 +141,14 @@ fn wrong_quick(small: Small, board: Board) -> u64
     let mut plan = junk_plan();
     let answer = board.quick(&mut plan);
     let back = answer.board;
+    let number = answer.number as u64;
+    let place = answer.place as u64;
     let shared = answer.pairs as u64;
-    let refused = sum(one_if(answer.number != 0), one_if(answer.place != 0));
     let half = one_if(sum(shared, shared) < most_pairs(small));
+    let wrong = wrong_told([number, place, half, 0, 0], [0; 5]);
     sum(
-        sum(refused, wrong_plan(small, plan, answer.pairs)),
-        sum(half, differences(board, back)),
+        sum(wrong, differences(board, back)),
+        wrong_plan(small, plan, shared),
     )
 }
 
@@ -199,22 +194,19 @@ fn wrong_best(
     let lines = small.lines;
     let back = answer.board;
     let same = differences(board, back);
-    let changed = sum(changed_bytes(&plan, 0), changed_places(&table, 0));
+    let number = answer.number as u64;
+    let place = answer.place as u64;
+    let shared = answer.pairs as u64;
+    let told = [number, place, shared, 0, 0];
     let no_run = first_no_run(lines, n);
     if no_run < n {
-        let told = sum(
-            one_if(answer.number != 25),
-            sum(one_if(answer.place != no_run), one_if(answer.pairs != 0)),
-        );
-        return sum(told, sum(same, changed));
+        let changed = sum(changed_bytes(&plan, 0), changed_places(&table, 0));
+        let wrong = wrong_told(told, [25, no_run as u64, 0, 0, 0]);
+        return sum(wrong, sum(same, changed));
     }
-    let refused = sum(one_if(answer.number != 0), one_if(answer.place != 0));
-    let most = one_if(answer.pairs as u64 != most_pairs(small));
-    let laid = sum(
-        wrong_plan(small, plan, answer.pairs),
-        wrong_table(small, table),
-    );
-    sum(sum(refused, most), sum(laid, same))
+    let laid = sum(wrong_plan(small, plan, shared), wrong_table(small, table));
+    let wrong = wrong_told(told, [0, 0, most_pairs(small), 0, 0]);
+    sum(wrong, sum(same, laid))
 }
 
 fn try_best(small: Small, board: Board) -> [u64; 12]

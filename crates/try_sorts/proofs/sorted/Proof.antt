@@ -1,15 +1,15 @@
 use borrow.Author.Needs.{needs}
-use Prim.Native.Nat.{_≤_, _-_}
+use Prim.Native.Nat.{_-_}
 use mathlib.Core.Path.{_≡_}
 use lib.ListN.{length}
 use Rattle.try_sorts.proofs.sorted.Statement.{statement}
 use Rattle.try_sorts.proofs.sorted.Tie as tie
 
 abbrev Inv-loop : tie.InvT-loop
-Inv-loop code order₀ left₀ i₀ order left i = (i ≤ 8) × (length order ≡ 8)
+Inv-loop code order₀ rest₀ i₀ order rest i = length order ≡ 8
 
 abbrev μ-loop : tie.MeasureT-loop
-μ-loop code order₀ left₀ i₀ order left i = 8 - i
+μ-loop code order₀ rest₀ i₀ order rest i = 8 - i
 
 loop-holds : tie.Need-loop-holds Inv-loop μ-loop
 loop-holds c = search needs
@@ -41,8 +41,11 @@ mul-order-3 c = search needs
 array-write-order-2 : tie.Need-array-write-order-2 Inv-loop μ-loop
 array-write-order-2 c = search needs
 
-rest-requires : tie.Need-rest-requires Inv-loop μ-loop
-rest-requires c κs = search needs
+sub-rest : tie.Need-sub-rest Inv-loop μ-loop
+sub-rest c = search needs
+
+div-rest : tie.Need-div-rest Inv-loop μ-loop
+div-rest c = search needs
 
 add-i : tie.Need-add-i Inv-loop μ-loop
 add-i c = search needs
@@ -72,7 +75,8 @@ sorted-spec =
     array-write-order
     mul-order-3
     array-write-order-2
-    rest-requires
+    sub-rest
+    div-rest
     add-i
     loop-less
     loop-again

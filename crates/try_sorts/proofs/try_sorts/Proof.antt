@@ -4,10 +4,10 @@ use Rattle.try_sorts.proofs.try_sorts.Statement.{statement}
 use Rattle.try_sorts.proofs.try_sorts.Tie as tie
 
 abbrev Inv-loop : tie.InvT-loop
-Inv-loop first rack lines k sorts wrong₀ code₀ wrong code = code ≤ sorts
+Inv-loop first rack lines k wrong₀ code₀ wrong code = code ≤ 40320
 
 abbrev μ-loop : tie.MeasureT-loop
-μ-loop first rack lines k sorts wrong₀ code₀ wrong code = sorts - code
+μ-loop first rack lines k wrong₀ code₀ wrong code = 40320 - code
 
 loop-holds : tie.Need-loop-holds Inv-loop μ-loop
 loop-holds c = search needs

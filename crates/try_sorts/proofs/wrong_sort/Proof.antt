@@ -1,13 +1,16 @@
 use borrow.Author.Needs.{needs}
 use Prim.Native.Nat.{_≤_, _-_}
-use Rattle.try_sorts.proofs.tips_among.Statement.{statement}
-use Rattle.try_sorts.proofs.tips_among.Tie as tie
+use Rattle.try_sorts.proofs.wrong_sort.Statement.{statement}
+use Rattle.try_sorts.proofs.wrong_sort.Tie as tie
 
 abbrev Inv-loop : tie.InvT-loop
-Inv-loop values set₀ i₀ set i = i ≤ 8
+Inv-loop code order set₀ i₀ set i = i ≤ 8
 
 abbrev μ-loop : tie.MeasureT-loop
-μ-loop values set₀ i₀ set i = 8 - i
+μ-loop code order set₀ i₀ set i = 8 - i
+
+sorted-requires : tie.Need-sorted-requires Inv-loop μ-loop
+sorted-requires c κs = search needs
 
 loop-holds : tie.Need-loop-holds Inv-loop μ-loop
 loop-holds c = search needs
@@ -30,15 +33,19 @@ loop-less c = search needs
 loop-again : tie.Need-loop-again Inv-loop μ-loop
 loop-again c = search needs
 
+one-if-requires : tie.Need-one-if-requires Inv-loop μ-loop
+one-if-requires c κs = search needs
+
 returns : tie.Need-returns Inv-loop μ-loop
 returns c = search needs
 
-pub tips-among-spec : {M : Type 1} → statement M
-tips-among-spec =
+pub wrong-sort-spec : {M : Type 1} → statement M
+wrong-sort-spec =
     tie.close
     (tie.spec
     Inv-loop
     μ-loop
+    sorted-requires
     loop-holds
     mul-only
     array-read-only
@@ -46,4 +53,5 @@ tips-among-spec =
     add-i
     loop-less
     loop-again
+    one-if-requires
     returns)

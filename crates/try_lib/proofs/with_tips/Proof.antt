@@ -1,15 +1,15 @@
 use borrow.Author.Needs.{needs}
-use Prim.Native.Nat.{_≤_, _-_}
+use Prim.Native.Nat.{_-_}
 use mathlib.Core.Path.{_≡_}
 use lib.ListN.{length}
-use Rattle.try_counts.proofs.single_tips.Statement.{statement}
-use Rattle.try_counts.proofs.single_tips.Tie as tie
+use Rattle.try_lib.proofs.with_tips.Statement.{statement}
+use Rattle.try_lib.proofs.with_tips.Tie as tie
 
 abbrev Inv-loop : tie.InvT-loop
-Inv-loop n values lines₀ i₀ lines i = (i ≤ n) × (length lines ≡ 8)
+Inv-loop plan lines₀ i₀ lines i = length lines ≡ 8
 
 abbrev μ-loop : tie.MeasureT-loop
-μ-loop n values lines₀ i₀ lines i = n - i
+μ-loop plan lines₀ i₀ lines i = 8 - i
 
 loop-holds : tie.Need-loop-holds Inv-loop μ-loop
 loop-holds c = search needs
@@ -26,6 +26,9 @@ only-requires c κs = search needs
 mul-lines : tie.Need-mul-lines Inv-loop μ-loop
 mul-lines c = search needs
 
+array-read-lines : tie.Need-array-read-lines Inv-loop μ-loop
+array-read-lines c = search needs
+
 array-write-lines : tie.Need-array-write-lines Inv-loop μ-loop
 array-write-lines c = search needs
 
@@ -41,8 +44,8 @@ loop-again c = search needs
 returns : tie.Need-returns Inv-loop μ-loop
 returns c = search needs
 
-pub single-tips-spec : {M : Type 1} → statement M
-single-tips-spec =
+pub with-tips-spec : {M : Type 1} → statement M
+with-tips-spec =
     tie.close
     (tie.spec
     Inv-loop
@@ -52,6 +55,7 @@ single-tips-spec =
     array-read-only
     only-requires
     mul-lines
+    array-read-lines
     array-write-lines
     add-i
     loop-less
