@@ -78,11 +78,6 @@ module _ (file : List ℕ) where
     λ (g, h). good-file g h .0,
   )
 
-  -- an accepted file has place 0
-  pub accepted-place : readNumber file ≡ 0 → readPlace file ≡ 0
-  accepted-place e =
-      let (g, h) = read-iff .0 e in
-      good-file g h .1
 
 -- what is written reads back
 module _ (m : ℕ) (lines : List ℕ) (low : 1 ≤ m) (high : m ≤ 64) (few : length lines ≤ 512) where

@@ -22,9 +22,6 @@ use Rattle.spans.specs.Spans.{below, place, counts, sums}
 use Rattle.model.proofs.ListOf.{length-listOf, listOf-at, list-is}
 use Rattle.spans.proofs.Below.{under, under-out, under-in, count-parts, below-le}
 
--- lines of a rack of at most 64 tips are lines of a rack of 64
-pub widen : {m : ℕ} {lines : List ℕ} → m ≤ 64 → All (Domain m) lines → All (Domain 64) lines
-widen h ds = all-map (λ s d. record { some = d .some; below = lt-of-lt-of-le (d .below) (pow-mono h) }) ds
 
 -- the places of lines are from 66 to 4224
 pub place-in : {s : ℕ} → Domain 64 s → (65 < place s) × (place s < 4225)
@@ -89,9 +86,6 @@ pub among-none : (lines : List ℕ) (f : ℕ) → among lines f f ≡ 0
 unfolding among
 among-none lines f = count-none _ (all (λ s t. omega (arith, ranged-out f f s t)) lines)
 
-pub among-le : (lines : List ℕ) (f e : ℕ) → among lines f e ≤ length lines
-unfolding among
-among-le lines f e = count-le _ lines
 
 among-more : (lines : List ℕ) (f k : ℕ) → f ≤ k → among lines f (k + 1) ≡ among lines f k + at lines k
 unfolding among
