@@ -48,7 +48,7 @@ pub fn common_outcome(file: &[u8]) -> Outcome
     ensures outcome { λ r. ⌜ r ≡ commonIn (now (file .entry)) ⌝ }
     ensures rule { λ r. ⌜ CommonRuleOf (now (file .entry)) r ⌝ }
 {
-    let mut sets = reading::line_buffer();
+    let mut sets = sound::no_sets();
     let read = reading::read_lines(file, &mut sets);
     if read.number != 0 {
         return refusal(read.number, read.place);
@@ -94,7 +94,7 @@ pub fn keep_outcome(file: &[u8], k: u16, out: &mut [u8]) -> Outcome
     ensures out { λ _. ⌜ now (out .exit) ≡ keepFileIn (now (file .entry)) k (now (out .entry)) ⌝ }
     ensures rule { λ r. ⌜ KeepRuleOf (boardOf (now (file .entry))) k (now (out .exit)) r ⌝ }
 {
-    let mut sets = reading::line_buffer();
+    let mut sets = sound::no_sets();
     let read = reading::read_lines(file, &mut sets);
     if read.number != 0 {
         return refusal(read.number, read.place);
@@ -132,7 +132,7 @@ pub fn quick_outcome(file: &[u8], plan: &mut [u8]) -> Outcome
     ensures plan { λ _. ⌜ now (plan .exit) ≡ quickPlanIn (now (file .entry)) (now (plan .entry)) ⌝ }
     ensures rule { λ r. ⌜ HalfRuleOf (now (file .entry)) (now (plan .exit)) r ⌝ }
 {
-    let mut sets = reading::line_buffer();
+    let mut sets = sound::no_sets();
     let read = reading::read_lines(file, &mut sets);
     if read.number != 0 {
         return refusal(read.number, read.place);
@@ -158,7 +158,7 @@ pub fn best_outcome(file: &[u8], plan: &mut [u8], table: &mut [u32]) -> Outcome
     ensures table { λ _. ⌜ now (table .exit) ≡ bestTableIn (now (file .entry)) (length (now (plan .entry))) (now (table .entry)) ⌝ }
     ensures rule { λ r. ⌜ BestRuleOf (now (file .entry)) (now (plan .exit)) r ⌝ }
 {
-    let mut sets = reading::line_buffer();
+    let mut sets = sound::no_sets();
     let read = reading::read_lines(file, &mut sets);
     if read.number != 0 {
         return refusal(read.number, read.place);

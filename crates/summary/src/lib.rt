@@ -93,7 +93,7 @@ fn write_file(file: &[u8], out: &mut [u8]) -> usize
     requires { ⌜ 16384 ≤ length (now out) ⌝ }
     ensures { λ r. ⌜ Printed (textOf (now (file .entry))) (now (out .entry)) r (now (out .exit)) ⌝ }
 {
-    let mut sets = reading::line_buffer();
+    let mut sets = sound::no_sets();
     let read = reading::read_lines(file, &mut sets);
     if read.number != 0 {
         return report::write_refused(read.number, out);

@@ -6,6 +6,7 @@ use lib.ListN.{length, take}
 use lib.Seq.{length-take-le}
 use Rattle.interval.specs.Cells.{Runs}
 use Rattle.state.proofs.Refusals.{square-most}
+use Rattle.sound.proofs.Laws.{no-sets-length}
 use Rattle.board.proofs.ReadLines.{GoodLines, good-lines}
 use Rattle.outcome.specs.Calls.{bestIn, bestPlanIn, bestTableIn}
 use Rattle.outcome.proofs.Laws.{on-refused, lent-refused, best-none}
@@ -14,8 +15,8 @@ use borrow.Author.Needs.{needs}
 use Rattle.outcome.proofs.best_outcome.Statement.{statement}
 use Rattle.outcome.proofs.best_outcome.Tie as tie
 
-line-buffer-requires : tie.Need-line-buffer-requires
-line-buffer-requires c κs = search needs
+no-sets-requires : tie.Need-no-sets-requires
+no-sets-requires c κs = search needs
 
 slice-aggregate-read-lines : tie.Need-slice-aggregate-read-lines
 slice-aggregate-read-lines c = search needs
@@ -42,7 +43,7 @@ good : (d : tie.Else1) → GoodLines (d .before .before .before .read-lines .res
 good d = let (e, (read, _)) = d .before .before .before .read-lines .ensures in good-lines _ e (d .if1 .left) (read (d .if1 .left))
 
 room : (d : tie.Else1) → d .before .before .before .read-lines .result .count ≤ length (d .before .before .before .read-lines .last .1 .0)
-room d = omega (arith, good d .few, d .before .before .before .read-lines .kept .1 .0, d .before .before .before .before .before .line-buffer .ensures)
+room d = omega (arith, good d .few, d .before .before .before .read-lines .kept .1 .0, no-sets-length (d .before .before .before .before .before .no-sets .ensures))
 
 array-share-prefix-sets : tie.Need-array-share-prefix-sets
 array-share-prefix-sets c = room c
@@ -110,7 +111,7 @@ pub best-outcome-spec : {M : Type 1} → statement M
 best-outcome-spec =
     tie.close
     (tie.spec
-    line-buffer-requires
+    no-sets-requires
     slice-aggregate-read-lines
     read-lines-requires
     refusal-requires
