@@ -5,14 +5,22 @@
 use std::collections::HashSet;
 use std::path::{Path, PathBuf};
 
+mod every_plan;
+
 #[path = "test_programs/boards.rs"]
 mod boards;
 #[path = "test_programs/calls.rs"]
 mod calls;
+#[path = "test_programs/counts.rs"]
+mod counts;
 #[path = "test_programs/files.rs"]
 mod files;
 #[path = "test_programs/junk.rs"]
 mod junk;
+#[path = "test_programs/records.rs"]
+mod records;
+#[path = "test_programs/small.rs"]
+mod small;
 #[path = "test_programs/sorts.rs"]
 mod sorts;
 
@@ -42,6 +50,21 @@ fn calls_and_files() {
         printed += &printed_by("try_files");
     }
     assert_same(&printed, &[calls::lines(), files::lines()].concat());
+}
+
+#[test]
+fn records() {
+    assert_same(&printed_by("try_records"), &records::lines());
+}
+
+#[test]
+fn small() {
+    assert_same(&printed_by("try_small"), &small::lines());
+}
+
+#[test]
+fn counts() {
+    assert_same(&printed_by("try_counts"), &counts::lines());
 }
 
 #[test]

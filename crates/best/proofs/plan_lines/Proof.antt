@@ -1,33 +1,54 @@
 use Prim.Native.Nat.{_-_}
-use mathlib.Core.Path.{_≡_, ap, _∙_}
+use mathlib.Core.Path.{_≡_, ap, sym, _∙_}
 use native.Mathlib.Omega.{arith}
 use lib.ListN.{length, getD}
-use Rattle.interval.proofs.Columns.{table-last}
-use Rattle.model.proofs.Table.{length-table}
+use Rattle.model.specs.Interval.{table as tableOf}
+use Rattle.model.proofs.Table.{length-table, table-last}
+use Rattle.model.proofs.Unbroken.{unbroken-plan}
 use Rattle.best.proofs.Ranges.{wider, first-row}
 use borrow.Author.Needs.{needs}
 use Rattle.best.proofs.plan_lines.Statement.{statement}
 use Rattle.best.proofs.plan_lines.Tie as tie
+
+-- the table filled, from the end; and the call's start from there
+abbrev filled : tie.After-slice-known5 → tie.After-fill-table
+filled c = c .before .before .before .before .before .before .before .before .before
+
+abbrev start : tie.After-fill-table → tie.Start
+start c = c .before .before .before .before .before .before .before .before .before
+
+-- the sums are those of the lines, and so is the table
+table-is : (c : tie.After-fill-table) → let a = start c .args in c .fill-table .last .1 .1 .0 ≡ tableOf (a .m) (a .lines .now)
+table-is c =
+    let summed = c .before .before .before .before .sum-spans .ensures in
+    c .fill-table .ensures (start c .args .lines .now) (record { runs = start c .pre .0; summed = summed })
 
 slice-aggregate-sum-spans : tie.Need-slice-aggregate-sum-spans
 slice-aggregate-sum-spans c = search needs
 
 sum-spans-requires : tie.Need-sum-spans-requires
 sum-spans-requires c κs =
-    let r = c .before .before .before .before .pre .0 in
-    record { size = search needs; few = r .few; domains = wider (r .rack) (r .domains) }
+    record { size = search needs; good = wider (c .before .before .before .before .pre .0 .good) }
 
 slice-aggregate-fill-table : tie.Need-slice-aggregate-fill-table
 slice-aggregate-fill-table c = search needs
 
 fill-table-requires : tie.Need-fill-table-requires
-fill-table-requires c κs = search needs
+fill-table-requires c κs =
+    let b = c .before .before .before in
+    let s = b .before .before .before .before .before in
+    ((s .args .lines .now, record { runs = s .pre .0; summed = b .sum-spans .ensures }), s .pre .2)
 
 slice-aggregate-plan-lines : tie.Need-slice-aggregate-plan-lines
 slice-aggregate-plan-lines c = search needs
 
 plan-lines-requires : tie.Need-plan-lines-requires
-plan-lines-requires c κs = search needs
+plan-lines-requires c κs =
+    let f = c .before .before .before .before .before in
+    let s = start f in
+    let r = s .pre .0 in
+    let summed = f .before .before .before .before .sum-spans .ensures in
+    (record { good = r .good; runs = r .runs; summed = summed; filled = table-is f }, s .pre .1)
 
 sub-result : tie.Need-sub-result
 sub-result c = search needs
@@ -36,7 +57,11 @@ mul-result : tie.Need-mul-result
 mul-result c = search needs
 
 slice-read-result : tie.Need-slice-read-result
-slice-read-result c = omega (arith, ap length (c .before .before .before .before .before .before .before .before .before .fill-table .ensures), length-table (c .before .before .before .before .before .before .before .before .before .before .before .before .before .before .before .before .before .before .args .m) (c .before .before .before .before .before .before .before .before .before .before .before .before .before .before .before .before .before .before .args .lines .now), first-row (c .before .before .before .before .before .before .before .before .before .before .before .before .before .before .before .before .before .before .args .m) (c .before .before .before .before .before .before .before .before .before .before .before .before .before .before .before .before .before .before .pre .0 .some))
+slice-read-result c =
+    let f = filled c in
+    let a = start f .args in
+    let g = start f .pre .0 .good in
+    omega (arith, ap length (table-is f), length-table (a .m) (a .lines .now), first-row (a .m) (g .some))
 
 same-length : tie.Need-same-length
 same-length c = search needs
@@ -46,9 +71,13 @@ same-length-2 c = search needs
 
 returns : tie.Need-returns
 returns c =
-    let lines = c .before .before .before .before .before .before .before .before .before .before .before .before .before .before .before .before .before .before .args .lines .now in
-    let e = c .before .before .before .before .before .before .before .before .before .fill-table .ensures in
-    (ap (λ t. getD t (c .before .before .before .before .before .before .before .before .before .before .before .before .before .before .before .before .before .before .args .m - 1) 0) e ∙ table-last (c .before .before .before .before .before .before .before .before .before .before .before .before .before .before .before .before .before .before .args .m) lines (c .before .before .before .before .before .before .before .before .before .before .before .before .before .before .before .before .before .before .pre .0 .some), (c .before .before .before .plan-lines .ensures, e))
+    let f = filled c in
+    let a = start f .args in
+    let r = start f .pre .0 in
+    let plan = c .before .before .before .plan-lines .ensures in (
+      ap (λ t. getD t (a .m - 1) 0) (table-is f) ∙ table-last (a .m) (a .lines .now) (r .good .some),
+      (plan ∙ sym (unbroken-plan (r .good .most) (r .good .domains) (r .runs)), table-is f),
+    )
 
 pub plan-lines-spec : {M : Type 1} → statement M
 plan-lines-spec =

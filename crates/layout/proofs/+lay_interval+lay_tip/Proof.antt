@@ -1,6 +1,7 @@
 use Prim.Native.Nat.{_+_, _-_}
 use mathlib.Core.Path.{_≡_, _∙_}
 use native.Mathlib.Omega.{arith}
+use Rattle.head.specs.OnHead.{onHead}
 use Rattle.layout.specs.Picks.{pickBy}
 use Rattle.layout.proofs.Picks.{pick-lt}
 use Rattle.layout.proofs.Owners.{laid-none, laid-step}
@@ -19,10 +20,10 @@ use Rattle.layout.proofs.+lay_interval+lay_tip.{statement}
 use Rattle.layout.proofs.+lay_interval+lay_tip.Tie.{close}
 
 abbrev μ-lay-interval : Measures 3 lay-interval-kinds.ps ℕ
-μ-lay-interval κs a = a .1 .1 .1 .1 .0 + a .1 .1 .1 .1 .0
+μ-lay-interval κs a = a .1 .1 .1 .1 .1 .0 + a .1 .1 .1 .1 .1 .0
 
 abbrev μ-lay-tip : Measures 3 lay-tip-kinds.ps ℕ
-μ-lay-tip κs a = a .1 .1 .1 .1 .0 + a .1 .1 .1 .1 .0 - 1
+μ-lay-tip κs a = a .1 .1 .1 .1 .1 .0 + a .1 .1 .1 .1 .1 .0 - 1
 
 abbrev lay-interval-at : ℕ → In 3 lay-interval-kinds.ps
 lay-interval-at t =
@@ -61,7 +62,7 @@ lay-interval-lay-tip-requires : (t : ℕ) → lay-interval-lts.Need-lay-tip-requ
 lay-interval-lay-tip-requires t c κs =
     let a = c .before .before .before .before .before .before .args in
     let p = c .before .before .before .before .before .before .pre in
-    let l = pick-lt (a .m) (a .sums .now) (a .table .now) (a .a) (a .w) (omega arith) in
+    let l = pick-lt (onHead (a .mounted)) (a .m) (a .sums .now) (a .table .now) (a .a) (a .w) (omega arith) in
     (omega (arith, p .0), (p .1 .0, p .1 .1, omega (arith, c .before .find-tip .ensures, l), c .before .find-tip .ensures, p .1 .2))
 
 lay-interval-same-length : (t : ℕ) → lay-interval-lts.Need-same-length (
@@ -70,7 +71,7 @@ lay-interval-same-length : (t : ℕ) → lay-interval-lts.Need-same-length (
   lay-tip-below t,
   lay-tip.Post,
 ) (lay-interval-at t) lay-interval.Post
-lay-interval-same-length t c = c .before .before .lay-tip .kept .1 .1 .1 .1 .1 .1 .0
+lay-interval-same-length t c = c .before .before .lay-tip .kept .1 .1 .1 .1 .1 .1 .1 .0
 
 lay-interval-returns : (t : ℕ) → lay-interval-lts.Need-returns (
   find-tip-reads.Asked,
@@ -89,7 +90,7 @@ lay-interval-returns-2 : (t : ℕ) → lay-interval-lts.Need-returns-2 (
 lay-interval-returns-2 t c =
     let a = c .before .before .before .before .args in
     let e : a .w ≡ 0 = omega arith in
-    rw e (laid-none (pickBy (a .m) (a .sums .now) (a .table .now)) (a .a) (a .owner .now))
+    rw e (laid-none (pickBy (onHead (a .mounted)) (a .m) (a .sums .now) (a .table .now)) (a .a) (a .owner .now))
 
 lay-tip-own-runs-requires : (t : ℕ) → lay-tip-lts.Need-own-runs-requires (
   own-runs-reads.Asked,
@@ -100,7 +101,7 @@ lay-tip-own-runs-requires : (t : ℕ) → lay-tip-lts.Need-own-runs-requires (
 lay-tip-own-runs-requires t c κs =
     let p = c .before .before .before .before .pre .1 in
     let r = p .0 .1 in
-    (p .2, omega (arith, r .rack), p .4)
+    (p .2, omega (arith, r .good .most), p .4)
 
 lay-tip-lay-interval-requires : (t : ℕ) → lay-tip-lts.Need-lay-interval-requires (
   own-runs-reads.Asked,
@@ -151,8 +152,11 @@ lay-tip-lay-interval-requires-2 : (t : ℕ) → lay-tip-lts.Need-lay-interval-re
   lay-interval.Post,
 ) (lay-tip-at t) lay-tip.Post
 lay-tip-lay-interval-requires-2 t c κs =
-    let p = c .before .before .before .before .before .before .before .before .before .before .before .before .pre in
-    (omega (arith, p .0), (p .1 .0, omega (arith, p .1), c .before .before .before .lay-interval .kept .1 .1 .1 .1 .1 .0 ∙ c .before .before .before .before .before .before .before .own-runs .kept .1 .1 .1 .0 ∙ p .1 .4))
+    let first = c .before .before .before in
+    let own = first .before .before .before .before in
+    let p = own .before .before .before .before .before .pre in
+    let size = first .lay-interval .kept .1 .1 .1 .1 .1 .1 .0 ∙ own .own-runs .kept .1 .1 .1 .0 ∙ p .1 .4 in
+    (omega (arith, p .0), (p .1 .0, omega (arith, p .1), size))
 
 lay-tip-same-length : (t : ℕ) → lay-tip-lts.Need-same-length (
   own-runs-reads.Asked,
@@ -160,7 +164,11 @@ lay-tip-same-length : (t : ℕ) → lay-tip-lts.Need-same-length (
   lay-interval-below t,
   lay-interval.Post,
 ) (lay-tip-at t) lay-tip.Post
-lay-tip-same-length t c = c .before .before .lay-interval2 .kept .1 .1 .1 .1 .1 .0 ∙ c .before .before .before .before .before .before .lay-interval .kept .1 .1 .1 .1 .1 .0 ∙ c .before .before .before .before .before .before .before .before .before .before .own-runs .kept .1 .1 .1 .0
+lay-tip-same-length t c =
+    let second = c .before .before in
+    let first = second .before .before .before .before in
+    let own = first .before .before .before .before in
+    second .lay-interval2 .kept .1 .1 .1 .1 .1 .1 .0 ∙ first .lay-interval .kept .1 .1 .1 .1 .1 .1 .0 ∙ own .own-runs .kept .1 .1 .1 .0
 
 lay-tip-returns : (t : ℕ) → lay-tip-lts.Need-returns (
   own-runs-reads.Asked,
@@ -169,10 +177,15 @@ lay-tip-returns : (t : ℕ) → lay-tip-lts.Need-returns (
   lay-interval.Post,
 ) (lay-tip-at t) lay-tip.Post
 lay-tip-returns t c =
-    let a = c .before .before .before .before .before .before .before .before .before .before .before .before .before .before .before .args in
-    let p = c .before .before .before .before .before .before .before .before .before .before .before .before .before .before .before .pre .1 in
-    let pick = pickBy (a .m) (a .sums .now) (a .table .now) in
-    rw (c .before .before .lay-interval2 .ensures, c .before .before .before .before .before .before .lay-interval .ensures, c .before .before .before .before .before .before .before .before .before .before .own-runs .ensures, p .3) (laid-step pick (pick-lt (a .m) (a .sums .now) (a .table .now)) (a .a) (a .w) (a .owner .now) (omega arith))
+    let second = c .before .before in
+    let first = second .before .before .before .before in
+    let own = first .before .before .before .before in
+    let s = own .before .before .before .before .before in
+    let a = s .args in
+    let pick = pickBy (onHead (a .mounted)) (a .m) (a .sums .now) (a .table .now) in
+    let under = pick-lt (onHead (a .mounted)) (a .m) (a .sums .now) (a .table .now) in
+    rw (second .lay-interval2 .ensures, first .lay-interval .ensures, own .own-runs .ensures, s .pre .1 .3)
+    (laid-step pick under (a .a) (a .w) (a .owner .now) (omega arith))
 
 pub +lay-interval+lay-tip-spec : {M : Type 1} → statement M
 +lay-interval+lay-tip-spec = close μ-lay-interval μ-lay-tip (λ t. lay-interval-lts.spec (
