@@ -33,7 +33,8 @@ fn take_listed(
     counts: &mut [u64],
 )
     requires { ⌜ Takeable tip (now left) (now plan) (now counts) × Below (length (now left)) n (now lines) × (n ≤ length (now lines)) ⌝ }
-    ensures { λ _. ⌜ ListTaken tip n (now (lines .entry)) (now (left .entry)) (now (plan .entry)) (now (left .exit)) (now (plan .exit)) (now (counts .exit)) ⌝ }
+    ensures { λ _. ⌜ ListTaken tip n (now (lines .entry)) (now (left .entry)) (now (plan .entry))
+        (now (left .exit)) (now (plan .exit)) (now (counts .exit)) ⌝ }
 {
     let mut i = 0;
     while i < n {
@@ -53,7 +54,8 @@ fn take_lines(
     counts: &mut [u64],
 )
     requires { ⌜ RoundReady tip (now left) (now plan) (now counts) (now unions) (now blocks) (now lines) ⌝ }
-    ensures { λ _. ⌜ RoundDone tip (now (left .entry)) (now (plan .entry)) (now (left .exit)) (now (plan .exit)) (now (counts .exit)) (now (unions .exit)) ⌝ }
+    ensures { λ _. ⌜ RoundDone tip (now (left .entry)) (now (plan .entry))
+        (now (left .exit)) (now (plan .exit)) (now (counts .exit)) (now (unions .exit)) ⌝ }
 {
     let all = (left.len() + 7) / 8;
     let hit = blocks::add_places(tip, 0, all, unions, 0, blocks);

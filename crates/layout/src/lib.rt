@@ -9,7 +9,7 @@ ghost use Rattle.model.specs.Plan.{Domain};
 ghost use Rattle.model.specs.Choice.{tip};
 ghost use Rattle.model.specs.Interval.{any, planOf};
 ghost use Rattle.head.specs.OnHead.{onHead};
-ghost use Rattle.layout.specs.Picks.{mostBy, splitBy, lowestBy, pickBy, Ready, Filled};
+ghost use Rattle.layout.specs.Picks.{mostBy, splitBy, lowestBy, pickBy, Ready, Filled, Layable};
 ghost use Rattle.layout.specs.Owners.{ownersSize, ownerOf, owned, laid};
 use head::Mounted;
 
@@ -143,7 +143,7 @@ fn lay_interval(
     w: usize,
     owner: &mut [u8],
 )
-    requires { ⌜ Filled m (now sums) (now table) × (a + w ≤ m) × (length (now owner) ≡ ownersSize) ⌝ }
+    requires { ⌜ Layable m (now sums) (now table) a w (now owner) ⌝ }
     ensures { λ _. ⌜ now (owner .exit) ≡ laid (pickBy (onHead mounted) m (now (sums .entry)) (now (table .entry))) a w (now (owner .entry)) ⌝ }
 {
     if 0 < w {
@@ -163,7 +163,7 @@ fn lay_tip(
     i: usize,
     owner: &mut [u8],
 )
-    requires { ⌜ Filled m (now sums) (now table) × (a + w ≤ m) × (i < w) × (i ≡ pickBy (onHead mounted) m (now sums) (now table) a w) × (length (now owner) ≡ ownersSize) ⌝ }
+    requires { ⌜ Layable m (now sums) (now table) a w (now owner) × (i < w) × (i ≡ pickBy (onHead mounted) m (now sums) (now table) a w) ⌝ }
     ensures { λ _. ⌜ now (owner .exit) ≡ laid (pickBy (onHead mounted) m (now (sums .entry)) (now (table .entry))) a w (now (owner .entry)) ⌝ }
 {
     own_runs(a, w, i, owner);

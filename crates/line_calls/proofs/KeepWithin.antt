@@ -5,8 +5,7 @@ use mathlib.Core.Logic.{_↔_, ⊎-elim}
 use mathlib.Core.Bool.{Bool, true, false, cond, true≢false}
 use mathlib.Core.List.{List, _++_}
 use native.Mathlib.Omega.{arith}
-use lib.Dec.{T}
-use lib.IntN.{ℤ, pos, negsuc}
+use lib.IntN.{ℤ, pos}
 use lib.ListN.{length, take, drop, take-append-drop}
 use lib.Signed.{mag}
 use mir.Syntax.{w32}
@@ -20,8 +19,8 @@ use Rattle.model.proofs.Exact.{prune-exact, prune-else}
 use Rattle.model.proofs.Occ.{top-length}
 use Rattle.common_tip.proofs.ZeroMargin.{read-back}
 use Rattle.refusal.specs.declared.Refusal.{Refusal}
-use Rattle.refusal.specs.Refusal.{none, accepts, orElse, when, lentBy}
-use Rattle.refusal.proofs.Laws.{or-first, when-taken}
+use Rattle.refusal.specs.Refusal.{accepts, orElse, when, lentBy}
+use Rattle.refusal.proofs.Laws.{when-taken}
 use Rattle.call_refusals.specs.Calls.{isNegative, keepRefusal}
 use Rattle.call_refusals.proofs.Calls.{keep-none}
 use Rattle.line_calls.specs.declared.KeepAnswer.{KeepAnswer}
@@ -98,9 +97,10 @@ module _ (earlier : Refusal) {m : ℕ} {lines : List ℕ} (k : ℕ) (good : earl
       let g = good free in
       let some = within-iff (g .some) (g .domains) k in
       let neg = negative-iff m lines k in
+      let few = le-or-lt (length lines) (top m lines + k) in
       rw (eq-eqb (earlier .number) 0 free) (
         λ z plan v w. omega (arith, neg .0 (when-taken (isNegative (margin m lines k)) 26 (omega (arith, z))), some .0 (plan, v, w)),
-        λ f. rw (neg .1 (⊎-elim (λ h. let (plan, v, w) = some .1 h in absurd (f plan v w)) (λ h. h) (le-or-lt (length lines) (top m lines + k)))) refl,
+        λ f. rw (neg .1 (⊎-elim (λ h. let (plan, v, w) = some .1 h in absurd (f plan v w)) (λ h. h) few)) refl,
       )
 
   -- the kept lines are as many

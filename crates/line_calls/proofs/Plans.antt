@@ -1,11 +1,9 @@
 -- Quick and best sharing of lines: what they answer and leave, refused and accepted, and the rules of the plans handed out.
-use Prim.Native.Nat.{ℕ, _*_, _≤_}
-use mathlib.Core.Path.{_≡_, refl, sym, ap, _∙_}
+use Prim.Native.Nat.{ℕ, _*_}
+use mathlib.Core.Path.{_≡_, refl, sym, _∙_}
 use mathlib.Core.List.{List, _++_}
-use native.Mathlib.Omega.{arith}
-use lib.ListN.{length, take, drop}
+use lib.ListN.{length, drop}
 use lib.Seq.{take-at}
-use borrow.Author.Tests.{eq-eqb, ne-eqb}
 use Rattle.model.specs.Limits.{GoodLines}
 use Rattle.model.specs.Plan.{Valid, pairs}
 use Rattle.model.specs.Choice.{bare}
@@ -17,8 +15,7 @@ use Rattle.model.proofs.Best.{best-valid, best-pairs, best}
 use Rattle.model.proofs.Unbroken.{unbroken-runs}
 use Rattle.table.specs.Cells.{Runs}
 use Rattle.refusal.specs.declared.Refusal.{Refusal}
-use Rattle.refusal.specs.Refusal.{told}
-use Rattle.refusal.proofs.Laws.{number-of, number-not, or-same, refused, accepted, lent-refused, lent-accepted}
+use Rattle.refusal.proofs.Laws.{number-of, or-same, refused, accepted, lent-refused, lent-accepted}
 use Rattle.call_refusals.specs.Calls.{planRefusal, bestRefusal}
 use Rattle.call_refusals.proofs.Calls.{best-none}
 use Rattle.line_calls.specs.declared.PlanAnswer.{PlanAnswer}
@@ -49,7 +46,9 @@ module _ (earlier : Refusal) (m : ℕ) (lines old : List ℕ) {n : ℕ} {d : Ref
 
   -- the three clauses of quick sharing, for what the code answers and leaves
   abbrev Quick : PlanAnswer → List ℕ → Type 0
-  Quick r last = (r ≡ quickOf earlier m lines (length old)) × ((last ≡ quickBuffer earlier m lines old) × HalfRule lines last (r .refusal .number) (r .pairs))
+  Quick r last =
+      (r ≡ quickOf earlier m lines (length old))
+      × ((last ≡ quickBuffer earlier m lines old) × HalfRule lines last (r .refusal .number) (r .pairs))
 
   pub quick-refused : (d .number ≡ 0 → ⊥) → Quick (record { refusal = d; pairs = 0 }) old
   unfolding quickOf quickBuffer

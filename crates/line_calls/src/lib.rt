@@ -110,8 +110,10 @@ pub fn best(
 ) -> PlanAnswer
     requires { ⌜ Given earlier rack count (now sets) ⌝ }
     ensures answer { λ r. ⌜ r ≡ bestOf earlier rack (take count (now (sets .entry))) (length (now (plan .entry))) (length (now (table .entry))) ⌝ }
-    ensures plan { λ _. ⌜ now (plan .exit) ≡ bestBuffer earlier rack (take count (now (sets .entry))) (now (plan .entry)) (length (now (table .entry))) ⌝ }
-    ensures table { λ _. ⌜ now (table .exit) ≡ bestTable earlier rack (take count (now (sets .entry))) (length (now (plan .entry))) (now (table .entry)) ⌝ }
+    ensures plan { λ _. ⌜ now (plan .exit) ≡ bestBuffer earlier rack (take count (now (sets .entry)))
+        (now (plan .entry)) (length (now (table .entry))) ⌝ }
+    ensures table { λ _. ⌜ now (table .exit) ≡ bestTable earlier rack (take count (now (sets .entry)))
+        (length (now (plan .entry))) (now (table .entry)) ⌝ }
     ensures rule { λ r. ⌜ BestRule (take count (now (sets .entry))) (now (plan .exit)) (r .refusal .number) (r .pairs) ⌝ }
 {
     let refusal = call_refusals::best_refusal(earlier, rack, count, sets, plan.len(), table.len());
