@@ -17,10 +17,8 @@ use Rattle.model.specs.Count.{largest, lowestAt}
 use Rattle.model.specs.Plan.{has}
 use Rattle.model.specs.Interval.{low}
 use Rattle.model.specs.CommonTip.{setOf, top, W}
-use Rattle.model.specs.Choice.{bare, choice}
-use Rattle.model.specs.Greedy.{busiest}
 use Rattle.model.proofs.Tests.{test, le-or-lt, same-test, and-left, and-right, and-in, eqb-T}
-use Rattle.model.proofs.Largest.{largest-cong, largest-ge, largest-lt, largest-zero, lowest-lt, lowest-attains, lowest-first, lowest-cong}
+use Rattle.model.proofs.Largest.{largest-cong, largest-ge, largest-lt, largest-zero, lowest-lt, lowest-attains, lowest-first}
 use Rattle.model.proofs.Sets.{has-some, setOf-lt, setOf-cong, setOf-all, setOf-none, setOf-some, setOf-empty, has-setOf, and-setOf}
 use Rattle.model.proofs.Run.{low-le, low-tip}
 use Rattle.counts.specs.Counts.{planeCount, digit, countAt, busyTips, Counts}
@@ -217,10 +215,6 @@ module _ {lines planes : List ℕ} (c : Counts lines planes) (m : ℕ) where
   pub largest-top : largest (countAt planes) m ≡ top m lines
   unfolding top
   largest-top = largest-cong _ _ m (λ t _. c .counted t)
-
-  pub lowest-busiest : lowestAt (countAt planes) m ≡ busiest bare lines m
-  unfolding busiest choice
-  lowest-busiest = lowest-cong _ _ m (λ t _. c .counted t)
 
   pub tips-W : {n : ℕ} → n ≡ top m lines → busyTips (countAt planes) n m ≡ W m lines
   unfolding W

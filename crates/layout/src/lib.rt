@@ -133,7 +133,7 @@ fn plan_owners(m: usize, lines: &[u64], owner: &[u8], plan: &mut [u8])
     }
 }
 
-// An interval, which document 01 calls a stretch, is laid by its tip.
+// An interval, which RULES calls a stretch, is laid by its tip.
 fn lay_interval(
     m: usize,
     mounted: Mounted,
