@@ -3,7 +3,7 @@
  * down as lines are planned; best sharing counts lines by lowest and highest tip, sums the counts in two directions
  * and has m^3/6 steps. The contiguous inner loops are written so that the compiler puts them into vector instructions.
  */
-#include "baseline.h"
+#include "libraries.h"
 
 #include "job.h"
 
@@ -235,96 +235,60 @@ uint32_t baseline_read(const uint8_t *file, size_t file_len, uint64_t *answer, s
 
 uint32_t baseline_common(const uint8_t *file, size_t file_len, uint64_t *answer, size_t answer_len)
 {
-    if (answer_len < TIPSHARE_ANSWER_PLACES) {
-        return TIPSHARE_SHORT_ANSWER;
-    }
     uint64_t sets[kMostLines];
-    const Job job = read_sets(file, file_len, sets);
-    if (job.number != TIPSHARE_ACCEPTED) {
-        return refused(answer, job.number, job.line);
-    }
-    Occurrences occurrences;
-    count_all(sets, job.count, occurrences);
-    const Common common = common_tip(occurrences);
-    return answered(answer, TIPSHARE_ACCEPTED, 0, common.top, job.count - common.top, common.tips);
+    const auto read = [&] { return read_sets(file, file_len, sets); };
+    return answer_with(answer, answer_len, read, [&](const Job &job) {
+        Occurrences occurrences;
+        count_all(sets, job.count, occurrences);
+        const Common common = common_tip(occurrences);
+        return answered(answer, TIPSHARE_ACCEPTED, 0, common.top, job.count - common.top, common.tips);
+    });
 }
 
 uint32_t baseline_keep(const uint8_t *file, size_t file_len, uint16_t k, uint8_t *out, size_t out_len,
                        uint64_t *answer, size_t answer_len)
 {
-    if (answer_len < TIPSHARE_ANSWER_PLACES) {
-        return TIPSHARE_SHORT_ANSWER;
-    }
     uint64_t sets[kMostLines];
-    const Job job = read_sets(file, file_len, sets);
-    if (job.number != TIPSHARE_ACCEPTED) {
-        return refused(answer, job.number, job.line);
-    }
-    Occurrences occurrences;
-    count_all(sets, job.count, occurrences);
-    const Common common = common_tip(occurrences);
-    const int64_t margin = int64_t{common.top} - static_cast<int64_t>(job.count) + k;
-    if (margin < 0) {
-        return answered(answer, TIPSHARE_NO_PLAN, 0, static_cast<uint64_t>(margin), 0, 0);
-    }
-    if (out_len < file_len) {
-        return refused(answer, TIPSHARE_SHORT_OUTPUT);
-    }
-    if (margin > 0) {
-        memcpy(out, file, file_len);
-    } else {
-        memcpy(out, file, kHead);
-        for (size_t line = 0; line < job.count; line++) {
-            const uint64_t set = sets[line];
-            const uint64_t kept = __builtin_bswap64((set & common.tips) == common.tips ? common.tips : set);
-            memcpy(out + kHead + 8 * line, &kept, sizeof kept);
-        }
-    }
-    return answered(answer, TIPSHARE_ACCEPTED, 0, static_cast<uint64_t>(margin), file_len, 0);
+    const auto read = [&] { return read_sets(file, file_len, sets); };
+    return answer_with(answer, answer_len, read, [&](const Job &job) {
+        Occurrences occurrences;
+        count_all(sets, job.count, occurrences);
+        const Common common = common_tip(occurrences);
+        return answer_keep(file, file_len, {k, out, out_len}, job, common.top, answer, [&](uint8_t *to) {
+            for (size_t line = 0; line < job.count; line++) {
+                const uint64_t set = sets[line];
+                const uint64_t kept = __builtin_bswap64((set & common.tips) == common.tips ? common.tips : set);
+                memcpy(to + kHead + 8 * line, &kept, sizeof kept);
+            }
+        });
+    });
 }
 
 uint32_t baseline_quick(const uint8_t *file, size_t file_len, uint8_t *plan, size_t plan_len, uint64_t *answer,
                         size_t answer_len)
 {
-    if (answer_len < TIPSHARE_ANSWER_PLACES) {
-        return TIPSHARE_SHORT_ANSWER;
-    }
     uint64_t sets[kMostLines];
-    const Job job = read_sets(file, file_len, sets);
-    if (job.number != TIPSHARE_ACCEPTED) {
-        return refused(answer, job.number, job.line);
-    }
-    if (plan_len < job.count) {
-        return refused(answer, TIPSHARE_SHORT_PLAN);
-    }
-    Occurrences occurrences;
-    LinesOf lines_of;
-    count_and_list(sets, job, occurrences, lines_of);
-    return answered(answer, TIPSHARE_ACCEPTED, 0, quick(sets, job, occurrences, lines_of, plan), 0, 0);
+    const auto read = [&] { return read_sets(file, file_len, sets); };
+    return answer_with(answer, answer_len, read, [&](const Job &job) {
+        if (plan_len < job.count) {
+            return refused(answer, TIPSHARE_SHORT_PLAN);
+        }
+        Occurrences occurrences;
+        LinesOf lines_of;
+        count_and_list(sets, job, occurrences, lines_of);
+        return answered(answer, TIPSHARE_ACCEPTED, 0, quick(sets, job, occurrences, lines_of, plan), 0, 0);
+    });
 }
 
 uint32_t baseline_best(const uint8_t *file, size_t file_len, uint8_t *plan, size_t plan_len, uint32_t *table,
                        size_t table_len, uint64_t *answer, size_t answer_len)
 {
-    if (answer_len < TIPSHARE_ANSWER_PLACES) {
-        return TIPSHARE_SHORT_ANSWER;
-    }
     uint64_t sets[kMostLines];
-    const Job job = read_sets(file, file_len, sets);
-    if (job.number != TIPSHARE_ACCEPTED) {
-        return refused(answer, job.number, job.line);
-    }
-    if (plan_len < job.count) {
-        return refused(answer, TIPSHARE_SHORT_PLAN);
-    }
-    if (table_len < job.rack * job.rack) {
-        return refused(answer, TIPSHARE_SHORT_TABLE);
-    }
-    const size_t no_run = first_no_run(sets, job.count);
-    if (no_run < job.count) {
-        return refused(answer, TIPSHARE_NO_RUN, no_run);
-    }
-    return answered(answer, TIPSHARE_ACCEPTED, 0, best(sets, job, plan, table), 0, 0);
+    const auto read = [&] { return read_sets(file, file_len, sets); };
+    return answer_with(answer, answer_len, read, [&](const Job &job) {
+        const auto pairs = [&] { return best(sets, job, plan, table); };
+        return answer_best(sets, job, plan_len, table_len, answer, pairs);
+    });
 }
 
 size_t baseline_report(const uint8_t *file, size_t file_len, uint8_t *out, size_t out_len)

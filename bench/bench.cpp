@@ -9,10 +9,8 @@
 #include <string>
 #include <vector>
 
-#include "baseline.h"
 #include "boards.h"
-#include "tipshare.h"
-#include "tuned.h"
+#include "libraries.h"
 
 namespace {
 

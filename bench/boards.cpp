@@ -4,6 +4,8 @@
 #include <functional>
 #include <utility>
 
+#include "job.h"
+
 namespace {
 
 /* A splitmix64 generator. */
@@ -82,18 +84,10 @@ uint16_t least_bound(const std::vector<uint64_t> &sets)
     return static_cast<uint16_t>(sets.size() - top);
 }
 
-bool is_run(uint64_t set) { return (set & (set + (set & -set))) == 0; }
-
 File file_of(const std::vector<uint64_t> &sets, size_t rack)
 {
-    std::vector<uint8_t> bytes{'T', 'I', 'P', 0, 1, static_cast<uint8_t>(rack)};
-    bytes.push_back(static_cast<uint8_t>(sets.size() >> 8));
-    bytes.push_back(static_cast<uint8_t>(sets.size()));
-    for (const uint64_t set : sets) {
-        for (int shift = 56; shift >= 0; shift -= 8) {
-            bytes.push_back(static_cast<uint8_t>(set >> shift));
-        }
-    }
+    std::vector<uint8_t> bytes(TIPSHARE_LONGEST_FILE);
+    bytes.resize(job::write_file(bytes.data(), rack, sets.data(), sets.size()));
     return {std::move(bytes), least_bound(sets)};
 }
 
@@ -109,7 +103,7 @@ Boards boards_of(std::string name, std::string description, size_t lines, size_t
         for (size_t line = lines; line > 1; line--) {
             std::swap(sets[line - 1], sets[random.from_to(0, line - 1)]);
         }
-        boards.runs = boards.runs && std::all_of(sets.begin(), sets.end(), is_run);
+        boards.runs = boards.runs && job::first_no_run(sets.data(), lines) == lines;
         boards.files.push_back(file_of(sets, rack));
     }
     return boards;

@@ -1,5 +1,5 @@
 /*
- * What the hand-written implementations share: reading a job file, answering, and the text of a report.
+ * What the hand-written implementations share: a job file read and written, answering, and the text of a report.
  * The rules are those of include/tipshare.h.
  */
 #pragma once
@@ -83,30 +83,9 @@ inline Job read_head(const uint8_t *file, size_t length)
     }
 }
 
-/* Reads the file and lays the set of each line in sets. */
-inline Job read_sets(const uint8_t *file, size_t length, uint64_t *__restrict sets)
-{
-    const Job job = read_head(file, length);
-    if (job.number != TIPSHARE_ACCEPTED) {
-        return job;
-    }
-    uint64_t joined = 0;
-    unsigned empty = 0;
-#pragma GCC unroll 4
-    for (size_t line = 0; line < job.count; line++) {
-        const uint64_t set = __builtin_bswap64(raw_set(file, line));
-        sets[line] = set;
-        joined |= set;
-        empty += set < 1;
-    }
-    if ((joined & outside(job.rack)) != 0 || empty != 0) {
-        return first_bad_line(file, job);
-    }
-    return job;
-}
-
-/* Reads the file and keeps no set. */
-inline Job read_only(const uint8_t *file, size_t length)
+/* Reads the file and hands each set, as its bytes stand, to take. */
+template <typename Take>
+[[gnu::always_inline]] inline Job read_lines(const uint8_t *file, size_t length, const Take &take)
 {
     const Job job = read_head(file, length);
     if (job.number != TIPSHARE_ACCEPTED) {
@@ -117,6 +96,7 @@ inline Job read_only(const uint8_t *file, size_t length)
 #pragma GCC unroll 4
     for (size_t line = 0; line < job.count; line++) {
         const uint64_t raw = raw_set(file, line);
+        take(line, raw);
         joined |= raw;
         empty += raw < 1;
     }
@@ -124,6 +104,37 @@ inline Job read_only(const uint8_t *file, size_t length)
         return first_bad_line(file, job);
     }
     return job;
+}
+
+/* Reads the file and lays the set of each line in sets. */
+inline Job read_sets(const uint8_t *file, size_t length, uint64_t *__restrict sets)
+{
+    return read_lines(file, length, [=](size_t line, uint64_t raw) { sets[line] = __builtin_bswap64(raw); });
+}
+
+/* Reads the file and keeps no set. */
+inline Job read_only(const uint8_t *file, size_t length)
+{
+    return read_lines(file, length, [](size_t, uint64_t) {});
+}
+
+/* Writes the job file of these sets, which takes kHead + 8 * count bytes, and gives its length. */
+inline size_t write_file(uint8_t *out, size_t rack, const uint64_t *sets, size_t count)
+{
+    const uint8_t head[kHead] = {'T',
+                                 'I',
+                                 'P',
+                                 0,
+                                 1,
+                                 static_cast<uint8_t>(rack),
+                                 static_cast<uint8_t>(count >> 8),
+                                 static_cast<uint8_t>(count)};
+    memcpy(out, head, sizeof head);
+    for (size_t line = 0; line < count; line++) {
+        const uint64_t raw = __builtin_bswap64(sets[line]);
+        memcpy(out + kHead + 8 * line, &raw, sizeof raw);
+    }
+    return kHead + 8 * count;
 }
 
 /* The bytes of a file that a report takes: one more than the longest good file has. */
@@ -147,6 +158,50 @@ inline uint32_t refused(uint64_t *answer, uint32_t number, uint64_t line = 0)
     return answered(answer, number, line, 0, 0, 0);
 }
 
+/* Answers a call: refused where the answer is short or the file not good, else by work. */
+template <typename Read, typename Work>
+[[gnu::always_inline]] inline uint32_t answer_with(uint64_t *answer, size_t answer_len, const Read &read,
+                                                   const Work &work)
+{
+    if (answer_len < TIPSHARE_ANSWER_PLACES) {
+        return TIPSHARE_SHORT_ANSWER;
+    }
+    const Job job = read();
+    if (job.number != TIPSHARE_ACCEPTED) {
+        return refused(answer, job.number, job.line);
+    }
+    return work(job);
+}
+
+/* What keep lends. */
+struct Keep {
+    uint16_t k;
+    uint8_t *out;
+    size_t out_len;
+};
+
+/* Answers keep on a good file, where one tip takes top lines; strike writes the sets at margin 0. */
+template <typename Strike>
+[[gnu::always_inline]] inline uint32_t answer_keep(const uint8_t *file, size_t file_len, const Keep &keep,
+                                                   const Job &job, unsigned top, uint64_t *answer,
+                                                   const Strike &strike)
+{
+    const int64_t margin = int64_t{top} - static_cast<int64_t>(job.count) + keep.k;
+    if (margin < 0) {
+        return answered(answer, TIPSHARE_NO_PLAN, 0, static_cast<uint64_t>(margin), 0, 0);
+    }
+    if (keep.out_len < file_len) {
+        return refused(answer, TIPSHARE_SHORT_OUTPUT);
+    }
+    if (margin > 0) {
+        memcpy(keep.out, file, file_len);
+    } else {
+        memcpy(keep.out, file, kHead);
+        strike(keep.out);
+    }
+    return answered(answer, TIPSHARE_ACCEPTED, 0, static_cast<uint64_t>(margin), file_len, 0);
+}
+
 /* The line that is no run, or count. Adding its lowest tip carries a run past its highest and leaves no tip behind. */
 inline size_t first_no_run(const uint64_t *sets, size_t count)
 {
@@ -155,6 +210,24 @@ inline size_t first_no_run(const uint64_t *sets, size_t count)
         line++;
     }
     return line;
+}
+
+/* Answers best sharing on a good file: refused by a short buffer or a line that is no run, else by pairs. */
+template <typename Pairs>
+[[gnu::always_inline]] inline uint32_t answer_best(const uint64_t *sets, const Job &job, size_t plan_len,
+                                                   size_t table_len, uint64_t *answer, const Pairs &pairs)
+{
+    if (plan_len < job.count) {
+        return refused(answer, TIPSHARE_SHORT_PLAN);
+    }
+    if (table_len < job.rack * job.rack) {
+        return refused(answer, TIPSHARE_SHORT_TABLE);
+    }
+    const size_t no_run = first_no_run(sets, job.count);
+    if (no_run < job.count) {
+        return refused(answer, TIPSHARE_NO_RUN, no_run);
+    }
+    return answered(answer, TIPSHARE_ACCEPTED, 0, pairs(), 0, 0);
 }
 
 /*

@@ -5,7 +5,7 @@
  * the lines of a tip in the transposed board. Best sharing goes by the length of the stretch, four stretches at once.
  * Sets are used as they stand in the file: the bit of tip t there is bit t ^ 56 of a 64-bit number.
  */
-#include "tuned.h"
+#include "libraries.h"
 
 #include <emmintrin.h>
 
@@ -426,93 +426,57 @@ uint32_t tuned_read(const uint8_t *file, size_t file_len, uint64_t *answer, size
 
 uint32_t tuned_common(const uint8_t *file, size_t file_len, uint64_t *answer, size_t answer_len)
 {
-    if (answer_len < TIPSHARE_ANSWER_PLACES) {
-        return TIPSHARE_SHORT_ANSWER;
-    }
-    const Job job = check(file, file_len);
-    if (job.number != TIPSHARE_ACCEPTED) {
-        return refused(answer, job.number, job.line);
-    }
-    Planes planes;
-    planes.count_file(file, job.count);
-    uint64_t tips;
-    const unsigned top = planes.largest(tips);
-    return answered(answer, TIPSHARE_ACCEPTED, 0, top, job.count - top, top == 0 ? 0 : __builtin_bswap64(tips));
+    const auto read = [&] { return check(file, file_len); };
+    return answer_with(answer, answer_len, read, [&](const Job &job) {
+        Planes planes;
+        planes.count_file(file, job.count);
+        uint64_t tips;
+        const unsigned top = planes.largest(tips);
+        return answered(answer, TIPSHARE_ACCEPTED, 0, top, job.count - top, top == 0 ? 0 : __builtin_bswap64(tips));
+    });
 }
 
 uint32_t tuned_keep(const uint8_t *file, size_t file_len, uint16_t k, uint8_t *out, size_t out_len,
                     uint64_t *answer, size_t answer_len)
 {
-    if (answer_len < TIPSHARE_ANSWER_PLACES) {
-        return TIPSHARE_SHORT_ANSWER;
-    }
-    const Job job = check(file, file_len);
-    if (job.number != TIPSHARE_ACCEPTED) {
-        return refused(answer, job.number, job.line);
-    }
-    Planes planes;
-    planes.count_file(file, job.count);
-    uint64_t tips;
-    const unsigned top = planes.largest(tips);
-    const int64_t margin = int64_t{top} - static_cast<int64_t>(job.count) + k;
-    if (margin < 0) {
-        return answered(answer, TIPSHARE_NO_PLAN, 0, static_cast<uint64_t>(margin), 0, 0);
-    }
-    if (out_len < file_len) {
-        return refused(answer, TIPSHARE_SHORT_OUTPUT);
-    }
-    if (margin > 0) {
-        memcpy(out, file, file_len);
-    } else {
-        memcpy(out, file, kHead);
-        strike(file, job.count, tips, out);
-    }
-    return answered(answer, TIPSHARE_ACCEPTED, 0, static_cast<uint64_t>(margin), file_len, 0);
+    const auto read = [&] { return check(file, file_len); };
+    return answer_with(answer, answer_len, read, [&](const Job &job) {
+        Planes planes;
+        planes.count_file(file, job.count);
+        uint64_t tips;
+        const unsigned top = planes.largest(tips);
+        const auto strike_them = [&](uint8_t *to) { strike(file, job.count, tips, to); };
+        return answer_keep(file, file_len, {k, out, out_len}, job, top, answer, strike_them);
+    });
 }
 
 uint32_t tuned_quick(const uint8_t *file, size_t file_len, uint8_t *plan, size_t plan_len, uint64_t *answer,
                      size_t answer_len)
 {
-    if (answer_len < TIPSHARE_ANSWER_PLACES) {
-        return TIPSHARE_SHORT_ANSWER;
-    }
-    const Job job = check(file, file_len);
-    if (job.number != TIPSHARE_ACCEPTED) {
-        return refused(answer, job.number, job.line);
-    }
-    if (plan_len < job.count) {
-        return refused(answer, TIPSHARE_SHORT_PLAN);
-    }
-    Planes planes;
-    planes.count_file(file, job.count);
-    return answered(answer, TIPSHARE_ACCEPTED, 0, quick(file, job, planes, plan), 0, 0);
+    const auto read = [&] { return check(file, file_len); };
+    return answer_with(answer, answer_len, read, [&](const Job &job) {
+        if (plan_len < job.count) {
+            return refused(answer, TIPSHARE_SHORT_PLAN);
+        }
+        Planes planes;
+        planes.count_file(file, job.count);
+        return answered(answer, TIPSHARE_ACCEPTED, 0, quick(file, job, planes, plan), 0, 0);
+    });
 }
 
 uint32_t tuned_best(const uint8_t *file, size_t file_len, uint8_t *plan, size_t plan_len, uint32_t *table,
                     size_t table_len, uint64_t *answer, size_t answer_len)
 {
-    if (answer_len < TIPSHARE_ANSWER_PLACES) {
-        return TIPSHARE_SHORT_ANSWER;
-    }
     uint64_t sets[kMostLines];
-    const Job job = read_sets(file, file_len, sets);
-    if (job.number != TIPSHARE_ACCEPTED) {
-        return refused(answer, job.number, job.line);
-    }
-    if (plan_len < job.count) {
-        return refused(answer, TIPSHARE_SHORT_PLAN);
-    }
-    if (table_len < job.rack * job.rack) {
-        return refused(answer, TIPSHARE_SHORT_TABLE);
-    }
-    const size_t no_run = first_no_run(sets, job.count);
-    if (no_run < job.count) {
-        return refused(answer, TIPSHARE_NO_RUN, no_run);
-    }
-    Stretches stretches(job.rack);
-    const uint32_t pairs = best(sets, job, stretches, plan);
-    stretches.write(table);
-    return answered(answer, TIPSHARE_ACCEPTED, 0, pairs, 0, 0);
+    const auto read = [&] { return read_sets(file, file_len, sets); };
+    return answer_with(answer, answer_len, read, [&](const Job &job) {
+        return answer_best(sets, job, plan_len, table_len, answer, [&] {
+            Stretches stretches(job.rack);
+            const uint32_t pairs = best(sets, job, stretches, plan);
+            stretches.write(table);
+            return pairs;
+        });
+    });
 }
 
 size_t tuned_report(const uint8_t *file, size_t file_len, uint8_t *out, size_t out_len)

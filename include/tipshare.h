@@ -8,8 +8,10 @@
  * tip of its set. A pair is two different lines on one tip.
  *
  * Every length counts elements, not bytes. No pointer may be null, not even
- * with length 0, and no two buffers of one call may overlap. A call keeps
- * nothing after it returns, so calls on different buffers may run at one time.
+ * with length 0, each is good for its length, and no two buffers of one call
+ * may overlap. A call needs up to 58 KB of stack (docs/PERFORMANCE.md), and
+ * keeps nothing after it returns, so calls on different buffers may run at one
+ * time. The rules in full are in docs/RULES.md.
  *
  * All functions but tipshare_report return 0 when the call is accepted, else a
  * number of the table below. They write the first 4 places of answer, also on

@@ -1,24 +1,8 @@
 //! Boards to compare on: every small one, and seeded ones of many shapes.
 
-use second::{Board, Stage, MOST_LINES};
+use second::Board;
 
 use crate::random::Random;
-
-/// The closed board of these lines.
-pub fn board_of(rack: usize, lines: &[u64]) -> Board {
-    let mut board = Board { rack, stage: Stage::Closed, count: lines.len(), sets: [0; MOST_LINES] };
-    board.sets[..lines.len()].copy_from_slice(lines);
-    board
-}
-
-/// The job file of a closed board.
-pub fn file_of(board: &Board) -> Vec<u8> {
-    let mut file = vec![0; second::LONGEST_FILE];
-    let written = board.clone().write(&mut file);
-    assert_eq!(written.number, 0, "only sound closed boards are compared");
-    file.truncate(written.value);
-    file
-}
 
 /// The set of the tips from first to last.
 fn run(first: usize, last: usize) -> u64 {
@@ -29,34 +13,37 @@ fn run(first: usize, last: usize) -> u64 {
 pub fn fixed_boards() -> Vec<Board> {
     let all = u64::MAX;
     let mut boards = vec![
-        board_of(3, &[0b001, 0b110]),
-        board_of(9, &[0x00E, 0x0F8, 0x1FF, 0x060]),
-        board_of(3, &[0b010, 0b100, 0b011, 0b101]),
-        board_of(3, &[0b001, 0b100, 0b011, 0b110]),
-        board_of(3, &[0b001, 0b001, 0b011, 0b011, 0b011, 0b110, 0b110, 0b110, 0b100, 0b100]),
-        board_of(3, &[0b011, 0b110, 0b100]),
-        board_of(3, &[0b110]),
-        board_of(1, &[]),
-        board_of(1, &[1]),
-        board_of(64, &[]),
-        board_of(64, &[all]),
-        board_of(64, &[1 << 63]),
-        board_of(64, &[1 << 63 | 1]),
-        board_of(1, &[1; 512]),
-        board_of(64, &[all; 512]),
-        board_of(64, &[1 << 63; 512]),
+        Board::of_lines(3, &[0b001, 0b110]),
+        Board::of_lines(9, &[0x00E, 0x0F8, 0x1FF, 0x060]),
+        Board::of_lines(3, &[0b010, 0b100, 0b011, 0b101]),
+        Board::of_lines(3, &[0b001, 0b100, 0b011, 0b110]),
+        Board::of_lines(3, &[0b001, 0b001, 0b011, 0b011, 0b011, 0b110, 0b110, 0b110, 0b100, 0b100]),
+        Board::of_lines(3, &[0b011, 0b110, 0b100]),
+        Board::of_lines(3, &[0b110]),
+        // Two lines that are no runs, and tip 63 struck at margin 0.
+        Board::of_lines(4, &[0b0101, 0b0010, 0b1010]),
+        Board::of_lines(64, &[0b11 << 62, 1 << 62, all]),
+        Board::of_lines(1, &[]),
+        Board::of_lines(1, &[1]),
+        Board::of_lines(64, &[]),
+        Board::of_lines(64, &[all]),
+        Board::of_lines(64, &[1 << 63]),
+        Board::of_lines(64, &[1 << 63 | 1]),
+        Board::of_lines(1, &[1; 512]),
+        Board::of_lines(64, &[all; 512]),
+        Board::of_lines(64, &[1 << 63; 512]),
     ];
+    // Only the last line loses tips, or is no run.
+    for last_line in [all, 0b101] {
+        let mut lines = [run(20, 40); 512];
+        lines[511] = last_line;
+        boards.push(Board::of_lines(64, &lines));
+    }
     // Every tip equally often, so that each round is a tie, once with runs and once without.
     let singles: Vec<u64> = (0..512).map(|line| 1 << (line % 64)).collect();
     let alternating: Vec<u64> = (0..512).map(|line| 0x5555_5555_5555_5555_u64.rotate_left(line % 64)).collect();
-    boards.push(board_of(64, &singles));
-    boards.push(board_of(64, &alternating));
-    // Only the last line is no run, or the only one without the common tip.
-    let mut last = [run(20, 40); 512];
-    last[511] = 0b101;
-    boards.push(board_of(64, &last));
-    last[511] = all;
-    boards.push(board_of(64, &last));
+    boards.push(Board::of_lines(64, &singles));
+    boards.push(Board::of_lines(64, &alternating));
     boards
 }
 
@@ -65,7 +52,7 @@ pub fn every_board<E>(rack: usize, lines: usize, hand_on: &mut dyn FnMut(Board) 
     let last = (1 << rack) - 1;
     let mut sets = vec![1; lines];
     loop {
-        hand_on(board_of(rack, &sets))?;
+        hand_on(Board::of_lines(rack, &sets))?;
         let Some(line) = sets.iter().position(|&set| set < last) else {
             return Ok(());
         };
@@ -99,7 +86,7 @@ pub fn seeded_board(random: &mut Random, size: Size) -> Board {
             (random.one_of(&[1, 64, any, any]), random.one_of(&[0, 511, 512, 512, lines, lines, lines]))
         }
     };
-    board_of(rack, &seeded_lines(random, rack, count))
+    Board::of_lines(rack, &seeded_lines(random, rack, count))
 }
 
 /// Lines of one seeded shape: with few or many ties, with or without runs.
@@ -182,7 +169,7 @@ mod tests {
                 let board = seeded_board(&mut Random::new(seed), size);
                 assert!(board.is_sound());
                 assert_eq!(board, seeded_board(&mut Random::new(seed), size));
-                assert_eq!(second::read(&file_of(&board)).board, board);
+                assert_eq!(second::read(&board.file()).board, board);
             }
         }
     }

@@ -2,9 +2,9 @@
 
 use std::fmt;
 
+use library::on_slices;
 use second::interface;
 
-use crate::library::on_slices;
 use crate::random::Random;
 
 /// Junk before and after each buffer, so that a write outside it is seen.
@@ -40,10 +40,10 @@ impl Call {
 
 /// A lent buffer with junk in it and around it, beginning at any address that fits its cells.
 #[derive(Clone, PartialEq)]
-struct Lent<T> {
-    cells: Vec<T>,
-    start: usize,
-    length: usize,
+pub struct Lent<T> {
+    pub(crate) cells: Vec<T>,
+    pub(crate) start: usize,
+    pub(crate) length: usize,
 }
 
 impl<T: Copy> Lent<T> {
@@ -56,19 +56,24 @@ impl<T: Copy> Lent<T> {
         Lent { cells: junk, start, length }
     }
 
-    fn inside(&mut self) -> &mut [T] {
+    /// The lent part.
+    pub(crate) fn inside(&mut self) -> &mut [T] {
         &mut self.cells[self.start..self.start + self.length]
     }
 }
 
 /// Everything that one call can reach.
 #[derive(Clone, PartialEq)]
-struct Buffers {
-    file: Lent<u8>,
-    bytes: Lent<u8>,
-    table: Lent<u32>,
-    answer: Lent<u64>,
+pub struct Buffers {
+    pub(crate) file: Lent<u8>,
+    /// The plan or the output.
+    pub(crate) bytes: Lent<u8>,
+    pub(crate) table: Lent<u32>,
+    pub(crate) answer: Lent<u64>,
 }
+
+/// What makes a call on lent buffers, and gives the returned number or the length of a report.
+pub type Caller = fn(&Call, &mut Buffers) -> u64;
 
 impl Buffers {
     fn new(file: &[u8], call: &Call, junk: u64) -> Buffers {
@@ -91,30 +96,29 @@ impl Buffers {
     }
 }
 
-fn call_library(call: &Call, lent: &mut Buffers) -> u64 {
-    let (file, bytes) = (lent.file.inside(), lent.bytes.inside());
-    let (table, answer) = (lent.table.inside(), lent.answer.inside());
-    match *call {
-        Call::Read { .. } => on_slices::read(file, answer).into(),
-        Call::Common { .. } => on_slices::common(file, answer).into(),
-        Call::Keep { k, .. } => on_slices::keep(file, k, bytes, answer).into(),
-        Call::Quick { .. } => on_slices::quick(file, bytes, answer).into(),
-        Call::Best { .. } => on_slices::best(file, bytes, table, answer).into(),
-        Call::Report { .. } => on_slices::report(file, bytes) as u64,
-    }
+/// A call made by the functions of one module.
+macro_rules! made_by {
+    ($module:ident, $call:expr, $lent:expr) => {{
+        let (file, bytes) = ($lent.file.inside(), $lent.bytes.inside());
+        let (table, answer) = ($lent.table.inside(), $lent.answer.inside());
+        match *$call {
+            Call::Read { .. } => $module::read(file, answer).into(),
+            Call::Common { .. } => $module::common(file, answer).into(),
+            Call::Keep { k, .. } => $module::keep(file, k, bytes, answer).into(),
+            Call::Quick { .. } => $module::quick(file, bytes, answer).into(),
+            Call::Best { .. } => $module::best(file, bytes, table, answer).into(),
+            Call::Report { .. } => $module::report(file, bytes) as u64,
+        }
+    }};
+}
+
+/// The call of the linked library.
+pub fn call_library(call: &Call, lent: &mut Buffers) -> u64 {
+    made_by!(on_slices, call, lent)
 }
 
 fn call_second(call: &Call, lent: &mut Buffers) -> u64 {
-    let (file, bytes) = (lent.file.inside(), lent.bytes.inside());
-    let (table, answer) = (lent.table.inside(), lent.answer.inside());
-    match *call {
-        Call::Read { .. } => interface::read(file, answer).into(),
-        Call::Common { .. } => interface::common(file, answer).into(),
-        Call::Keep { k, .. } => interface::keep(file, k, bytes, answer).into(),
-        Call::Quick { .. } => interface::quick(file, bytes, answer).into(),
-        Call::Best { .. } => interface::best(file, bytes, table, answer).into(),
-        Call::Report { .. } => interface::report(file, bytes) as u64,
-    }
+    made_by!(interface, call, lent)
 }
 
 /// What both implementations gave.
@@ -148,10 +152,10 @@ impl fmt::Display for Difference {
 }
 
 /// Makes one call in both implementations.
-pub fn compare(file: &[u8], call: &Call, junk: u64) -> Result<Outcome, Difference> {
+pub fn compare(library: Caller, file: &[u8], call: &Call, junk: u64) -> Result<Outcome, Difference> {
     let mut of_library = Buffers::new(file, call, junk);
     let mut of_second = of_library.clone();
-    let library = call_library(call, &mut of_library);
+    let library = library(call, &mut of_library);
     let second = call_second(call, &mut of_second);
     if library != second || of_library != of_second {
         let mut what = format!("{call:?}, junk {junk}\nreturned: library {library}, second {second}");

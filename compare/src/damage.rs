@@ -1,5 +1,6 @@
 //! Job files with something wrong in them.
 
+use second::file::{at_line, AT_COUNT, AT_RACK, AT_VERSION, HEAD, SET};
 use second::LONGEST_INPUT;
 
 use crate::random::Random;
@@ -7,20 +8,17 @@ use crate::random::Random;
 /// The kinds of damage.
 pub const KINDS: usize = 16;
 
-const RACK: usize = 5;
-const HEAD: usize = 8;
-
 /// The number of whole lines in a file.
 fn lines_in(file: &[u8]) -> usize {
-    file.len().saturating_sub(HEAD) / 8
+    file.len().saturating_sub(HEAD) / SET
 }
 
 fn put_count(file: &mut [u8], count: usize) {
-    file[6..8].copy_from_slice(&(count as u16).to_be_bytes());
+    file[AT_COUNT].copy_from_slice(&(count as u16).to_be_bytes());
 }
 
 fn put_line(file: &mut [u8], line: usize, set: u64) {
-    file[HEAD + 8 * line..HEAD + 8 * line + 8].copy_from_slice(&set.to_be_bytes());
+    file[at_line(line)].copy_from_slice(&set.to_be_bytes());
 }
 
 /// Damages one file in the given way, where it can be; a seeded choice settles the details.
@@ -29,7 +27,7 @@ pub fn damage(random: &mut Random, file: &mut Vec<u8>, kind: usize) {
         return;
     }
     let lines = lines_in(file);
-    let rack = usize::from(file[RACK]);
+    let rack = usize::from(file[AT_RACK]);
     match kind {
         // Cut within the head, and anywhere.
         0 => file.truncate(random.below(HEAD)),
@@ -46,9 +44,9 @@ pub fn damage(random: &mut Random, file: &mut Vec<u8>, kind: usize) {
         }
         4 => {
             let version = random.one_of(&[0, 2, 0x0100, 0x0101, 0x8001, 0xFFFF]);
-            file[3..5].copy_from_slice(&u16::to_be_bytes(version));
+            file[AT_VERSION].copy_from_slice(&u16::to_be_bytes(version));
         }
-        5 => file[RACK] = random.one_of(&[0, 65, 66, 128, 255]),
+        5 => file[AT_RACK] = random.one_of(&[0, 65, 66, 128, 255]),
         6 => {
             let any = random.from_to(513, 65_535);
             put_count(file, random.one_of(&[513, 514, 1024, 0x8000, 65_535, any]));
@@ -69,7 +67,7 @@ pub fn damage(random: &mut Random, file: &mut Vec<u8>, kind: usize) {
             put_line(file, (empty + random.from_to(1, lines - 1)) % lines, 1 << rack);
         }
         // A smaller rack than the lines were made for.
-        12 => file[RACK] = random.from_to(1, rack.clamp(1, 64)) as u8,
+        12 => file[AT_RACK] = random.from_to(1, rack.clamp(1, 64)) as u8,
         // One changed bit.
         13 => {
             let place = random.below(file.len());
@@ -111,7 +109,7 @@ mod tests {
 
     #[test]
     fn every_refusal_of_reading_is_reached() {
-        let file = crate::boards::file_of(&crate::boards::board_of(3, &[1, 2, 3, 7]));
+        let file = second::Board::of_lines(3, &[1, 2, 3, 7]).file();
         let mut seen = std::collections::BTreeSet::new();
         let mut random = Random::new(7);
         for _ in 0..1000 {

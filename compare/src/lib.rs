@@ -3,7 +3,7 @@
 pub mod boards;
 pub mod check;
 pub mod damage;
-pub mod library;
+pub mod mistakes;
 pub mod random;
 pub mod run;
 pub mod tally;

@@ -6,50 +6,83 @@ use std::time::Instant;
 use std::{env, fs};
 
 use compare::check::Difference;
+use compare::mistakes::mistakes;
 use compare::run::{compare_program, Run};
 
-const DEFAULT_CASES: u64 = 2_000_000;
+const DEFAULT_CASES: u64 = 300_000;
+/// The fixed and the small boards take some 200,000; with fewer there would be no seeded ones.
+const LEAST_CASES: u64 = 250_000;
+const DEFAULT_FILES: u64 = 2_000;
+const LEAST_FILES: u64 = 1_000;
 const DEFAULT_SEED: u64 = 1;
-const DEFAULT_PROGRAM_FILES: u64 = 2_000;
 
 const USAGE: &str = "\
-compare [--cases N] [--seed S] [--last FILE]   compare the library on at least N calls
-compare --hex FILE [--seed S]                  compare it on one job file, given as hex digits
-compare --program PROGRAM [--cases N]          compare what the program prints for N files
+compare [--cases N] [--seed S] [--last FILE]     compare the library on N calls, 300,000 without N, 250,000 at least
+compare --hex FILE [--seed S]                    compare it on one job file, given as hex digits
+compare --program PROGRAM [--files N]            compare what the program prints for N files, 2,000 without N,
+                                                 1,000 at least
+compare --self-test [--seed S]                   compare the library with a mistake put in, for each mistake that
+                                                 must be found
 --last FILE writes each job file to FILE before its calls, to find one that ends the program.";
 
 struct Settings {
-    cases: Option<u64>,
+    cases: u64,
+    files: u64,
     seed: u64,
     last: Option<PathBuf>,
     hex: Option<PathBuf>,
     program: Option<String>,
+    self_test: bool,
 }
 
-fn settings() -> Option<Settings> {
-    let mut settings = Settings { cases: None, seed: DEFAULT_SEED, last: None, hex: None, program: None };
+/// The settings of the command line, or what is wrong with it.
+fn settings() -> Result<Settings, String> {
+    let mut settings = Settings {
+        cases: DEFAULT_CASES,
+        files: DEFAULT_FILES,
+        seed: DEFAULT_SEED,
+        last: None,
+        hex: None,
+        program: None,
+        self_test: false,
+    };
     let mut arguments = env::args().skip(1);
     while let Some(name) = arguments.next() {
-        let value = arguments.next()?;
+        if name == "--self-test" {
+            settings.self_test = true;
+            continue;
+        }
+        let value = arguments.next().ok_or(USAGE)?;
         match name.as_str() {
-            "--cases" => settings.cases = Some(value.parse().ok()?),
-            "--seed" => settings.seed = value.parse().ok()?,
+            "--cases" => settings.cases = number(&name, &value, LEAST_CASES)?,
+            "--files" => settings.files = number(&name, &value, LEAST_FILES)?,
+            "--seed" => settings.seed = number(&name, &value, 0)?,
             "--last" => settings.last = Some(value.into()),
             "--hex" => settings.hex = Some(value.into()),
             "--program" => settings.program = Some(value),
-            _ => return None,
+            _ => return Err(USAGE.into()),
         }
     }
-    Some(settings)
+    Ok(settings)
+}
+
+fn number(name: &str, value: &str, least: u64) -> Result<u64, String> {
+    let number = value.parse().ok().filter(|&number| number >= least);
+    number.ok_or_else(|| format!("{name} takes a number from {least} on, and not {value}"))
 }
 
 fn main() -> ExitCode {
-    let Some(settings) = settings() else {
-        eprintln!("{USAGE}");
-        return ExitCode::from(2);
+    let settings = match settings() {
+        Ok(settings) => settings,
+        Err(why) => {
+            eprintln!("{why}");
+            return ExitCode::from(2);
+        }
     };
-    let result = if let Some(program) = &settings.program {
-        let files = settings.cases.unwrap_or(DEFAULT_PROGRAM_FILES);
+    let result = if settings.self_test {
+        return find_mistakes(&settings);
+    } else if let Some(program) = &settings.program {
+        let files = settings.files;
         compare_program(program, settings.seed, files).map(|()| println!("{program}: {files} files, no difference"))
     } else if let Some(path) = &settings.hex {
         let Some(file) = fs::read_to_string(path).ok().and_then(|text| bytes_of(&text)) else {
@@ -69,7 +102,7 @@ fn main() -> ExitCode {
 
 fn compare_library(settings: Settings) -> ExitCode {
     let start = Instant::now();
-    let mut run = Run::new(settings.seed, settings.cases.unwrap_or(DEFAULT_CASES), settings.last);
+    let mut run = Run::new(settings.seed, settings.cases, settings.last);
     let result = run.all();
     let seconds = start.elapsed().as_secs_f64();
     let tally = &run.tally;
@@ -88,6 +121,23 @@ fn compare_library(settings: Settings) -> ExitCode {
     }
     println!("no difference");
     ExitCode::SUCCESS
+}
+
+/// Every mistake put into the library must be found.
+fn find_mistakes(settings: &Settings) -> ExitCode {
+    let mut missed = 0;
+    for &(what, caller) in mistakes() {
+        let mut run = Run::new(settings.seed, settings.cases, None).with(caller);
+        let found = run.seeded().is_err();
+        missed += u32::from(!found);
+        println!("{} after {:>6} calls: {what}", if found { "found " } else { "MISSED" }, run.tally.cases);
+    }
+    println!("{} mistakes, {missed} missed", mistakes().count());
+    if missed == 0 {
+        ExitCode::SUCCESS
+    } else {
+        ExitCode::FAILURE
+    }
 }
 
 fn fail(difference: &Difference) -> ExitCode {

@@ -8,8 +8,8 @@ use std::{fs, io, thread};
 use second::interface::{ANSWER_PLACES, REPORT_SPACE};
 use second::{number_of_plans, pairs_in, read, try_every_plan, Board};
 
-use crate::boards::{every_board, file_of, fixed_boards, seeded_board, Size};
-use crate::check::{compare, Call, Difference, Outcome};
+use crate::boards::{every_board, fixed_boards, seeded_board, Size};
+use crate::check::{call_library, compare, Call, Caller, Difference, Outcome};
 use crate::damage::{damage, damaged, KINDS};
 use crate::random::Random;
 use crate::tally::{Event, Tally, SHORT_REPORT};
@@ -21,6 +21,8 @@ const MOST_PLANS_TRIED: u64 = 1000;
 const EVERY_BOARD_UP_TO: [(usize, usize); 6] = [(1, 6), (2, 5), (3, 4), (4, 3), (5, 2), (6, 2)];
 
 pub struct Run {
+    /// What is compared with the second implementation.
+    library: Caller,
     random: Random,
     /// Seeded boards are added until this many cases are done.
     least_cases: u64,
@@ -31,14 +33,17 @@ pub struct Run {
 
 impl Run {
     pub fn new(seed: u64, least_cases: u64, last_file: Option<PathBuf>) -> Run {
-        Run { random: Random::new(seed), least_cases, last_file, tally: Tally::default() }
+        Run { library: call_library, random: Random::new(seed), least_cases, last_file, tally: Tally::default() }
+    }
+
+    /// The same run with another caller in the place of the library.
+    pub fn with(self, library: Caller) -> Run {
+        Run { library, ..self }
     }
 
     /// Compares until enough cases are done; the fixed boards always are.
     pub fn all(&mut self) -> Result<(), Difference> {
-        for board in fixed_boards() {
-            self.fixed_board(&board)?;
-        }
+        self.fixed_boards()?;
         for (rack, most_lines) in EVERY_BOARD_UP_TO {
             for lines in 0..=most_lines {
                 every_board(rack, lines, &mut |board| {
@@ -49,6 +54,20 @@ impl Run {
                 })?;
             }
         }
+        self.seeded_boards()
+    }
+
+    /// The same without the small boards.
+    pub fn seeded(&mut self) -> Result<(), Difference> {
+        self.fixed_boards()?;
+        self.seeded_boards()
+    }
+
+    fn fixed_boards(&mut self) -> Result<(), Difference> {
+        fixed_boards().iter().try_for_each(|board| self.fixed_board(board))
+    }
+
+    fn seeded_boards(&mut self) -> Result<(), Difference> {
         while self.tally.cases < self.least_cases {
             self.seeded_board()?;
         }
@@ -69,7 +88,7 @@ impl Run {
     }
 
     fn fixed_board(&mut self, board: &Board) -> Result<(), Difference> {
-        let file = file_of(board);
+        let file = board.file();
         self.good_file(board, &file)?;
         self.each_length(board, &file)?;
         self.try_plans(board, &file)?;
@@ -122,7 +141,7 @@ impl Run {
     }
 
     fn small_board(&mut self, board: &Board) -> Result<(), Difference> {
-        let file = file_of(board);
+        let file = board.file();
         self.good_file(board, &file)?;
         self.try_plans(board, &file)
     }
@@ -135,7 +154,7 @@ impl Run {
             _ => Size::Small,
         };
         let board = seeded_board(&mut self.random, size);
-        let file = file_of(&board);
+        let file = board.file();
         self.good_file(&board, &file)?;
         if self.random.once_in(4) {
             self.try_plans(&board, &file)?;
@@ -215,7 +234,7 @@ impl Run {
 
     /// One call in both implementations.
     fn case(&mut self, file: &[u8], call: Call) -> Result<Outcome, Difference> {
-        let outcome = compare(file, &call, self.random.number())?;
+        let outcome = compare(self.library, file, &call, self.random.number())?;
         let number = match call {
             Call::Report { out } if out < REPORT_SPACE => SHORT_REPORT,
             Call::Report { .. } => refusal_in(&outcome.bytes),
@@ -360,13 +379,13 @@ fn is_own_plan(board: &Board, plan: &[u8]) -> bool {
 /// Compares what a program prints for good and damaged files with the second implementation's report.
 pub fn compare_program(program: &str, seed: u64, files: u64) -> Result<(), Difference> {
     let mut random = Random::new(seed);
-    let fixed: Vec<Vec<u8>> = fixed_boards().iter().map(file_of).collect();
+    let fixed: Vec<Vec<u8>> = fixed_boards().iter().map(Board::file).collect();
     for number in 0..files {
         let mut file = match fixed.get(number as usize) {
             Some(file) => file.clone(),
             None => {
                 let size = random.one_of(&[Size::Small, Size::Middle, Size::Long, Size::Large]);
-                file_of(&seeded_board(&mut random, size))
+                seeded_board(&mut random, size).file()
             }
         };
         if number % 3 == 2 {

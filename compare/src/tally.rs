@@ -149,3 +149,20 @@ impl fmt::Display for Tally {
         Ok(())
     }
 }
+
+#[cfg(test)]
+mod tests {
+    use super::*;
+
+    #[test]
+    fn what_never_occurred_is_missing() {
+        let mut tally = Tally::default();
+        let all = tally.missing().len();
+        // 0 and reading's 8 for 6 calls, 100 for 5, the short report; keep's 11, 26, quick's 4, best's 4, 5, 25.
+        assert_eq!(all, 6 * 9 + 5 + 1 + 6 + EVENTS.len());
+        tally.count_call(25, 4);
+        tally.count_event(Event::NoLines);
+        assert_eq!(tally.missing().len(), all - 2);
+        assert!(!tally.missing().contains(&"best with 25".to_string()));
+    }
+}

@@ -1,9 +1,9 @@
 /*
  * Calls each function of the tip sharing library on two boards.
  *
- * From the repository root:
- *   gcc -std=c11 -Wall -Wextra -Werror -Iinclude examples/c/example.c \
- *       target/staticlib/libtipshare_c.a -o target/example && target/example
+ * From the root of the repository, make example builds the library and this
+ * program, and runs it. A program of your own is built the same way:
+ *   gcc -Iinclude examples/c/example.c target/staticlib/libtipshare_c.a -o target/example
  */
 #include <inttypes.h>
 #include <stdio.h>

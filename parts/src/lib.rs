@@ -1,20 +1,13 @@
 //! Parts lists as text, job files as bytes, and what the proved library says of them.
 
+pub mod files;
 pub mod job;
 pub mod list;
+pub mod picture;
+pub mod planning;
 pub mod refusal;
 
-/// The proved library, where it was built before this program.
-#[cfg(proved_library)]
-#[path = "../../compare/src/library.rs"]
-pub mod library;
-#[cfg(proved_library)]
-pub mod planning;
-
-/// The largest rack size.
-pub const MOST_TIPS: usize = 64;
-/// The largest number of lines, which is one for each part of a list.
-pub const MOST_LINES: usize = 512;
+pub use second::{MOST_LINES, MOST_TIPS};
 
 /// A set of tips as numbers and ranges, rising, as `0 2 4-6`; `none` for the empty set.
 pub fn tips_in_words(set: u64) -> String {
@@ -36,6 +29,12 @@ pub fn tips_in_words(set: u64) -> String {
         words.push("none".into());
     }
     words.join(" ")
+}
+
+/// A number of things, as `1 pair` or `2 pairs`.
+fn counted(number: u64, thing: &str) -> String {
+    let ending = if number == 1 { "" } else { "s" };
+    format!("{number} {thing}{ending}")
 }
 
 #[cfg(test)]

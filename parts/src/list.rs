@@ -5,7 +5,10 @@ use std::collections::HashMap;
 use std::fmt;
 
 use crate::job::Job;
-use crate::{MOST_LINES, MOST_TIPS};
+use crate::{tips_in_words, MOST_LINES, MOST_TIPS};
+
+/// Columns that are meant as quantities, in capitals or not. `x` is none: it is where the part is placed.
+const QUANTITIES: [&str; 7] = ["qty", "quantity", "count", "amount", "pieces", "pcs", "n"];
 
 /// A parts list that keeps every rule.
 #[derive(Clone, PartialEq, Debug)]
@@ -28,7 +31,9 @@ pub struct Part {
     pub tips: u64,
     /// Its line in the text, counted from 1.
     pub line: usize,
-    /// Its line as it stands in the list, below the comments between it and the part above.
+    /// The comments and blank lines between the part above and it.
+    above: String,
+    /// Its line as it stands in the list.
     text: String,
 }
 
@@ -54,6 +59,7 @@ pub enum What {
     ColumnName(String),
     ColumnValue(String),
     ColumnAgain(String),
+    Quantity(String),
     NameAgain { name: String, line: usize },
     UnknownTip(String),
     RangeBackwards { first: String, last: String },
@@ -83,6 +89,11 @@ impl fmt::Display for What {
             What::ColumnName(word) => write!(to, "no column name in `{word}`; write it as height=0.9"),
             What::ColumnValue(word) => write!(to, "no number in `{word}`; write it as height=0.9"),
             What::ColumnAgain(column) => write!(to, "a second {column}; give each column once"),
+            What::Quantity(word) => write!(
+                to,
+                "`{word}` is a quantity, and quantities are not read yet; \
+                 write the part once for each placement, each time with its own name"
+            ),
             What::NameAgain { name, line } => {
                 write!(to, "the name {name} stands on line {line} already; give each part its own name")
             }
@@ -144,9 +155,46 @@ impl List {
             return Err(faults);
         }
         numbered.sort_by(|(one, _), (other, _)| one.partial_cmp(other).unwrap_or(Ordering::Equal));
-        let parts: String = numbered.iter().map(|(_, part)| part.text.as_str()).collect();
-        Ok(format!("{}{parts}{}", self.head, self.tail))
+        Ok(self.text_with(numbered.iter().map(|(_, part)| part.with_tips(part.tips))))
     }
+
+    /// The text of the list with other tips, a set a part; names, columns and comments stay.
+    pub fn with_tips(&self, sets: &[u64]) -> String {
+        self.text_with(self.parts.iter().zip(sets).map(|(part, &tips)| part.with_tips(tips)))
+    }
+
+    /// The text of the list with these texts of parts.
+    fn text_with(&self, parts: impl Iterator<Item = String>) -> String {
+        format!("{}{}{}", self.head, parts.collect::<String>(), self.tail)
+    }
+}
+
+impl Part {
+    /// What stands behind the `#` of its line.
+    pub fn comment(&self) -> &str {
+        self.text.split_once('#').map_or("", |(_, comment)| comment.trim())
+    }
+
+    /// Its lines with these tips, and as they stand in the list where these are its own.
+    fn with_tips(&self, tips: u64) -> String {
+        let mut text = self.text.clone();
+        if tips != self.tips {
+            let (before, after) = text.split_once(':').unwrap_or_default();
+            let place = after.find('#').unwrap_or(after.len());
+            let (written, comment) = after.split_at(place);
+            let gap = &written[..written.len() - written.trim_start().len()];
+            // Where there is room, comments stay below one another.
+            let width = written.trim_start().chars().count().saturating_sub(1);
+            let line = format!("{before}:{gap}{:width$} {comment}", tips_in_words(tips));
+            text = line.trim_end().into();
+        }
+        format!("{}{text}\n", self.above)
+    }
+}
+
+/// Whether a column of this name is meant as a quantity.
+pub fn is_quantity(column: &str) -> bool {
+    QUANTITIES.iter().any(|name| name.eq_ignore_ascii_case(column))
 }
 
 /// A list of which the lines up to some line are read.
@@ -197,7 +245,7 @@ impl Reading {
             self.list.head = std::mem::take(&mut self.above);
         }
         let above = std::mem::take(&mut self.above);
-        self.list.parts.push(Part { line, text: format!("{above}{text}\n"), ..part });
+        self.list.parts.push(Part { line, above, text: text.into(), ..part });
         Ok(())
     }
 }
@@ -270,13 +318,16 @@ fn part_of(content: &str, rack: usize) -> Result<Part, What> {
         if column.is_empty() {
             return Err(What::ColumnName(word.into()));
         }
+        if is_quantity(column) {
+            return Err(What::Quantity(word.into()));
+        }
         if columns.iter().any(|(earlier, _)| earlier == column) {
             return Err(What::ColumnAgain(column.into()));
         }
         let number = decimal_of(value).ok_or_else(|| What::ColumnValue(word.into()))?;
         columns.push((column.into(), number));
     }
-    Ok(Part { name, columns, tips: tips_of(after, rack)?, line: 0, text: String::new() })
+    Ok(Part { name, columns, tips: tips_of(after, rack)?, line: 0, above: String::new(), text: String::new() })
 }
 
 fn tips_of(text: &str, rack: usize) -> Result<u64, What> {

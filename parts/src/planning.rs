@@ -1,28 +1,50 @@
 //! What the proved library says of a job file, with the names of a parts list.
 
-use crate::job::Job;
-use crate::library::{self, CommonTip};
-use crate::{refusal, tips_in_words};
+use std::fmt::Display;
 
-/// A job file and the names of its lines, where a parts list gave them.
+use library::CommonTip;
+
+use crate::job::Job;
+use crate::list::List;
+use crate::{counted, refusal, tips_in_words};
+
+/// A job file, and the parts list that it was made from, where there is one.
 pub struct Named {
     pub file: Vec<u8>,
-    pub names: Vec<Option<String>>,
+    pub list: Option<List>,
 }
 
-/// What a keep prints, and the job file that is left.
+/// What a keep prints, and what is left as a job file and as the text of a parts list.
 pub struct Kept {
     pub text: String,
     pub file: Vec<u8>,
+    pub list: String,
+}
+
+/// A tip for each line, and how many pairs of lines share one.
+pub struct Plan {
+    pub pairs: u64,
+    pub tips: Vec<u8>,
+}
+
+/// Both plans of a job.
+pub struct Plans {
+    pub job: Job,
+    pub common: CommonTip,
+    pub quick: Plan,
+    /// The best plan, else the first line that is no run.
+    pub best: Result<Plan, usize>,
 }
 
 impl Named {
+    pub fn of_list(list: List) -> Named {
+        Named { file: list.job().write(), list: Some(list) }
+    }
+
     /// The name of a line, else its number.
-    fn label(&self, line: usize) -> String {
-        match self.names.get(line) {
-            Some(Some(name)) => name.clone(),
-            _ => format!("line {line}"),
-        }
+    pub fn label(&self, line: usize) -> String {
+        let name = self.list.as_ref().and_then(|list| list.parts[line].name.clone());
+        name.unwrap_or_else(|| format!("line {line}"))
     }
 
     fn refused(&self, refusal: library::Refusal) -> String {
@@ -42,39 +64,91 @@ impl Named {
             _ => self.refused(refusal),
         })?;
         file.truncate(kept.bytes as usize);
+        let before = job_of(&self.file)?.sets;
+        let after = job_of(&file)?;
         let mut text = in_words(common);
         text += &format!("k {k} margin {}\n", kept.margin);
-        let before = job_of(&self.file)?.sets;
-        let after = job_of(&file)?.sets;
-        for (line, (before, after)) in before.into_iter().zip(after).enumerate() {
+        let mut same = 0;
+        for (line, (&before, &after)) in before.iter().zip(&after.sets).enumerate() {
+            if before == after {
+                same += 1;
+                continue;
+            }
             let struck = tips_in_words(before & !after);
             text += &format!("{} keeps {} struck {struck}\n", self.label(line), tips_in_words(after));
         }
-        Ok(Kept { text, file })
+        text += &format!("no tip struck from {}\n", counted(same, "part"));
+        let list = self.list.as_ref().map_or_else(|| after.in_words(), |list| list.with_tips(&after.sets));
+        Ok(Kept { text, file, list })
     }
 
-    /// Both plans, line by line.
-    pub fn plan(&self) -> Result<String, String> {
+    /// Both plans.
+    pub fn plans(&self) -> Result<Plans, String> {
         let common = self.common()?;
-        let Job { rack, sets } = job_of(&self.file)?;
-        let mut quick_plan = vec![0; sets.len()];
-        let quick = library::quick(&self.file, &mut quick_plan).map_err(|refusal| self.refused(refusal))?;
-        let mut best_plan = vec![0; sets.len()];
-        let mut table = vec![0; rack * rack];
-        let best = library::best(&self.file, &mut best_plan, &mut table);
-        let mut text = format!("lines {} rack {rack}\n{}quick {quick}\n", sets.len(), in_words(common));
-        text += &match best {
-            Ok(pairs) => format!("best {pairs}\n"),
-            Err(refusal) if refusal.number == 25 => {
-                format!("best none, {} is no run\n", self.label(refusal.line as usize))
-            }
+        let job = job_of(&self.file)?;
+        let mut tips = vec![0; job.sets.len()];
+        let pairs = library::quick(&self.file, &mut tips).map_err(|refusal| self.refused(refusal))?;
+        let quick = Plan { pairs, tips };
+        let mut tips = vec![0; job.sets.len()];
+        let mut table = vec![0; job.rack * job.rack];
+        let best = match library::best(&self.file, &mut tips, &mut table) {
+            Ok(pairs) => Ok(Plan { pairs, tips }),
+            Err(refusal) if refusal.number == 25 => Err(refusal.line as usize),
             Err(refusal) => return Err(self.refused(refusal)),
         };
-        for line in 0..sets.len() {
-            let best_tip = if best.is_ok() { best_plan[line].to_string() } else { "-".into() };
-            text += &format!("{} quick {} best {best_tip}\n", self.label(line), quick_plan[line]);
+        Ok(Plans { job, common, quick, best })
+    }
+
+    /// Both plans line by line, and a summary.
+    pub fn plan(&self) -> Result<String, String> {
+        let plans = self.plans()?;
+        let lines = plans.job.sets.len();
+        let mut text = format!("lines {lines} rack {}\n{}", plans.job.rack, in_words(plans.common));
+        text += &format!("quick {}\n", plans.quick.pairs);
+        text += &match &plans.best {
+            Ok(best) => format!("best {}\n", best.pairs),
+            Err(line) => format!("best none, {} is no run\n", self.label(*line)),
+        };
+        for line in 0..lines {
+            text += &format!("{} {}\n", self.label(line), plans.each(|plan| plan.tips[line]));
         }
-        Ok(text)
+        Ok(text + "\n" + &plans.summary())
+    }
+}
+
+impl Plan {
+    /// The number of lines on a tip.
+    pub fn on_tip(&self, tip: usize) -> usize {
+        self.tips.iter().filter(|&&used| usize::from(used) == tip).count()
+    }
+
+    /// The number of tips that some line is on.
+    pub fn tips_used(&self, rack: usize) -> usize {
+        (0..rack).filter(|&tip| self.on_tip(tip) > 0).count()
+    }
+}
+
+impl Plans {
+    /// What each plan has, `-` where there is no best plan.
+    fn each<T: Display>(&self, of: impl Fn(&Plan) -> T) -> String {
+        let best = self.best.as_ref().map_or("-".into(), |best| of(best).to_string());
+        format!("quick {} best {best}", of(&self.quick))
+    }
+
+    /// Tips used, parts on each, pairs and tip changes.
+    fn summary(&self) -> String {
+        let rack = self.job.rack;
+        let mut text = format!("tips used {}\n", self.each(|plan| plan.tips_used(rack)));
+        for tip in 0..rack {
+            let best = self.best.as_ref().map_or(0, |best| best.on_tip(tip));
+            if self.quick.on_tip(tip) + best > 0 {
+                text += &format!("parts on tip {tip} {}\n", self.each(|plan| plan.on_tip(tip)));
+            }
+        }
+        text += &format!("pairs {}\n", self.each(|plan| plan.pairs));
+        // The first tip is mounted before the first part is placed.
+        let changes = self.each(|plan| plan.tips_used(rack).saturating_sub(1));
+        text + &format!("tip changes {changes}, parts placed tip by tip\n")
     }
 }
 

@@ -1,6 +1,9 @@
 //! The program as it is typed: output, messages and exit status.
 
+use std::fs::{self, File, OpenOptions};
 use std::io::Write;
+use std::os::unix::fs::{symlink, PermissionsExt};
+use std::path::{Path, PathBuf};
 use std::process::{Command, Stdio};
 
 const LIST: &str = "# board\nrack 3\nC1 height=2 : 0\nC2 height=1 : 1-2\n";
@@ -8,15 +11,21 @@ const EXAMPLE: [u8; 24] = *b"TIP\x00\x01\x03\x00\x02\x00\x00\x00\x00\x00\x00\x00
 
 /// What the program gives for these arguments and this input: output, messages and exit status.
 fn run(arguments: &[&str], input: &[u8]) -> (Vec<u8>, String, i32) {
-    let mut program = Command::new(env!("CARGO_BIN_EXE_parts"))
-        .args(arguments)
-        .stdin(Stdio::piped())
-        .stdout(Stdio::piped())
-        .stderr(Stdio::piped())
-        .spawn()
-        .expect("starting parts");
+    run_with(&mut program(arguments), input)
+}
+
+/// The program with these arguments, its input, output and messages through pipes.
+fn program(arguments: &[&str]) -> Command {
+    let mut program = Command::new(env!("CARGO_BIN_EXE_parts"));
+    program.args(arguments).stdin(Stdio::piped()).stdout(Stdio::piped()).stderr(Stdio::piped());
+    program
+}
+
+/// What the program gives for this input, which is of no use where another one was named before.
+fn run_with(program: &mut Command, input: &[u8]) -> (Vec<u8>, String, i32) {
+    let mut program = program.spawn().expect("starting parts");
     // A program that ends without reading closes its input.
-    let _ = program.stdin.take().unwrap().write_all(input);
+    let _ = program.stdin.take().map(|mut pipe| pipe.write_all(input));
     let output = program.wait_with_output().expect("running parts");
     (output.stdout, String::from_utf8(output.stderr).unwrap(), output.status.code().unwrap())
 }
@@ -27,6 +36,25 @@ fn given(output: &[u8]) -> (Vec<u8>, String, i32) {
 
 fn refused(why: &str) -> (Vec<u8>, String, i32) {
     (Vec::new(), format!("{why}\n"), 1)
+}
+
+fn wrong_argument(why: &str) -> (Vec<u8>, String, i32) {
+    (Vec::new(), format!("{why}\n"), 2)
+}
+
+/// An empty folder for the files of one test.
+fn folder(name: &str) -> PathBuf {
+    let folder = PathBuf::from(env!("CARGO_TARGET_TMPDIR")).join(name);
+    if folder.exists() {
+        fs::remove_dir_all(&folder).expect("removing the folder of an earlier run");
+    }
+    fs::create_dir(&folder).expect("making the folder");
+    folder
+}
+
+/// A file of a folder, as it is typed.
+fn typed(folder: &Path, name: &str) -> String {
+    folder.join(name).to_str().expect("a path of text").into()
 }
 
 #[test]
@@ -59,52 +87,297 @@ fn wrong_kinds_of_files_are_named() {
 }
 
 #[test]
-fn wrong_arguments_print_the_commands() {
-    for arguments in [&[][..], &["make"], &["make", "a", "b"], &["sort", "height"], &["help"], &["keep", "1"]] {
-        let (output, usage, status) = run(arguments, b"");
-        assert!(output.is_empty() && usage.starts_with("parts make LIST") && status == 2, "{arguments:?}");
+fn quantities_are_refused() {
+    let why = "-:2: `qty=40` is a quantity, and quantities are not read yet; \
+               write the part once for each placement, each time with its own name";
+    assert_eq!(run(&["make", "-"], b"rack 2\nR1 qty=40 : 0-1\n"), refused(why));
+    let why = "Qty is a quantity, and no list has one yet; name another column";
+    assert_eq!(run(&["sort", "Qty", "-"], LIST.as_bytes()), wrong_argument(why));
+}
+
+#[test]
+fn help_and_version_are_printed() {
+    let (page, messages, status) = run(&["--help"], b"");
+    let page = String::from_utf8(page).unwrap();
+    assert_eq!((messages.as_str(), status), ("", 0));
+    for command in COMMANDS {
+        assert!(page.contains(&format!("\nparts {command} ")), "{command}");
+    }
+    for arguments in [&["help"][..], &["-h"]] {
+        assert_eq!(run(arguments, b""), given(page.as_bytes()), "{arguments:?}");
+    }
+    let version = concat!("parts ", env!("CARGO_PKG_VERSION"), "\n");
+    assert_eq!(run(&["--version"], b""), given(version.as_bytes()));
+}
+
+const COMMANDS: [&str; 6] = ["make", "show", "sort", "keep", "plan", "picture"];
+
+#[test]
+fn every_command_has_a_page() {
+    for command in COMMANDS {
+        let (page, messages, status) = run(&[command, "--help"], b"");
+        assert_eq!((messages.as_str(), status), ("", 0), "{command}");
+        let text = String::from_utf8(page.clone()).unwrap();
+        assert!(text.starts_with(&format!("parts {command} ")) && text.lines().count() >= 5, "{text}");
+        for arguments in [&["help", command][..], &[command, "-h"], &[command, "1", "board.txt", "--help"]] {
+            assert_eq!(run(arguments, b""), given(&page), "{arguments:?}");
+        }
     }
 }
 
-#[cfg(proved_library)]
 #[test]
-fn keep_and_plan_take_lists_and_job_files() {
-    let by_name = b"off 1 tips 0 1 2\nk 1 margin 0\nC1 keeps 0 struck none\nC2 keeps 1-2 struck none\n";
-    let by_line = b"off 1 tips 0 1 2\nk 1 margin 0\nline 0 keeps 0 struck none\nline 1 keeps 1-2 struck none\n";
-    assert_eq!(run(&["keep", "1", "-"], LIST.as_bytes()), given(by_name));
-    assert_eq!(run(&["keep", "1", "-"], &EXAMPLE), given(by_line));
+fn wrong_arguments_print_the_usage_of_their_command() {
+    let cases: [(&[&str], &str); 16] = [
+        (&["make"], "make LIST"),
+        (&["make", "a", "b"], "make LIST"),
+        (&["make", "--list", "a"], "make LIST"),
+        (&["show"], "show JOB"),
+        (&["show", "--all"], "show JOB"),
+        (&["sort", "height"], "sort COLUMN LIST"),
+        (&["sort", "height", "a", "b"], "sort COLUMN LIST"),
+        (&["keep", "1"], "keep K FILE [JOB] [--list LIST]"),
+        (&["keep", "1", "a", "b", "c"], "keep K FILE [JOB] [--list LIST]"),
+        (&["keep", "1", "a", "--list"], "keep K FILE [JOB] [--list LIST]"),
+        (&["keep", "1", "a", "--list", "b", "--list", "c"], "keep K FILE [JOB] [--list LIST]"),
+        (&["keep", "1", "a", "--job", "b"], "keep K FILE [JOB] [--list LIST]"),
+        (&["plan"], "plan FILE"),
+        (&["plan", "a", "b"], "plan FILE"),
+        (&["picture"], "picture FILE"),
+        (&["help", "make", "show"], "make LIST"),
+    ];
+    for (arguments, usage) in cases {
+        let command = usage.split(' ').next().unwrap();
+        let expected = format!("usage: parts {usage}\n`parts {command} --help` says more\n");
+        assert_eq!(run(arguments, b""), (Vec::new(), expected, 2), "{arguments:?}");
+    }
+    for arguments in [&["draw", "a"][..], &["help", "draw"], &["draw", "--help"]] {
+        let expected = "parts has no command draw; `parts --help` names its commands\n";
+        assert_eq!(run(arguments, b""), (Vec::new(), expected.into(), 2), "{arguments:?}");
+    }
+    let (page, _, _) = run(&["--help"], b"");
+    assert_eq!(run(&[], b""), (Vec::new(), String::from_utf8(page).unwrap(), 2));
+}
+
+/// The commands that print, with what each is given.
+const PRINTING: [(&[&str], &[u8]); 9] = [
+    (&["--help"], b""),
+    (&["--version"], b""),
+    (&["make", "--help"], b""),
+    (&["make", "-"], LIST.as_bytes()),
+    (&["show", "-"], &EXAMPLE),
+    (&["sort", "height", "-"], LIST.as_bytes()),
+    (&["keep", "1", "-"], LIST.as_bytes()),
+    (&["plan", "-"], LIST.as_bytes()),
+    (&["picture", "-"], LIST.as_bytes()),
+];
+
+fn full_disk() -> File {
+    OpenOptions::new().write(true).open("/dev/full").expect("a device that is always full")
+}
+
+#[test]
+fn lost_output_is_a_failure() {
+    for (arguments, input) in PRINTING {
+        let why =
+            |error| refused(&format!("standard output: {error}; let it lead to a file or a pipe that takes all of it"));
+        let full = run_with(program(arguments).stdout(full_disk()), input);
+        assert_eq!(full, why("No space left on device (os error 28)"), "{arguments:?}");
+        let (reader, writer) = std::io::pipe().expect("a pipe");
+        drop(reader);
+        let closed = run_with(program(arguments).stdout(writer), input);
+        assert_eq!(closed, why("Broken pipe (os error 32)"), "{arguments:?}");
+    }
+}
+
+#[test]
+fn lost_messages_leave_the_exit_status() {
+    for (arguments, status) in [(&["make", "no-such-list"][..], 1), (&["make"], 2), (&[], 2)] {
+        assert_eq!(run_with(program(arguments).stderr(full_disk()), b""), (Vec::new(), String::new(), status));
+    }
+    let both = run_with(program(&["make", "-"]).stdout(full_disk()).stderr(full_disk()), LIST.as_bytes());
+    assert_eq!(both, (Vec::new(), String::new(), 1));
+}
+
+#[test]
+fn list_that_is_standard_output_too_is_left_alone() {
+    let folder = folder("appended");
+    let list = typed(&folder, "list.txt");
+    fs::write(&list, LIST).unwrap();
+    let appended = || OpenOptions::new().append(true).open(&list).unwrap();
+    let why = "this file is standard output too; name another file behind `>`";
+    let by_name = run_with(program(&["sort", "height", &list]).stdout(appended()), b"");
+    assert_eq!(by_name, refused(&format!("{list}: {why}")));
+    let by_stream = run_with(program(&["make", "-"]).stdin(File::open(&list).unwrap()).stdout(appended()), b"");
+    assert_eq!(by_stream, refused(&format!("-: {why}")));
+    assert_eq!(fs::read_to_string(&list).unwrap(), LIST);
+}
+
+const SUMMARY: &str = "\ntips used quick 2 best 2\nparts on tip 0 quick 1 best 1\nparts on tip 1 quick 1 best 1\n\
+                       pairs quick 0 best 0\ntip changes quick 1 best 1, parts placed tip by tip\n";
+
+#[test]
+fn keep_plan_and_picture_take_lists_and_job_files() {
+    let kept = b"off 1 tips 0 1 2\nk 1 margin 0\nno tip struck from 2 parts\n";
+    assert_eq!(run(&["keep", "1", "-"], LIST.as_bytes()), given(kept));
+    assert_eq!(run(&["keep", "1", "-"], &EXAMPLE), given(kept));
     let plan = "lines 2 rack 3\noff 1 tips 0 1 2\nquick 0\nbest 0\nline 0 quick 0 best 0\nline 1 quick 1 best 1\n";
-    assert_eq!(run(&["plan", "-"], &EXAMPLE), given(plan.as_bytes()));
-    let named = plan.replace("line 0", "C1").replace("line 1", "C2");
+    assert_eq!(run(&["plan", "-"], &EXAMPLE), given((plan.to_string() + SUMMARY).as_bytes()));
+    let named = plan.replace("line 0", "C1").replace("line 1", "C2") + SUMMARY;
     assert_eq!(run(&["plan", "-"], LIST.as_bytes()), given(named.as_bytes()));
+    for (file, name) in [(LIST.as_bytes(), ">C2</text>"), (&EXAMPLE, ">line 1</text>")] {
+        let (picture, messages, status) = run(&["picture", "-"], file);
+        assert_eq!((messages.as_str(), status), ("", 0));
+        let picture = String::from_utf8(picture).unwrap();
+        assert!(picture.starts_with("<svg ") && picture.contains(name) && picture.ends_with("</svg>\n"));
+    }
 }
 
-#[cfg(proved_library)]
+/// Four parts of which the first loses tip 1 within k = 1.
+const BOARD: &str = "rack 2\nA h=2 : 0-1 # a\nB : 0\nC : 1\nD : 0\n";
+const KEPT: &str = "off 1 tips 0\nk 1 margin 0\nA keeps 0 struck 1\nno tip struck from 3 parts\n";
+
 #[test]
-fn keep_writes_the_job_file() {
-    let path = std::path::Path::new(env!("CARGO_TARGET_TMPDIR")).join("kept.job");
-    let path = path.to_str().unwrap();
-    let (_, _, status) = run(&["keep", "1", "-", path], b"rack 2\n: 0-1\n: 0\n: 1\n: 0\n");
-    assert_eq!((status, std::fs::read(path).unwrap().len()), (0, 40));
-    assert_eq!(run(&["show", path], b""), given(b"rack 2\n0 : 0\n1 : 0\n2 : 1\n3 : 0\n"));
-    // A refused keep leaves the file as it is.
-    let why = "-: refused 26: margin -1, no plan is within k 0; the least k is 1";
-    assert_eq!(run(&["keep", "0", "-", path], &EXAMPLE), refused(why));
-    assert_eq!(std::fs::read(path).unwrap().len(), 40);
+fn keep_writes_the_job_file_and_the_list() {
+    let folder = folder("kept");
+    let (list, job, kept) = (typed(&folder, "list.txt"), typed(&folder, "out.job"), typed(&folder, "kept.txt"));
+    fs::write(&list, BOARD).unwrap();
+    let kept_list = "rack 2\nA h=2 : 0   # a\nB : 0\nC : 1\nD : 0\n";
+    for arguments in [
+        &["keep", "1", &list, &job][..],
+        &["keep", "1", &list, "--list", &kept],
+        &["keep", "--list", &kept, "1", &list, &job],
+    ] {
+        assert_eq!(run(arguments, b""), given(KEPT.as_bytes()));
+        if arguments.contains(&job.as_str()) {
+            assert_eq!(run(&["show", &job], b""), given(b"rack 2\n0 : 0\n1 : 0\n2 : 1\n3 : 0\n"));
+            fs::remove_file(&job).unwrap();
+        }
+        if arguments.contains(&kept.as_str()) {
+            assert_eq!(fs::read_to_string(&kept).unwrap(), kept_list);
+            let (plan, _, _) = run(&["plan", &kept], b"");
+            assert!(String::from_utf8(plan).unwrap().contains("\nA quick 0 best 0\n"));
+            fs::remove_file(&kept).unwrap();
+        }
+        // The list is as it was, and nothing else is left.
+        assert_eq!(names_in(&folder), ["list.txt"]);
+        assert_eq!(fs::read_to_string(&list).unwrap(), BOARD);
+    }
+    // From a job file the list has line numbers.
+    assert_eq!(run(&["keep", "1", "-", "--list", &kept], &EXAMPLE).2, 0);
+    assert_eq!(fs::read_to_string(&kept).unwrap(), "rack 3\n0 : 0\n1 : 1-2\n");
 }
 
-#[cfg(proved_library)]
+fn names_in(folder: &Path) -> Vec<String> {
+    let entries = fs::read_dir(folder).unwrap();
+    let mut names: Vec<String> = entries.map(|entry| entry.unwrap().file_name().into_string().unwrap()).collect();
+    names.sort();
+    names
+}
+
+#[test]
+fn refused_keep_leaves_the_file_as_it_is() {
+    let job = typed(&folder("refused"), "out.job");
+    fs::write(&job, "old").unwrap();
+    let why = "-: refused 26: margin -1, no plan is within k 0; the least k is 1";
+    assert_eq!(run(&["keep", "0", "-", &job], &EXAMPLE), refused(why));
+    assert_eq!(fs::read(&job).unwrap(), b"old");
+}
+
+#[test]
+fn list_that_was_read_is_never_written() {
+    let folder = folder("same");
+    let list = typed(&folder, "list.txt");
+    fs::write(&list, BOARD).unwrap();
+    fs::create_dir(folder.join("inner")).unwrap();
+    symlink("../list.txt", folder.join("inner/link")).unwrap();
+    fs::hard_link(&list, folder.join("hard")).unwrap();
+    for name in ["list.txt", "./list.txt", "inner/../list.txt", "inner/link", "hard"] {
+        let out = typed(&folder, name);
+        let why = refused(&format!("{out}: this is the file that was read; name another one to write"));
+        assert_eq!(run(&["keep", "1", &list, &out], b""), why);
+        assert_eq!(run(&["keep", "1", &list, "--list", &out], b""), why);
+        // The input by its other names, and as standard input.
+        assert_eq!(run(&["keep", "1", &out, &out], b""), why);
+        let stream = run_with(program(&["keep", "1", "-", &out]).stdin(File::open(&list).unwrap()), b"");
+        assert_eq!(stream, why);
+    }
+    assert_eq!(fs::read_to_string(&list).unwrap(), BOARD);
+    assert_eq!(names_in(&folder), ["hard", "inner", "list.txt"]);
+}
+
+#[test]
+fn one_file_is_not_job_and_list() {
+    let folder = folder("twice");
+    for (job, list) in [("out", "out"), ("out", "./out")] {
+        let (job, list) = (typed(&folder, job), typed(&folder, list));
+        let why = wrong_argument(&format!("{list}: this is JOB and LIST; name two files"));
+        assert_eq!(run(&["keep", "1", "-", &job, "--list", &list], &EXAMPLE), why);
+    }
+    assert!(names_in(&folder).is_empty());
+    let why = wrong_argument("-: this is standard input; name a file to write");
+    assert_eq!(run(&["keep", "1", "-", "-"], &EXAMPLE), why);
+    assert_eq!(run(&["keep", "1", "-", "--list", "-"], &EXAMPLE), why);
+}
+
+#[test]
+fn written_file_keeps_its_link_and_its_permissions() {
+    let folder = folder("links");
+    let (job, link) = (typed(&folder, "out.job"), typed(&folder, "link"));
+    fs::write(&job, "old").unwrap();
+    fs::set_permissions(&job, fs::Permissions::from_mode(0o640)).unwrap();
+    symlink("out.job", &link).unwrap();
+    assert_eq!(run(&["keep", "1", "-", &link], &EXAMPLE).2, 0);
+    assert_eq!(fs::read(&job).unwrap(), EXAMPLE);
+    assert_eq!(fs::metadata(&job).unwrap().permissions().mode() & 0o777, 0o640);
+    assert_eq!(fs::read_link(&link).unwrap().to_str(), Some("out.job"));
+    assert_eq!(names_in(&folder), ["link", "out.job"]);
+}
+
+#[test]
+fn file_that_cannot_be_written_is_named_and_nothing_is_left() {
+    let folder = folder("failing");
+    let (job, list) = (typed(&folder, "out.job"), typed(&folder, "kept.txt"));
+    fs::write(&job, "old").unwrap();
+    let missing = typed(&folder, "no-such-folder/kept.txt");
+    symlink("nowhere", folder.join("dangling")).unwrap();
+    let dangling = typed(&folder, "dangling");
+    for (out, why) in [
+        (missing.as_str(), "No such file or directory (os error 2)"),
+        (dangling.as_str(), "No such file or directory (os error 2)"),
+        (folder.to_str().unwrap(), "Is a directory (os error 21)"),
+        ("/dev/full", "No space left on device (os error 28)"),
+    ] {
+        let why = refused(&format!("{out}: {why}"));
+        assert_eq!(run(&["keep", "1", "-", out], &EXAMPLE), why);
+        // The job file could be written, and is not, because the list cannot.
+        assert_eq!(run(&["keep", "1", "-", &job, "--list", out], &EXAMPLE), why);
+        assert_eq!(fs::read(&job).unwrap(), b"old");
+        assert_eq!(names_in(&folder), ["dangling", "out.job"]);
+    }
+    // A limit of no bytes at all stands for a full disk; its signal is ignored, so that writing fails instead.
+    let limited = "trap '' XFSZ; ulimit -f 0; exec \"$0\" \"$@\"";
+    let mut program = Command::new("sh");
+    program.args(["-c", limited, env!("CARGO_BIN_EXE_parts"), "keep", "1", "-", &job, "--list", &list]);
+    program.stdin(Stdio::piped()).stdout(Stdio::piped()).stderr(Stdio::piped());
+    let why = refused(&format!("{job}: File too large (os error 27)"));
+    assert_eq!(run_with(&mut program, &EXAMPLE), why);
+    assert_eq!(fs::read(&job).unwrap(), b"old");
+    assert_eq!(names_in(&folder), ["dangling", "out.job"]);
+}
+
+#[test]
+fn pipe_is_written_to_as_it_is() {
+    let pipe = "parts=$1; printf 'rack 1\\nA : 0\\n' | $parts keep 0 - /dev/fd/3 3>&1 >/dev/null | $parts show -";
+    let mut program = Command::new("sh");
+    program.args(["-c", pipe, "sh", env!("CARGO_BIN_EXE_parts")]);
+    program.stdin(Stdio::null()).stdout(Stdio::piped()).stderr(Stdio::piped());
+    assert_eq!(run_with(&mut program, b""), given(b"rack 1\n0 : 0\n"));
+}
+
 #[test]
 fn k_out_of_range_is_named() {
     for k in ["65536", "-1", "x", "", "+1", "1.0"] {
-        assert_eq!(run(&["keep", k, "-"], &EXAMPLE), refused(&format!("k is a number from 0 to 65535, and not {k}")));
+        let why = format!("k is a number from 0 to 65535, and not {k}");
+        assert_eq!(run(&["keep", k, "-"], &EXAMPLE), wrong_argument(&why));
     }
-}
-
-#[cfg(not(proved_library))]
-#[test]
-fn keep_and_plan_say_that_the_library_is_missing() {
-    let why = "parts was built without the proved library; build target/staticlib/libtipshare_c.a, then parts again";
-    assert_eq!(run(&["keep", "1", "-"], &EXAMPLE), refused(why));
-    assert_eq!(run(&["plan", "-"], &EXAMPLE), refused(why));
 }

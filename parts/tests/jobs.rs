@@ -1,4 +1,4 @@
-//! Job files: made from lists and back, and refused by the numbers of the second implementation.
+//! Job files: made from lists and back, and refused by the numbers of the proved library.
 
 use parts::job::Job;
 use parts::list::List;
@@ -69,21 +69,18 @@ fn text_to_job_to_text_to_job_is_stable() {
 }
 
 #[test]
-fn damaged_files_are_refused_as_by_the_second_implementation() {
+fn damaged_files_are_refused_as_by_the_proved_library() {
     let mut random = Random(2);
     let longest = make(&("rack 64\n".to_string() + &": 0 63\n".repeat(512)));
     let mut numbers = std::collections::BTreeMap::new();
     let mut check = |file: &[u8]| {
-        let expected = second::read(file);
-        let (number, line) = match Job::read(file) {
-            Ok(job) => {
-                assert_eq!((job.rack, &job.sets[..]), (expected.board.rack, &expected.board.sets[..job.sets.len()]));
-                (0, 0)
-            }
-            Err(refusal) => (refusal.number, refusal.line),
-        };
-        assert_eq!((number, line), (expected.number, expected.place), "{file:?}");
-        *numbers.entry(number).or_insert(0) += 1;
+        let read = Job::read(file);
+        let told = read.clone().map(|job| (job.rack as u64, job.sets.len() as u64));
+        let told = told.map_err(|refusal| (refusal.number, refusal.line as u64));
+        let expected = library::read(file).map(|job| (job.rack, job.lines));
+        assert_eq!(told, expected.map_err(|refusal| (refusal.number, refusal.line)), "{file:?}");
+        assert!(read.is_err() || read.clone().unwrap().write() == file);
+        *numbers.entry(read.err().map_or(0, |refusal| refusal.number)).or_insert(0) += 1;
     };
     check(&longest);
     check(&[&longest[..], &[0]].concat());

@@ -109,6 +109,21 @@ fn wrong_words_before_the_colon_are_named() {
 }
 
 #[test]
+fn quantities_are_refused_and_other_columns_are_not() {
+    for column in ["qty", "Qty", "QTY", "quantity", "count", "amount", "pieces", "pcs", "n", "N"] {
+        for value in ["40", "1", "many"] {
+            let word = format!("{column}={value}");
+            assert_eq!(fault_of(&format!("R1 height=1 {word} : 0-1")), What::Quantity(word));
+        }
+    }
+    let columns = ["x", "y", "pin", "no", "counter", "nn", "height"];
+    let words: Vec<String> = columns.iter().map(|column| format!("{column}=1")).collect();
+    let list = list(&format!("rack 2\nqty {} : 0-1 # qty=2\n", words.join(" ")));
+    assert_eq!(list.parts[0].name.as_deref(), Some("qty"));
+    assert_eq!(list.parts[0].columns, columns.map(|column| (column.to_string(), 1.0)));
+}
+
+#[test]
 fn wrong_tips_are_named() {
     assert_eq!(fault_of("C1 :"), What::NoTip);
     assert_eq!(fault_of(":"), What::NoTip);
@@ -180,6 +195,11 @@ fn every_fault_says_what_to_do() {
         (What::ColumnName("=1".into()), "no column name in `=1`; write it as height=0.9"),
         (What::ColumnValue("height=x".into()), "no number in `height=x`; write it as height=0.9"),
         (What::ColumnAgain(name()), "a second x; give each column once"),
+        (
+            What::Quantity("qty=40".into()),
+            "`qty=40` is a quantity, and quantities are not read yet; write the part once for each placement, \
+             each time with its own name",
+        ),
         (What::NameAgain { name: name(), line: 7 }, "the name x stands on line 7 already; give each part its own name"),
         (
             What::UnknownTip(name()),
@@ -228,6 +248,30 @@ fn sorting_changes_the_order_alone() {
     let list_of_two = list("rack 1\r\nA h=1 : 0\r\nB h=0 : 0");
     assert_eq!(list_of_two.sorted_by("h"), Ok("rack 1\nB h=0 : 0\nA h=1 : 0\n".into()));
     assert_eq!(list("rack 1\n# none\n").sorted_by("h"), Ok("rack 1\n# none\n".into()));
+}
+
+#[test]
+fn other_tips_leave_the_rest_of_the_list() {
+    let text =
+        "# top\nrack 9 # nine\n\nA h=1 :  1-3   # a: comment\n# above B\nB:0 1 2#b\n: 4-6\t\nC : 0-8 # 5\n# end\n";
+    // A's comment stays in its column, C's moves on.
+    let other =
+        "# top\nrack 9 # nine\n\nA h=1 :  2     # a: comment\n# above B\nB:0 1 2#b\n: 4 6\nC : 3 5-6 # 5\n# end\n";
+    assert_eq!(list(text).with_tips(&[0b100, 0b111, 0b101_0000, 0b110_1000]), other);
+    let own: Vec<u64> = list(text).parts.iter().map(|part| part.tips).collect();
+    assert_eq!(list(text).with_tips(&own), text);
+    // Longer words take the spaces before the comment, but for one.
+    for (written, other) in [("0-8   # c", "3 5-6 # c"), ("0-8# c", "3 5-6 # c"), ("0-8     # c", "3 5-6   # c")] {
+        let text = list(&format!("rack 9\nA : {written}\n")).with_tips(&[0b110_1000]);
+        assert_eq!(text, format!("rack 9\nA : {other}\n"));
+    }
+}
+
+#[test]
+fn comment_is_what_stands_behind_the_part() {
+    let list = list("rack 1 # rack\n# above\nA : 0 #  0402 # resistor \nB : 0\nC : 0 #\n");
+    let comments: Vec<&str> = list.parts.iter().map(|part| part.comment()).collect();
+    assert_eq!(comments, ["0402 # resistor", "", ""]);
 }
 
 #[test]

@@ -1,5 +1,4 @@
 //! What the linked library says of parts lists, by name.
-#![cfg(proved_library)]
 
 use parts::job::Job;
 use parts::list::List;
@@ -7,29 +6,36 @@ use parts::planning::Named;
 
 fn named(text: &str) -> Named {
     let list = List::read(text.as_bytes()).unwrap_or_else(|faults| panic!("{text:?}: {faults:?}"));
-    Named { file: list.job().write(), names: list.parts.into_iter().map(|part| part.name).collect() }
+    Named::of_list(list)
 }
 
 /// B1 of the rules.
 const FIGURE: &str = "rack 9\nA : 1-3\nB : 3-7\n: 0-8\nD : 5-6\n";
 
 #[test]
-fn keep_names_what_is_struck() {
+fn keep_names_what_is_struck_and_counts_the_others() {
     let kept = named(FIGURE).keep(1).unwrap();
-    let text = "off 1 tips 3 5 6\nk 1 margin 0\nA keeps 1-3 struck none\nB keeps 3 5-6 struck 4 7\n\
-                line 2 keeps 3 5-6 struck 0-2 4 7-8\nD keeps 5-6 struck none\n";
+    let text = "off 1 tips 3 5 6\nk 1 margin 0\nB keeps 3 5-6 struck 4 7\nline 2 keeps 3 5-6 struck 0-2 4 7-8\n\
+                no tip struck from 2 parts\n";
     assert_eq!(kept.text, text);
     assert_eq!(Job::read(&kept.file).unwrap().in_words(), "rack 9\n0 : 1-3\n1 : 3 5-6\n2 : 3 5-6\n3 : 5-6\n");
+}
+
+#[test]
+fn kept_list_has_the_names_and_the_kept_tips() {
+    let kept = named(FIGURE).keep(1).unwrap();
+    assert_eq!(kept.list, "rack 9\nA : 1-3\nB : 3 5-6\n: 3 5-6\nD : 5-6\n");
+    assert_eq!(named(&kept.list).file, kept.file);
+    let without_names = Named { file: named(FIGURE).file, list: None }.keep(1).unwrap();
+    assert_eq!(without_names.list, "rack 9\n0 : 1-3\n1 : 3 5-6\n2 : 3 5-6\n3 : 5-6\n");
 }
 
 #[test]
 fn keep_above_margin_0_strikes_nothing() {
     let board = named(FIGURE);
     let kept = board.keep(2).unwrap();
-    assert!(kept
-        .text
-        .starts_with("off 1 tips 3 5 6\nk 2 margin 1\nA keeps 1-3 struck none\nB keeps 3-7 struck none\n"));
-    assert_eq!(kept.file, board.file);
+    assert_eq!(kept.text, "off 1 tips 3 5 6\nk 2 margin 1\nno tip struck from 4 parts\n");
+    assert_eq!((kept.file, kept.list), (board.file, FIGURE.into()));
 }
 
 #[test]
@@ -40,15 +46,18 @@ fn keep_below_margin_0_is_refused() {
 
 #[test]
 fn keep_takes_a_large_k_and_no_lines() {
-    assert!(named("rack 1\n: 0\n").keep(65_535).unwrap().text.starts_with("off 0 tips 0\nk 65535 margin 65535\n"));
-    assert_eq!(named("rack 1\n").keep(0).unwrap().text, "off 0 tips\nk 0 margin 0\n");
+    let large = "off 0 tips 0\nk 65535 margin 65535\nno tip struck from 1 part\n";
+    assert_eq!(named("rack 1\n: 0\n").keep(65_535).unwrap().text, large);
+    assert_eq!(named("rack 1\n").keep(0).unwrap().text, "off 0 tips\nk 0 margin 0\nno tip struck from 0 parts\n");
 }
 
 #[test]
-fn plan_names_both_tips() {
+fn plan_names_both_tips_and_sums_up() {
     let text =
         "lines 4 rack 3\noff 2 tips 0 1 2\nquick 2\nbest 2\nA quick 0 best 0\nB quick 2 best 2\nC quick 0 best 0\n\
-                line 3 quick 2 best 2\n";
+         line 3 quick 2 best 2\n\n\
+         tips used quick 2 best 2\nparts on tip 0 quick 2 best 2\nparts on tip 2 quick 2 best 2\n\
+         pairs quick 2 best 2\ntip changes quick 1 best 1, parts placed tip by tip\n";
     assert_eq!(named("rack 3\nA : 0\nB : 2\nC : 0-1\n: 1-2\n").plan(), Ok(text.into()));
 }
 
@@ -56,15 +65,47 @@ fn plan_names_both_tips() {
 fn plan_names_the_line_that_is_no_run() {
     let text =
         "lines 4 rack 3\noff 2 tips 0 1 2\nquick 1\nbest none, D is no run\nA quick 1 best -\nB quick 2 best -\n\
-                C quick 0 best -\nD quick 0 best -\n";
+         C quick 0 best -\nD quick 0 best -\n\n\
+         tips used quick 3 best -\nparts on tip 0 quick 2 best -\nparts on tip 1 quick 1 best -\n\
+         parts on tip 2 quick 1 best -\npairs quick 1 best -\ntip changes quick 2 best -, parts placed tip by tip\n";
     assert_eq!(named("rack 3\nA : 1\nB : 2\nC : 0-1\nD : 0 2\n").plan(), Ok(text.into()));
+}
+
+/// What stands below the empty line of a plan.
+fn summary_of(text: &str) -> String {
+    let plan = named(text).plan().unwrap();
+    plan.split_once("\n\n").expect("a summary").1.into()
+}
+
+#[test]
+fn summary_counts_the_tips_of_either_plan() {
+    // Quick: tip 3 takes C1, D1, Q1, U1 and U2, tip 1 R1 and R2, tip 4 J1. Best: four parts each on tips 1 and 4.
+    let board = "rack 6\nR1 : 0-1\nR2 : 1-2\nC1 : 1-3\nD1 : 1-3\nQ1 : 3-4\nU1 : 3-4\nU2 : 3-5\nJ1 : 4-5\n";
+    let expected = "tips used quick 3 best 2\nparts on tip 1 quick 2 best 4\nparts on tip 3 quick 5 best 0\n\
+                    parts on tip 4 quick 1 best 4\npairs quick 11 best 12\n\
+                    tip changes quick 2 best 1, parts placed tip by tip\n";
+    assert_eq!(summary_of(board), expected);
+    // The most pairs are on three tips, although two would do, with 12 pairs.
+    let board = "rack 3\nA : 0\nB1 : 0-1\nB2 : 0-1\nB3 : 0-1\nC1 : 1-2\nC2 : 1-2\nC3 : 1-2\nD : 2\n";
+    let expected = "tips used quick 3 best 3\nparts on tip 0 quick 1 best 1\nparts on tip 1 quick 6 best 6\n\
+                    parts on tip 2 quick 1 best 1\npairs quick 15 best 15\n\
+                    tip changes quick 2 best 2, parts placed tip by tip\n";
+    assert_eq!(summary_of(board), expected);
+}
+
+#[test]
+fn summary_without_parts_has_no_tip_change() {
+    let expected = "tips used quick 0 best 0\npairs quick 0 best 0\n\
+                    tip changes quick 0 best 0, parts placed tip by tip\n";
+    assert_eq!(summary_of("rack 5\n"), expected);
 }
 
 #[test]
 fn damaged_files_are_refused_in_words() {
-    let damaged = Named { file: b"TIP\x00\x01\x03\x00\x02\x00".to_vec(), names: Vec::new() };
+    let damaged = Named { file: b"TIP\x00\x01\x03\x00\x02\x00".to_vec(), list: None };
     let why =
         "refused 10: the file names 2 lines, which take 24 bytes, and has 9; hand over the whole file and no more";
     assert_eq!(damaged.keep(1).err(), Some(why.into()));
     assert_eq!(damaged.plan(), Err(why.into()));
+    assert_eq!(damaged.picture(), Err(why.into()));
 }

@@ -67,6 +67,13 @@ impl Board {
         Board { rack, stage: Stage::Open, count: 0, sets: [0; MOST_LINES] }
     }
 
+    /// The closed board of these lines, without any check.
+    pub fn of_lines(rack: usize, lines: &[u64]) -> Board {
+        let mut board = Board { stage: Stage::Closed, count: lines.len(), ..Board::without_lines(rack) };
+        board.sets[..lines.len()].copy_from_slice(lines);
+        board
+    }
+
     /// Opens a board for a rack of this size.
     pub fn open(rack: usize) -> Answer<()> {
         if rack == 0 || rack > MOST_TIPS {
@@ -106,11 +113,12 @@ impl Board {
     }
 
     /// The sets of the lines of a sound board.
-    pub(crate) fn lines(&self) -> &[u64] {
+    pub fn lines(&self) -> &[u64] {
         &self.sets[..self.count]
     }
 
     /// Adds one line with these tips at the end.
+    #[allow(clippy::should_implement_trait)] // the call's own name
     pub fn add(self, set: u64) -> Answer<()> {
         let number = self.refusal_in(Stage::Open);
         if number != refusal::NONE {

@@ -20,72 +20,62 @@ fn refused<T>(answer: &mut [u64], call: &Answer<T>) -> u32 {
     answered(answer, call.number, [call.place as u64, 0, 0, 0])
 }
 
-/// The board of a file, or the refusal once it is in the answer.
-fn board_of(file: &[u8], answer: &mut [u64]) -> Result<Board, u32> {
+/// Answers by the call on the file's board, unless the answer is short or the file is refused.
+fn on_board(file: &[u8], answer: &mut [u64], call: impl FnOnce(Board, &mut [u64]) -> u32) -> u32 {
     if answer.len() < ANSWER_PLACES {
-        return Err(refusal::SHORT_ANSWER);
+        return refusal::SHORT_ANSWER;
     }
     let job = read_file(file);
     if job.number != refusal::NONE {
-        return Err(refused(answer, &job));
+        return refused(answer, &job);
     }
-    Ok(job.board)
+    call(job.board, answer)
 }
 
 /// Rack size and number of lines of a file: place, rack size, lines, 0.
 pub fn read(file: &[u8], answer: &mut [u64]) -> u32 {
-    let board = match board_of(file, answer) {
-        Ok(board) => board,
-        Err(number) => return number,
-    };
-    answered(answer, refusal::NONE, [0, board.rack as u64, board.count as u64, 0])
+    on_board(file, answer, |board, answer| {
+        answered(answer, refusal::NONE, [0, board.rack as u64, board.count as u64, 0])
+    })
 }
 
 /// The common tip: place, top, off, the set of common tips.
 pub fn common(file: &[u8], answer: &mut [u64]) -> u32 {
-    let board = match board_of(file, answer) {
-        Ok(board) => board,
-        Err(number) => return number,
-    };
-    let common = board.common_tip().value;
-    answered(answer, refusal::NONE, [0, common.top as u64, common.off as u64, common.tips])
+    on_board(file, answer, |board, answer| {
+        let common = board.common_tip().value;
+        answered(answer, refusal::NONE, [0, common.top as u64, common.off as u64, common.tips])
+    })
 }
 
 /// Keeps within k and writes the kept board to out: place, margin, bytes, 0.
 pub fn keep(file: &[u8], k: u16, out: &mut [u8], answer: &mut [u64]) -> u32 {
-    let board = match board_of(file, answer) {
-        Ok(board) => board,
-        Err(number) => return number,
-    };
-    let kept = board.keep_within(k);
-    if kept.number != refusal::NONE {
-        return answered(answer, kept.number, [kept.place as u64, kept.value as u64, 0, 0]);
-    }
-    let written = kept.board.write(out);
-    if written.number != refusal::NONE {
-        return refused(answer, &written);
-    }
-    answered(answer, refusal::NONE, [0, kept.value as u64, written.value as u64, 0])
+    on_board(file, answer, |board, answer| {
+        let kept = board.keep_within(k);
+        if kept.number != refusal::NONE {
+            return answered(answer, kept.number, [kept.place as u64, kept.value as u64, 0, 0]);
+        }
+        let written = kept.board.write(out);
+        if written.number != refusal::NONE {
+            return refused(answer, &written);
+        }
+        answered(answer, refusal::NONE, [0, kept.value as u64, written.value as u64, 0])
+    })
 }
 
 /// Quick sharing: place, pairs, 0, 0.
 pub fn quick(file: &[u8], plan: &mut [u8], answer: &mut [u64]) -> u32 {
-    let board = match board_of(file, answer) {
-        Ok(board) => board,
-        Err(number) => return number,
-    };
-    let quick = board.quick(plan);
-    answered(answer, quick.number, [quick.place as u64, u64::from(quick.value), 0, 0])
+    on_board(file, answer, |board, answer| {
+        let quick = board.quick(plan);
+        answered(answer, quick.number, [quick.place as u64, u64::from(quick.value), 0, 0])
+    })
 }
 
 /// Best sharing: place, pairs, 0, 0.
 pub fn best(file: &[u8], plan: &mut [u8], table: &mut [u32], answer: &mut [u64]) -> u32 {
-    let board = match board_of(file, answer) {
-        Ok(board) => board,
-        Err(number) => return number,
-    };
-    let best = board.best(plan, table);
-    answered(answer, best.number, [best.place as u64, u64::from(best.value), 0, 0])
+    on_board(file, answer, |board, answer| {
+        let best = board.best(plan, table);
+        answered(answer, best.number, [best.place as u64, u64::from(best.value), 0, 0])
+    })
 }
 
 /// Writes the report to out and gives its length, 0 where out is too short.

@@ -5,11 +5,11 @@
 
 mod board;
 mod common;
-mod file;
 mod report;
 mod sharing;
 mod trying;
 
+pub mod file;
 pub mod interface;
 pub mod refusal;
 

@@ -4,10 +4,7 @@ use second::{interface, read, Answer, Board, Stage};
 
 /// A closed board of rack 3 with the lines {0}, {1,2}.
 fn closed_board() -> Board {
-    let mut board = Board { rack: 3, stage: Stage::Closed, count: 2, sets: [0; 512] };
-    board.sets[0] = 0b001;
-    board.sets[1] = 0b110;
-    board
+    Board::of_lines(3, &[0b001, 0b110])
 }
 
 fn with_stage(board: Board, stage: Stage) -> Board {
@@ -89,7 +86,7 @@ fn unsound_boards_are_refused_by_every_call() {
 
 #[test]
 fn closed_board_takes_no_line_and_no_close() {
-    let full = Board { rack: 1, stage: Stage::Closed, count: 512, sets: [1; 512] };
+    let full = Board::of_lines(1, &[1; 512]);
     for board in [closed_board(), full] {
         for set in [0, 1, 1 << 3] {
             assert_refused(board.clone().add(set), &board, 22, 0, ());
@@ -151,7 +148,7 @@ fn short_buffers() {
 
 #[test]
 fn no_run_names_the_first_such_line() {
-    let mut board = Board { rack: 64, stage: Stage::Closed, count: 512, sets: [u64::MAX; 512] };
+    let mut board = Board::of_lines(64, &[u64::MAX; 512]);
     for line in (0..512).rev() {
         board.sets[line] = 1 | 1 << 63;
         let mut plan = [7; 512];
@@ -163,10 +160,8 @@ fn no_run_names_the_first_such_line() {
 
 #[test]
 fn keep_margin_is_signed() {
-    let mut board = Board { rack: 64, stage: Stage::Closed, count: 512, sets: [0; 512] };
-    for line in 0..512 {
-        board.sets[line] = 1 << (line % 64);
-    }
+    let lines: Vec<u64> = (0..512).map(|line| 1 << (line % 64)).collect();
+    let board = Board::of_lines(64, &lines);
     assert_refused(board.clone().keep_within(0), &board, 26, 0, -504);
     assert_refused(board.clone().keep_within(503), &board, 26, 0, -1);
     for (k, margin) in [(504, 0), (505, 1), (u16::MAX, 65_031)] {
@@ -174,12 +169,11 @@ fn keep_margin_is_signed() {
     }
 }
 
-/// The job file of the closed board.
-fn job_file() -> Vec<u8> {
-    let mut file = vec![0; 24];
-    assert_eq!(closed_board().write(&mut file).value, 24);
-    file
-}
+/// A call of the interface with its answer.
+type Call<'a> = &'a mut dyn FnMut(&mut [u64]) -> u32;
+
+/// Bytes to change in a file: where, and to what.
+type Changes = [(usize, u8)];
 
 fn assert_not_read(file: &[u8], number: u32, place: usize) {
     let answer = read(file);
@@ -189,7 +183,7 @@ fn assert_not_read(file: &[u8], number: u32, place: usize) {
     for length in [0, 5000] {
         let (mut plan, mut out, mut table) = (vec![7; length], vec![7; length], vec![7; length]);
         let mut other_plan = plan.clone();
-        let calls: [&mut dyn FnMut(&mut [u64]) -> u32; 5] = [
+        let calls: [Call; 5] = [
             &mut |answer| interface::read(file, answer),
             &mut |answer| interface::common(file, answer),
             &mut |answer| interface::keep(file, 0, &mut out, answer),
@@ -208,7 +202,7 @@ fn assert_not_read(file: &[u8], number: u32, place: usize) {
 
 #[test]
 fn read_refusals_in_order() {
-    let good = job_file();
+    let good = closed_board().file();
     assert_eq!(read(&good).number, 0);
     assert_eq!(read(&good).board, closed_board());
     for length in 0..24 {
@@ -217,7 +211,7 @@ fn read_refusals_in_order() {
     let mut longer = good.clone();
     longer.push(0);
     assert_not_read(&longer, 10, 0);
-    let changed = |changes: &[(usize, u8)]| {
+    let changed = |changes: &Changes| {
         let mut file = good.clone();
         for &(place, byte) in changes {
             file[place] = byte;
@@ -225,7 +219,7 @@ fn read_refusals_in_order() {
         file
     };
     // Each damage together with every later one.
-    let damages: [(&[(usize, u8)], u32, usize); 7] = [
+    let damages: [(&Changes, u32, usize); 7] = [
         (&[(0, b't')], 7, 0),
         (&[(4, 2)], 8, 0),
         (&[(5, 0)], 1, 0),
@@ -264,7 +258,7 @@ fn read_refusals_in_order() {
 
 #[test]
 fn longest_file_is_read_and_written() {
-    let board = Board { rack: 64, stage: Stage::Closed, count: 512, sets: [u64::MAX; 512] };
+    let board = Board::of_lines(64, &[u64::MAX; 512]);
     let mut file = vec![7; 4106];
     assert_eq!(board.clone().write(&mut file[..4103]).number, 11);
     assert_eq!(board.clone().write(&mut file).value, 4104);
@@ -275,7 +269,7 @@ fn longest_file_is_read_and_written() {
 
 #[test]
 fn interface_answers() {
-    let file = job_file();
+    let file = closed_board().file();
     for places in 0..4 {
         let mut answer = vec![9; places];
         let (mut plan, mut out, mut table) = ([7; 2], [7; 24], [7; 9]);

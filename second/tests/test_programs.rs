@@ -3,26 +3,31 @@
 //! The kept output was taken from the programs' own runs; here it is checked by answers that do not come from them.
 
 use std::collections::HashSet;
-use std::path::{Path, PathBuf};
+use std::path::Path;
+
+mod every_plan;
 
 #[path = "test_programs/boards.rs"]
 mod boards;
 #[path = "test_programs/calls.rs"]
 mod calls;
+#[path = "test_programs/counts.rs"]
+mod counts;
 #[path = "test_programs/files.rs"]
 mod files;
 #[path = "test_programs/junk.rs"]
 mod junk;
+#[path = "test_programs/records.rs"]
+mod records;
+#[path = "test_programs/small.rs"]
+mod small;
 #[path = "test_programs/sorts.rs"]
 mod sorts;
 
-/// Where the output of a test program is kept.
-fn kept_output(program: &str) -> PathBuf {
-    Path::new(env!("CARGO_MANIFEST_DIR")).join("../crates").join(program).join("stdout")
-}
-
+/// The kept output of a test program.
 fn printed_by(program: &str) -> String {
-    std::fs::read_to_string(kept_output(program)).expect(program)
+    let kept = Path::new(env!("CARGO_MANIFEST_DIR")).join("../crates").join(program).join("stdout");
+    std::fs::read_to_string(kept).expect(program)
 }
 
 /// Whole texts are compared, lines only to name the first that differs.
@@ -35,13 +40,28 @@ fn assert_same(printed: &str, worked_out: &[String]) {
 }
 
 #[test]
-fn calls_and_files() {
-    let mut printed = printed_by("try_calls");
-    // One program may print both subjects.
-    if kept_output("try_files").exists() {
-        printed += &printed_by("try_files");
-    }
-    assert_same(&printed, &[calls::lines(), files::lines()].concat());
+fn calls() {
+    assert_same(&printed_by("try_calls"), &calls::lines());
+}
+
+#[test]
+fn files() {
+    assert_same(&printed_by("try_files"), &files::lines());
+}
+
+#[test]
+fn records() {
+    assert_same(&printed_by("try_records"), &records::lines());
+}
+
+#[test]
+fn small() {
+    assert_same(&printed_by("try_small"), &small::lines());
+}
+
+#[test]
+fn counts() {
+    assert_same(&printed_by("try_counts"), &counts::lines());
 }
 
 #[test]

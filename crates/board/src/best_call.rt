@@ -1,6 +1,7 @@
 // Best sharing of a closed board whose lines are runs.
 use crate::Board;
 use crate::Shared;
+use crate::Stage;
 ghost use mathlib.Core.Path.{_≡_};
 ghost use lib.ListN.{length};
 ghost use Rattle.board.specs.Sharing.{bestOf, bestBuffer, bestTable, BestRule};
@@ -12,29 +13,16 @@ impl Board {
         ensures table { λ _. ⌜ now (table .exit) ≡ bestTable self (length (now (plan .entry))) (now (table .entry)) ⌝ }
         ensures rule { λ r. ⌜ BestRule self (now (plan .exit)) r ⌝ }
     {
-        let count = self.count;
-        let refusal = state::best_refusal(
-            self.rack,
-            self.stage,
-            count,
-            &self.sets,
-            plan.len(),
-            table.len(),
-        );
-        if refusal.number != 0 {
-            return Shared {
-                board: self,
-                number: refusal.number,
-                place: refusal.place,
-                pairs: 0,
-            };
-        }
-        let pairs = best::plan_first_lines(self.rack, count, &self.sets, plan, table);
+        let stage = self.stage;
+        let sets = self.sets;
+        let lent: &[u64] = &sets;
+        let state = call_refusals::state_refusal(Stage::Closed, self.rack, stage, self.count, lent);
+        let laid = line_calls::best(state, self.rack, self.count, lent, plan, table);
         Shared {
             board: self,
-            number: 0,
-            place: 0,
-            pairs,
+            number: laid.refusal.number,
+            place: laid.refusal.place,
+            pairs: laid.pairs,
         }
     }
 }

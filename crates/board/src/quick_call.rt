@@ -1,6 +1,7 @@
 // Quick sharing of a closed board.
 use crate::Board;
 use crate::Shared;
+use crate::Stage;
 ghost use mathlib.Core.Path.{_≡_};
 ghost use lib.ListN.{length};
 ghost use Rattle.board.specs.Sharing.{quickOf, quickBuffer, HalfRule};
@@ -11,23 +12,21 @@ impl Board {
         ensures buffer { λ _. ⌜ now (plan .exit) ≡ quickBuffer self (now (plan .entry)) ⌝ }
         ensures rule { λ r. ⌜ HalfRule self (now (plan .exit)) r ⌝ }
     {
-        let count = self.count;
-        let refusal = state::plan_refusal(self.rack, self.stage, count, &self.sets, plan.len());
-        if refusal.number != 0 {
-            return Shared {
-                board: self,
-                number: refusal.number,
-                place: refusal.place,
-                pairs: 0,
-            };
-        }
+        let stage = self.stage;
         let mut left = self.sets;
-        let pairs = greedy::plan_lines(self.rack, &mut left[..count], &mut plan[..count]);
+        let state = call_refusals::state_refusal(
+            Stage::Closed,
+            self.rack,
+            stage,
+            self.count,
+            &left,
+        );
+        let laid = line_calls::quick(state, self.rack, self.count, &mut left, plan);
         Shared {
             board: self,
-            number: 0,
-            place: 0,
-            pairs,
+            number: laid.refusal.number,
+            place: laid.refusal.place,
+            pairs: laid.pairs,
         }
     }
 }

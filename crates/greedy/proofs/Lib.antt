@@ -1,7 +1,7 @@
 pub mod PlanBy
 pub mod Unplanned
-pub mod Bound
 pub mod Line
+pub mod Chosen
 pub mod Round
 pub mod Blocks
 pub mod Lists

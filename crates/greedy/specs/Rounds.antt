@@ -1,15 +1,16 @@
 -- Quick sharing over a working copy of the lines, in which a planned line is the empty set.
-use Prim.Native.Nat.{ℕ, _≤_, _<_}
+use Prim.Native.Nat.{ℕ, _<_}
 use mathlib.Core.Path.{_≡_}
 use mathlib.Core.Logic.{_⊎_}
 use mathlib.Core.Bool.{cond}
 use mathlib.Core.List.{List, [], _∷_, map}
 use lib.ListN.{length, getD, set, replicate}
-use Rattle.model.specs.Count.{All}
-use Rattle.model.specs.Plan.{has, pairs, Domain}
+use Rattle.model.specs.Limits.{mostTips, GoodLines}
+use Rattle.model.specs.Plan.{has, pairs}
+use Rattle.model.specs.Choice.{Mounted}
 use Rattle.model.specs.Greedy.{quickPlan}
 use Rattle.counts.specs.Counts.{Counts}
-use Rattle.blocks.specs.Blocks.{Among}
+use Rattle.blocks.specs.Blocks.{Among, Covers, ListsFit}
 
 -- f of each line's set and its tip in the plan; a tip without a line stays
 unfoldable pub planBy : (ℕ → ℕ → ℕ) → List ℕ → List ℕ → List ℕ
@@ -27,21 +28,18 @@ placed t s p = cond (has s t) t p
 
 -- what quick sharing needs of its lines and of the plan that it is lent
 pub record Shareable (rack : ℕ) (lines plan : List ℕ) : Type 0 where
-  pub some : 0 < rack
-  pub most : rack ≤ 64
-  pub domains : All (Domain rack) lines
-  pub few : length lines ≤ 512
+  pub good : GoodLines rack lines
   pub size : length plan ≡ length lines
 
 -- what quick sharing answers and leaves: the pairs, the plan, and a working copy of which each line is planned
-pub record Shared (rack : ℕ) (lines : List ℕ) (r : ℕ) (plan left : List ℕ) : Type 0 where
-  pub pairs-are : r ≡ pairs (quickPlan rack lines)
-  pub plan-is : plan ≡ quickPlan rack lines
+pub record QuickShared (mounted : Mounted) (rack : ℕ) (lines : List ℕ) (r : ℕ) (plan left : List ℕ) : Type 0 where
+  pub pairs-are : r ≡ pairs (quickPlan mounted rack lines)
+  pub plan-is : plan ≡ quickPlan mounted rack lines
   pub left-is : left ≡ replicate (length lines) 0
 
 -- a tip to take for lines whose occurrences are counted
-pub record Counted (tip : ℕ) (left plan counts : List ℕ) : Type 0 where
-  pub inside : tip < 64
+pub record Takeable (tip : ℕ) (left plan counts : List ℕ) : Type 0 where
+  pub inside : tip < mostTips
   pub size : length plan ≡ length left
   pub counts-are : Counts left counts
 
@@ -52,12 +50,12 @@ pub record LineTaken (tip i : ℕ) (left plan left' plan' counts' : List ℕ) : 
   pub counts-are : Counts left' counts'
 
 -- line i is as after the tip is taken
-pub record Done (tip i : ℕ) (left plan left' plan' : List ℕ) : Type 0 where
+pub record LineDone (tip i : ℕ) (left plan left' plan' : List ℕ) : Type 0 where
   pub left-is : getD left' i 0 ≡ cleared tip (getD left i 0)
   pub plan-is : getD plan' i 0 ≡ placed tip (getD left i 0) (getD plan i 0)
 
 -- line i is as it was
-pub record Kept (i : ℕ) (left plan left' plan' : List ℕ) : Type 0 where
+pub record LineKept (i : ℕ) (left plan left' plan' : List ℕ) : Type 0 where
   pub left-is : getD left' i 0 ≡ getD left i 0
   pub plan-is : getD plan' i 0 ≡ getD plan i 0
 
@@ -65,12 +63,30 @@ pub record Kept (i : ℕ) (left plan left' plan' : List ℕ) : Type 0 where
 pub record ListTaken (tip r : ℕ) (list left plan left' plan' counts' : List ℕ) : Type 0 where
   pub left-size : length left' ≡ length left
   pub plan-size : length plan' ≡ length plan
-  pub listed : (i : ℕ) → Among i r list → Done tip i left plan left' plan'
-  pub others : (i : ℕ) → Done tip i left plan left' plan' ⊎ Kept i left plan left' plan'
-  pub counted : Counted tip left' plan' counts'
+  pub listed : (i : ℕ) → Among i r list → LineDone tip i left plan left' plan'
+  pub others : (i : ℕ) → LineDone tip i left plan left' plan' ⊎ LineKept i left plan left' plan'
+  pub takeable : Takeable tip left' plan' counts'
 
 -- the tip is taken for all lines
 pub record Taken (tip : ℕ) (left plan left' plan' counts' : List ℕ) : Type 0 where
   pub left-is : left' ≡ map (cleared tip) left
   pub plan-is : plan' ≡ planBy (placed tip) left plan
   pub counts-are : Counts left' counts'
+
+-- what a round needs: a tip to take, and the unions and the lists by which the lines that have it are found
+pub record RoundReady (tip : ℕ) (left plan counts unions blocks places : List ℕ) : Type 0 where
+  pub takeable : Takeable tip left plan counts
+  pub covers : Covers left unions
+  pub fit : ListsFit unions blocks places
+
+-- what a round leaves
+pub record RoundDone (tip : ℕ) (left plan left' plan' counts' unions' : List ℕ) : Type 0 where
+  pub taken : Taken tip left plan left' plan' counts'
+  pub covers : Covers left' unions'
+
+-- what the rounds need: lines whose occurrences are counted, and the unions and the lists of each round
+pub record RoundsReady (rack : ℕ) (left plan counts unions blocks places : List ℕ) : Type 0 where
+  pub shareable : Shareable rack left plan
+  pub counts-are : Counts left counts
+  pub covers : Covers left unions
+  pub fit : ListsFit unions blocks places

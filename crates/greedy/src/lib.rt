@@ -2,18 +2,22 @@
 ghost use mathlib.Core.Path.{_≡_};
 ghost use Prim.Native.Nat.{_≤_, _<_};
 ghost use lib.ListN.{length};
+ghost use Rattle.model.specs.Limits.{mostLines};
+ghost use Rattle.head.specs.OnHead.{onHead};
 ghost use Rattle.counts.specs.Counts.{Counts};
-ghost use Rattle.blocks.specs.Blocks.{Covers, Room, Below};
-ghost use Rattle.greedy.specs.Rounds.{Shareable, Shared, Counted, LineTaken, ListTaken, Taken};
+ghost use Rattle.blocks.specs.Blocks.{Below};
+ghost use Rattle.greedy.specs.Rounds.{Shareable, QuickShared, Takeable, LineTaken, ListTaken};
+ghost use Rattle.greedy.specs.Rounds.{RoundReady, RoundDone, RoundsReady};
+use head::Mounted;
 
 // A line that has the tip is planned on it: its tips come off the counts, and its set becomes empty.
 fn take_line(tip: usize, i: usize, left: &mut [u64], plan: &mut [u8], counts: &mut [u64])
-    requires { ⌜ Counted tip (now left) (now plan) (now counts) × (i < length (now left)) ⌝ }
+    requires { ⌜ Takeable tip (now left) (now plan) (now counts) × (i < length (now left)) ⌝ }
     ensures { λ _. ⌜ LineTaken tip i (now (left .entry)) (now (plan .entry)) (now (left .exit)) (now (plan .exit)) (now (counts .exit)) ⌝ }
 {
     let set = left[i];
     if tips::has_tip(set, tip) {
-        counts::remove_tips(set, counts);
+        counts::remove_tips(0, set, counts);
         left[i] = 0;
         plan[i] = tip as u8;
     }
@@ -28,8 +32,9 @@ fn take_listed(
     plan: &mut [u8],
     counts: &mut [u64],
 )
-    requires { ⌜ Counted tip (now left) (now plan) (now counts) × Below (length (now left)) n (now lines) × (n ≤ length (now lines)) ⌝ }
-    ensures { λ _. ⌜ ListTaken tip n (now (lines .entry)) (now (left .entry)) (now (plan .entry)) (now (left .exit)) (now (plan .exit)) (now (counts .exit)) ⌝ }
+    requires { ⌜ Takeable tip (now left) (now plan) (now counts) × Below (length (now left)) n (now lines) × (n ≤ length (now lines)) ⌝ }
+    ensures { λ _. ⌜ ListTaken tip n (now (lines .entry)) (now (left .entry)) (now (plan .entry))
+        (now (left .exit)) (now (plan .exit)) (now (counts .exit)) ⌝ }
 {
     let mut i = 0;
     while i < n {
@@ -48,8 +53,9 @@ fn take_lines(
     plan: &mut [u8],
     counts: &mut [u64],
 )
-    requires { ⌜ Counted tip (now left) (now plan) (now counts) × Covers (now left) (now unions) × Room (now unions) (now blocks) (now lines) ⌝ }
-    ensures { λ _. ⌜ Taken tip (now (left .entry)) (now (plan .entry)) (now (left .exit)) (now (plan .exit)) (now (counts .exit)) × Covers (now (left .exit)) (now (unions .exit)) ⌝ }
+    requires { ⌜ RoundReady tip (now left) (now plan) (now counts) (now unions) (now blocks) (now lines) ⌝ }
+    ensures { λ _. ⌜ RoundDone tip (now (left .entry)) (now (plan .entry))
+        (now (left .exit)) (now (plan .exit)) (now (counts .exit)) (now (unions .exit)) ⌝ }
 {
     let all = (left.len() + 7) / 8;
     let hit = blocks::add_places(tip, 0, all, unions, 0, blocks);
@@ -58,9 +64,10 @@ fn take_lines(
     blocks::renew(hit, blocks, left, unions);
 }
 
-// Each round takes the tip that most lines left allow, the lowest on a tie.
+// Each round takes the tip that most lines left allow; on a tie the mounted one, else the lowest.
 fn take_rounds(
     rack: usize,
+    mounted: Mounted,
     unions: &mut [u64],
     blocks: &mut [u16],
     places: &mut [u16],
@@ -68,8 +75,8 @@ fn take_rounds(
     plan: &mut [u8],
     counts: &mut [u64],
 ) -> u32
-    requires { ⌜ Shareable rack (now left) (now plan) × Counts (now left) (now counts) × Covers (now left) (now unions) × Room (now unions) (now blocks) (now places) ⌝ }
-    ensures { λ r. ⌜ Shared rack (now (left .entry)) r (now (plan .exit)) (now (left .exit)) ⌝ }
+    requires { ⌜ RoundsReady rack (now left) (now plan) (now counts) (now unions) (now blocks) (now places) ⌝ }
+    ensures { λ r. ⌜ QuickShared (onHead mounted) rack (now (left .entry)) r (now (plan .exit)) (now (left .exit)) ⌝ }
 {
     let mut shared = 0;
     loop {
@@ -77,30 +84,37 @@ fn take_rounds(
         if busiest.top == 0 {
             return shared;
         }
-        let tip = tips::lowest(busiest.tips);
-        shared += counts::pairs_among(busiest.top);
+        let tip = head::choose(mounted, busiest.tips);
+        shared += pair_count::pairs_among(busiest.top);
         take_lines(tip, unions, blocks, places, left, plan, counts);
     }
 }
 
 // A place for each line of the longest board.
-fn no_lines() -> [u16; 512]
-    ensures { λ r. ⌜ length r ≡ 512 ⌝ }
+fn no_lines() -> [u16; blocks::PLACES]
+    ensures { λ r. ⌜ length r ≡ mostLines ⌝ }
 {
-    [0u16; 512]
+    [0u16; blocks::PLACES]
 }
 
 // The rounds, with the unions and the lists that they need.
-fn plan_counted(rack: usize, left: &mut [u64], plan: &mut [u8], counts: &mut [u64]) -> u32
+fn plan_counted(
+    rack: usize,
+    mounted: Mounted,
+    left: &mut [u64],
+    plan: &mut [u8],
+    counts: &mut [u64],
+) -> u32
     requires { ⌜ Shareable rack (now left) (now plan) × Counts (now left) (now counts) ⌝ }
-    ensures { λ r. ⌜ Shared rack (now (left .entry)) r (now (plan .exit)) (now (left .exit)) ⌝ }
+    ensures { λ r. ⌜ QuickShared (onHead mounted) rack (now (left .entry)) r (now (plan .exit)) (now (left .exit)) ⌝ }
 {
-    let mut unions = [0u64; 64];
+    let mut unions = [0u64; blocks::BLOCKS];
     blocks::unite((left.len() + 7) / 8, left, &mut unions);
-    let mut blocks = [0u16; 64];
+    let mut blocks = [0u16; blocks::BLOCKS];
     let mut places = no_lines();
     take_rounds(
         rack,
+        mounted,
         &mut unions,
         &mut blocks,
         &mut places,
@@ -111,11 +125,11 @@ fn plan_counted(rack: usize, left: &mut [u64], plan: &mut [u8], counts: &mut [u6
 }
 
 // The plan of quick sharing, and its pairs. The lines are the caller's working copy: at the end each set is empty.
-pub fn plan_lines(rack: usize, left: &mut [u64], plan: &mut [u8]) -> u32
+pub fn plan_lines(rack: usize, mounted: Mounted, left: &mut [u64], plan: &mut [u8]) -> u32
     requires { ⌜ Shareable rack (now left) (now plan) ⌝ }
-    ensures { λ r. ⌜ Shared rack (now (left .entry)) r (now (plan .exit)) (now (left .exit)) ⌝ }
+    ensures { λ r. ⌜ QuickShared (onHead mounted) rack (now (left .entry)) r (now (plan .exit)) (now (left .exit)) ⌝ }
 {
-    let mut counts = [0u64; 10];
+    let mut counts = [0u64; counts::PLANES];
     counts::count_tips(left, &mut counts);
-    plan_counted(rack, left, plan, &mut counts)
+    plan_counted(rack, mounted, left, plan, &mut counts)
 }

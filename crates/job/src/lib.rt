@@ -13,10 +13,6 @@ const HEADER: usize = 8;
 
 const LINE: usize = 8;
 
-const MOST_TIPS: usize = 64;
-
-const MOST_LINES: usize = 512;
-
 // The bytes of a file of `count` lines, and the place where line `count` starts.
 pub fn file_length(count: usize) -> usize
     requires { ⌜ fileLength count < 2 ^ 64 ⌝ }
@@ -69,7 +65,7 @@ pub fn count_in(file: &[u8]) -> usize
     two_at(file, 6) as usize
 }
 
-// The refusal by the header and the length, in document 01's order; 0 for none.
+// The refusal by the header and the length, in the rule book's order; 0 for none.
 pub fn header_number(file: &[u8]) -> u32
     ensures { λ r. ⌜ r ≡ headerNumber (now (file .entry)) ⌝ }
 {
@@ -86,11 +82,11 @@ pub fn header_number(file: &[u8]) -> u32
     if rack < 1 {
         return 1;
     }
-    if MOST_TIPS < rack {
+    if model::MOST_TIPS < rack {
         return 1;
     }
     let count = count_in(file);
-    if MOST_LINES < count {
+    if model::MOST_LINES < count {
         return 9;
     }
     if file.len() != file_length(count) {

@@ -4,8 +4,9 @@ ghost use mathlib.Core.Bool.{cond, _&&_};
 ghost use Prim.Native.Nat.{_+_, _*_, _<_, _≤_, _^_};
 ghost use lib.Dec.{eqb};
 ghost use lib.ListN.{length};
-ghost use Rattle.model.specs.Plan.{isEmpty, inRack};
-ghost use Rattle.job.specs.Job.{numberAt, lineLength, fileLength, countIn, setIn, setsIn, goodLines, badIn};
+ghost use Rattle.model.specs.Count.{firstFail};
+ghost use Rattle.model.specs.Plan.{isEmpty, inRack, isDomain};
+ghost use Rattle.job.specs.Job.{numberAt, lineLength, fileLength, rackIn, countIn, setIn, setsIn, goodLines};
 
 // The upper and the lower half of a set, each byte shifted to its place: the compiler then makes one load of the eight.
 fn upper_at(file: &[u8], i: usize) -> u64
@@ -100,7 +101,7 @@ pub fn read_sets(file: &[u8], sets: &mut [u64]) -> bool
 // The first line whose set is no domain; the number of lines where there is none.
 pub fn first_bad(file: &[u8]) -> usize
     requires { ⌜ fileLength (countIn (now file)) ≤ length (now file) ⌝ }
-    ensures { λ r. ⌜ r ≡ badIn (now (file .entry)) ⌝ }
+    ensures { λ r. ⌜ r ≡ firstFail (isDomain (rackIn (now (file .entry)))) (setsIn (now (file .entry))) ⌝ }
 {
     let rack = job::rack_in(file);
     let count = job::count_in(file);

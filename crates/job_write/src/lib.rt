@@ -3,7 +3,7 @@ ghost use mathlib.Core.Path.{_≡_};
 ghost use mathlib.Core.List.{_++_};
 ghost use Prim.Native.Nat.{_+_, _≤_};
 ghost use lib.ListN.{length, take, drop};
-ghost use Rattle.job.specs.Job.{headerLength, lineLength, fileLength, bytesOf, headerOf, linesOf, fileOf};
+ghost use Rattle.job.specs.Job.{headerLength, lineLength, fileLength, bytesOf, headerOf, bytesOfLines, fileOf};
 
 // Writes the header to the first bytes.
 fn put_header(rack: usize, count: usize, out: &mut [u8])
@@ -38,7 +38,7 @@ fn put_set(set: u64, at: usize, out: &mut [u8])
 // Writes the lines after the header.
 fn put_sets(lines: &[u64], out: &mut [u8])
     requires { ⌜ length (now out) ≡ fileLength (length (now lines)) ⌝ }
-    ensures { λ _. ⌜ now (out .exit) ≡ take headerLength (now (out .entry)) ++ linesOf (now (lines .entry)) ⌝ }
+    ensures { λ _. ⌜ now (out .exit) ≡ take headerLength (now (out .entry)) ++ bytesOfLines (now (lines .entry)) ⌝ }
 {
     let mut i = 0;
     while i < lines.len() {
@@ -54,15 +54,4 @@ pub fn write_file(rack: usize, sets: &[u64], out: &mut [u8])
 {
     put_header(rack, sets.len(), out);
     put_sets(sets, out);
-}
-
-// The file of the first lines of a board's sets, at the front of the output.
-pub fn write_first_lines(rack: usize, count: usize, sets: &[u64], out: &mut [u8]) -> usize
-    requires { ⌜ (count ≤ 512) × (length (now sets) ≡ 512) × (fileLength count ≤ length (now out)) ⌝ }
-    ensures size { λ r. ⌜ r ≡ fileLength count ⌝ }
-    ensures buffer { λ _. ⌜ now (out .exit) ≡ fileOf rack (take count (now (sets .entry))) ++ drop (fileLength count) (now (out .entry)) ⌝ }
-{
-    let bytes = job::file_length(count);
-    write_file(rack, &sets[..count], &mut out[..bytes]);
-    bytes
 }

@@ -3,16 +3,23 @@ ghost use mathlib.Core.Path.{_≡_};
 ghost use Prim.Native.Nat.{_+_, _*_, _≤_, _<_};
 ghost use mathlib.Core.List.{map};
 ghost use lib.ListN.{length, replicate};
+ghost use Rattle.model.specs.Limits.{mostTips};
 ghost use Rattle.model.specs.Count.{All};
 ghost use Rattle.model.specs.Plan.{Domain};
-ghost use Rattle.model.specs.Interval.{bestPlan};
-ghost use Rattle.layout.specs.Picks.{cell, splitBy, pickBy, Ready, Filled};
-ghost use Rattle.layout.specs.Owners.{ownerOf, owned, laid};
+ghost use Rattle.model.specs.Choice.{tip};
+ghost use Rattle.model.specs.Interval.{any, planOf};
+ghost use Rattle.head.specs.OnHead.{onHead};
+ghost use Rattle.layout.specs.Picks.{mostBy, splitBy, lowestBy, pickBy, Ready, Filled, Layable};
+ghost use Rattle.layout.specs.Owners.{ownersSize, ownerOf, owned, laid};
+use head::Mounted;
+
+// A place for the owner of each run in the largest rack, at its lowest tip * TIPS + its highest.
+const OWNERS_SIZE: usize = model::MOST_TIPS * model::MOST_TIPS;
 
 // The most pairs of the interval of first tip a and width w, from the table; 0 for one of no width.
-fn cell_at(m: usize, table: &[u32], a: usize, w: usize) -> u32
+fn most_at(m: usize, table: &[u32], a: usize, w: usize) -> u32
     requires { ⌜ (a + w ≤ m) × (length (now table) ≡ m * m) ⌝ }
-    ensures { λ r. ⌜ r ≡ cell m (now (table .entry)) a w ⌝ }
+    ensures { λ r. ⌜ r ≡ mostBy m (now (table .entry)) a w ⌝ }
 {
     if w == 0 {
         return 0;
@@ -25,23 +32,52 @@ fn split_at(m: usize, sums: &[u32], table: &[u32], a: usize, w: usize, i: usize)
     requires { ⌜ Filled m (now sums) (now table) × (a + w ≤ m) × (i < w) ⌝ }
     ensures { λ r. ⌜ r ≡ splitBy m (now (sums .entry)) (now (table .entry)) a w i ⌝ }
 {
-    let here = counts::pairs_among(spans::inside_at(sums, a, w, a + i));
-    let before = cell_at(m, table, a, i);
-    let after = cell_at(m, table, a + i + 1, w - (i + 1));
+    let here = pair_count::pairs_among(spans::inside_at(sums, a, w, a + i));
+    let before = most_at(m, table, a, i);
+    let after = most_at(m, table, a + i + 1, w - (i + 1));
     here + (before + after)
 }
 
-// The interval's tip, less a: the lowest that attains the most pairs.
-fn find_tip(m: usize, sums: &[u32], table: &[u32], a: usize, w: usize) -> usize
+// The lowest tip of the interval, less a, that attains the most pairs.
+fn find_lowest(m: usize, sums: &[u32], table: &[u32], a: usize, w: usize) -> usize
     requires { ⌜ Filled m (now sums) (now table) × (a + w ≤ m) × (0 < w) ⌝ }
-    ensures { λ r. ⌜ r ≡ pickBy m (now (sums .entry)) (now (table .entry)) a w ⌝ }
+    ensures { λ r. ⌜ r ≡ lowestBy m (now (sums .entry)) (now (table .entry)) a w ⌝ }
 {
-    let most = cell_at(m, table, a, w);
+    let most = most_at(m, table, a, w);
     let mut i = 0;
     while split_at(m, sums, table, a, w, i) < most {
         i += 1;
     }
     i
+}
+
+// The mounted tip, less a, if it is in the interval and attains the most pairs; else the lowest that does.
+fn find_mounted(m: usize, on: usize, sums: &[u32], table: &[u32], a: usize, w: usize) -> usize
+    requires { ⌜ Filled m (now sums) (now table) × (a + w ≤ m) × (0 < w) ⌝ }
+    ensures { λ r. ⌜ r ≡ pickBy (tip on) m (now (sums .entry)) (now (table .entry)) a w ⌝ }
+{
+    if on < a {
+        return find_lowest(m, sums, table, a, w);
+    }
+    let i = on - a;
+    if w <= i {
+        return find_lowest(m, sums, table, a, w);
+    }
+    if split_at(m, sums, table, a, w, i) < most_at(m, table, a, w) {
+        return find_lowest(m, sums, table, a, w);
+    }
+    i
+}
+
+// The interval's tip, less a: of those that attain the most pairs the mounted one, else the lowest.
+fn find_tip(m: usize, mounted: Mounted, sums: &[u32], table: &[u32], a: usize, w: usize) -> usize
+    requires { ⌜ Filled m (now sums) (now table) × (a + w ≤ m) × (0 < w) ⌝ }
+    ensures { λ r. ⌜ r ≡ pickBy (onHead mounted) m (now (sums .entry)) (now (table .entry)) a w ⌝ }
+{
+    match mounted {
+        Mounted::Nothing => find_lowest(m, sums, table, a, w),
+        Mounted::Tip(on) => find_mounted(m, on, sums, table, a, w),
+    }
 }
 
 // Each byte of the part becomes the tip.
@@ -57,38 +93,37 @@ fn fill(part: &mut [u8], tip: u8)
 
 // Tip a + i owns the runs of the interval that have it: they begin at a tip from a to a + i, and end at one from a + i to the last.
 fn own_runs(a: usize, w: usize, i: usize, owner: &mut [u8])
-    requires { ⌜ (i < w) × (a + w ≤ 64) × (length (now owner) ≡ 4096) ⌝ }
+    requires { ⌜ (i < w) × (a + w ≤ mostTips) × (length (now owner) ≡ ownersSize) ⌝ }
     ensures { λ _. ⌜ now (owner .exit) ≡ owned a w (a + i) (now (owner .entry)) ⌝ }
 {
     let tip = a + i;
     let mut lo = a;
     while lo <= tip {
-        let start = lo * 64 + tip;
-        let end = lo * 64 + (a + w);
+        let start = lo * model::MOST_TIPS + tip;
+        let end = lo * model::MOST_TIPS + (a + w);
         fill(&mut owner[start..end], tip as u8);
         lo += 1;
     }
 }
 
-// A place for the owner of each run in a rack of 64 tips, at its lowest tip * 64 + its highest.
-fn no_owners() -> [u8; 4096]
-    ensures { λ r. ⌜ length r ≡ 4096 ⌝ }
+fn no_owners() -> [u8; OWNERS_SIZE]
+    ensures { λ r. ⌜ length r ≡ ownersSize ⌝ }
 {
-    [0u8; 4096]
+    [0u8; OWNERS_SIZE]
 }
 
 // The owner of a line that is a run.
 fn owner_of(m: usize, owner: &[u8], line: u64) -> u8
-    requires { ⌜ (m ≤ 64) × Domain m line × (length (now owner) ≡ 4096) ⌝ }
+    requires { ⌜ (m ≤ mostTips) × Domain m line × (length (now owner) ≡ ownersSize) ⌝ }
     ensures { λ r. ⌜ r ≡ ownerOf (now (owner .entry)) line ⌝ }
 {
-    let place = tips::lowest(line) * 64 + tips::highest(line);
+    let place = tips::lowest(line) * model::MOST_TIPS + tips::highest(line);
     owner[place]
 }
 
 // Each line is planned on its owner.
 fn plan_owners(m: usize, lines: &[u64], owner: &[u8], plan: &mut [u8])
-    requires { ⌜ (m ≤ 64) × All (Domain m) (now lines) × (length (now owner) ≡ 4096) × (length (now plan) ≡ length (now lines)) ⌝ }
+    requires { ⌜ (m ≤ mostTips) × All (Domain m) (now lines) × (length (now owner) ≡ ownersSize) × (length (now plan) ≡ length (now lines)) ⌝ }
     ensures { λ _. ⌜ now (plan .exit) ≡ map (ownerOf (now (owner .entry))) (now (lines .entry)) ⌝ }
 {
     let mut i = 0;
@@ -98,33 +133,57 @@ fn plan_owners(m: usize, lines: &[u64], owner: &[u8], plan: &mut [u8])
     }
 }
 
-// An interval, which document 01 calls a stretch, is laid by its tip.
-fn lay_interval(m: usize, sums: &[u32], table: &[u32], a: usize, w: usize, owner: &mut [u8])
-    requires { ⌜ Filled m (now sums) (now table) × (a + w ≤ m) × (length (now owner) ≡ 4096) ⌝ }
-    ensures { λ _. ⌜ now (owner .exit) ≡ laid (pickBy m (now (sums .entry)) (now (table .entry))) a w (now (owner .entry)) ⌝ }
+// An interval, which RULES calls a stretch, is laid by its tip.
+fn lay_interval(
+    m: usize,
+    mounted: Mounted,
+    sums: &[u32],
+    table: &[u32],
+    a: usize,
+    w: usize,
+    owner: &mut [u8],
+)
+    requires { ⌜ Layable m (now sums) (now table) a w (now owner) ⌝ }
+    ensures { λ _. ⌜ now (owner .exit) ≡ laid (pickBy (onHead mounted) m (now (sums .entry)) (now (table .entry))) a w (now (owner .entry)) ⌝ }
 {
     if 0 < w {
-        let i = find_tip(m, sums, table, a, w);
-        lay_tip(m, sums, table, a, w, i, owner);
+        let i = find_tip(m, mounted, sums, table, a, w);
+        lay_tip(m, mounted, sums, table, a, w, i, owner);
     }
 }
 
 // The tip takes its runs, and lays the two intervals beside it.
-fn lay_tip(m: usize, sums: &[u32], table: &[u32], a: usize, w: usize, i: usize, owner: &mut [u8])
-    requires { ⌜ Filled m (now sums) (now table) × (a + w ≤ m) × (i < w) × (i ≡ pickBy m (now sums) (now table) a w) × (length (now owner) ≡ 4096) ⌝ }
-    ensures { λ _. ⌜ now (owner .exit) ≡ laid (pickBy m (now (sums .entry)) (now (table .entry))) a w (now (owner .entry)) ⌝ }
+fn lay_tip(
+    m: usize,
+    mounted: Mounted,
+    sums: &[u32],
+    table: &[u32],
+    a: usize,
+    w: usize,
+    i: usize,
+    owner: &mut [u8],
+)
+    requires { ⌜ Layable m (now sums) (now table) a w (now owner) × (i < w) × (i ≡ pickBy (onHead mounted) m (now sums) (now table) a w) ⌝ }
+    ensures { λ _. ⌜ now (owner .exit) ≡ laid (pickBy (onHead mounted) m (now (sums .entry)) (now (table .entry))) a w (now (owner .entry)) ⌝ }
 {
     own_runs(a, w, i, owner);
-    lay_interval(m, sums, table, a, i, owner);
-    lay_interval(m, sums, table, a + i + 1, w - (i + 1), owner);
+    lay_interval(m, mounted, sums, table, a, i, owner);
+    lay_interval(m, mounted, sums, table, a + i + 1, w - (i + 1), owner);
 }
 
-// The best plan of lines that are runs, from their sums and their table.
-pub fn plan_lines(m: usize, lines: &[u64], sums: &[u32], table: &[u32], plan: &mut [u8])
+// The plan of lines that are unbroken runs, from their sums and their table, where any tip may be chosen.
+pub fn plan_lines(
+    m: usize,
+    mounted: Mounted,
+    lines: &[u64],
+    sums: &[u32],
+    table: &[u32],
+    plan: &mut [u8],
+)
     requires { ⌜ Ready m (now lines) (now sums) (now table) × (length (now plan) ≡ length (now lines)) ⌝ }
-    ensures { λ _. ⌜ now (plan .exit) ≡ bestPlan m (now (lines .entry)) ⌝ }
+    ensures { λ _. ⌜ now (plan .exit) ≡ planOf (onHead mounted) any m (now (lines .entry)) ⌝ }
 {
     let mut owner = no_owners();
-    lay_interval(m, sums, table, 0, m, &mut owner);
+    lay_interval(m, mounted, sums, table, 0, m, &mut owner);
     plan_owners(m, lines, &owner, plan);
 }

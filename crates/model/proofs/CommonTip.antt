@@ -6,14 +6,15 @@ use mathlib.Core.Logic.{_↔_}
 use mathlib.Core.Bool.{Bool, true, not, cond, _&&_}
 use mathlib.Core.List.{List, map}
 use lib.ListN.{length}
-use lib.Dec.{T, eqb, ltb, eqb→eq, eqb-refl, ltb→lt, lt→ltb, leb·suc-zero}
+use lib.Dec.{T, eqb, ltb, eqb→eq, ltb→lt, lt→ltb, leb·suc-zero}
 use borrow.Author.Tests.{lt-ltb, le-ltb}
 use lib.IntN.{pos, negsuc, subℕ, negℤ, _+ℤ_, _-ℤ_, +ℤ-assoc, +ℤ-comm}
 use Rattle.model.specs.Count.{All, lowestAt}
 use Rattle.model.specs.Plan.{has, occ, uses, Domain, Valid, prefer}
+use Rattle.model.specs.Choice.{bare}
 use Rattle.model.specs.Greedy.{busiest}
-use Rattle.model.specs.CommonTip.{top, W, margin, mostUsed, off, Within, LeastOff}
-use Rattle.model.proofs.Tests.{and-left, and-right, and-in, one-le, one-T}
+use Rattle.model.specs.CommonTip.{top, W, margin, mostUsed, Within, LeastOff}
+use Rattle.model.proofs.Tests.{eqb-T, and-left, and-right, and-in, one-le, one-T}
 use Rattle.model.proofs.Lists.{all-select}
 use Rattle.model.proofs.Mix.{count-mix}
 use Rattle.model.proofs.Pairs.{uses-replicate}
@@ -51,7 +52,7 @@ W-iff m lines t =
     let f : ℕ → Bool = λ u. ltb 0 (occ lines u) && eqb (occ lines u) (top m lines) in
     rw (has-setOf f m t) (
       λ h. search (and-left, and-right, ltb→lt, eqb→eq),
-      λ (a, b, e). let same : T (eqb (occ lines t) (top m lines)) = rw e (eqb-refl (top m lines)) in search (and-in, lt→ltb),
+      λ (a, b, e). let same : T (eqb (occ lines t) (top m lines)) = eqb-T (occ lines t) (top m lines) e in search (and-in, lt→ltb),
     )
 
 pub W-lt : (m : ℕ) (lines : List ℕ) → W m lines < 2 ^ m
@@ -59,7 +60,8 @@ unfolding W
 W-lt m lines = setOf-lt _ m
 
 -- a tip is in W exactly when some line allows it, and as many lines as top do
-pub W-tips : {m : ℕ} {lines : List ℕ} → All (Domain m) lines → (t : ℕ) → T (has (W m lines) t) ↔ ((0 < occ lines t) × (occ lines t ≡ top m lines))
+pub W-tips : {m : ℕ} {lines : List ℕ} → All (Domain m) lines → (t : ℕ)
+    → T (has (W m lines) t) ↔ ((0 < occ lines t) × (occ lines t ≡ top m lines))
 W-tips {m} {lines} ds t = (
   λ h. let (b, p, e) = W-iff m lines t .0 h in (p, e),
   λ (p, e). W-iff m lines t .1 (occ-below ds t p, p, e),
@@ -68,7 +70,7 @@ W-tips {m} {lines} ds t = (
 -- ---- a plan that prefers a tip
 
 -- the lowest tip of a set
-lowTip : ℕ → ℕ → ℕ
+pub lowTip : ℕ → ℕ → ℕ
 lowTip m s = lowestAt (λ t. cond (has s t) 1 0) m
 
 has-lowTip : {m s : ℕ} → Domain m s → T (has s (lowTip m s))
@@ -79,7 +81,7 @@ has-lowTip {m} {s} d =
     one-T (has s (lowestAt f m)) (omega (arith, one-le true (has s t) (λ _. h), largest-ge f m t l, lowest-attains f m))
 
 -- the lines that allow w on it, and any other on its lowest tip
-pub gather : ℕ → ℕ → List ℕ → List ℕ
+unfoldable pub gather : ℕ → ℕ → List ℕ → List ℕ
 gather m w lines = map (prefer w (lowTip m)) lines
 
 module _ {m : ℕ} {lines : List ℕ} (ds : All (Domain m) lines) (w : ℕ) where
@@ -98,16 +100,16 @@ used-le m {lines} {plan} v = largest-mono (uses plan) (occ lines) m (λ t _. use
 
 module _ {m : ℕ} {lines : List ℕ} (some : 0 < m) (ds : All (Domain m) lines) where
   -- a plan that gathers the lines on a busiest tip has as many on it as top
-  gathered : top m lines ≤ mostUsed m (gather m (busiest lines m) lines)
+  gathered : top m lines ≤ mostUsed m (gather m (busiest bare lines m) lines)
   unfolding mostUsed
   gathered =
-      let w = busiest lines m in
-      omega (arith, top-le m lines, gather-uses ds w, largest-ge (uses (gather m w lines)) m w (busiest-lt m lines some))
+      let w = busiest bare lines m in
+      omega (arith, top-le bare m lines, gather-uses ds w, largest-ge (uses (gather m w lines)) m w (busiest-lt bare m lines some))
 
   -- THE LEAST NUMBER OF LINES OFF: n - top
   pub least-off : LeastOff m lines (length lines - top m lines)
   least-off =
-      let w = busiest lines m in
+      let w = busiest bare lines m in
       let v = gather-valid ds w in
       record {
         reached = (gather m w lines, v, omega (arith, valid-length v, gathered, used-le m v));

@@ -11,11 +11,12 @@ use lib.Dec.{T, T-not, not-T, eqb, eqb→eq, eqb-refl}
 use lib.Bits.{bitAnd}
 use store.Seg.{eqb-same}
 use borrow.Author.Tests.{eq-eqb, ne-eqb}
-use Rattle.model.specs.Count.{All, largest, lowestAt}
+use Rattle.model.specs.Count.{All, lowestAt}
 use Rattle.model.specs.Plan.{has, occ, uses, Domain}
+use Rattle.model.specs.Choice.{bare}
 use Rattle.model.specs.Greedy.{busiest}
 use Rattle.model.specs.CommonTip.{top, W, covers, narrowed, kept, prune, mostUsed, off, Supported, Exact}
-use Rattle.model.proofs.Tests.{test, true-T, false-T, cond-case, one-le, one-T}
+use Rattle.model.proofs.Tests.{test, true-T, false-T, eqb-T, cond-case, one-le, one-T}
 use Rattle.model.proofs.Lists.{all, map-cong, all-mapped, all-at, all-getD, getD-map, count-pos, count-set}
 use Rattle.model.proofs.Largest.{largest-ge, lowest-lt, lowest-attains}
 use Rattle.model.proofs.Sets.{has-some, covers-or, covers-iff, covers-and}
@@ -84,22 +85,24 @@ module _ {m : ℕ} {lines : List ℕ} (k : ℕ) (some : 0 < m) (ds : All (Domain
         -- the margin is above zero
         above : T (not atZero) → Goal
         above z =
-            let w = busiest lines m in
-            let ne : length lines ≢ top m lines + k = λ e. T-not atZero z (rw e (eqb-refl (top m lines + k))) in
-            stays w (busiest-lt m lines some) (omega (arith, top-le m lines, one-le (has s w) true (λ _. tt))) (rw (false-T atZero z))
+            let w = busiest bare lines m in
+            let ne : length lines ≢ top m lines + k = λ e. T-not atZero z (eqb-T (length lines) (top m lines + k) e) in
+            stays w (busiest-lt bare m lines some) (omega (arith, top-le bare m lines, one-le (has s w) true (λ _. tt))) (rw (false-T atZero z))
 
         -- at zero, the line lacks a tip u of W
         lacks : T atZero → (u : ℕ) × T (has (W m lines) u) × T (not (has s u)) → Goal
         lacks z (u, a, n) =
             let (below, pos, full) = W-iff m lines u .0 a in
             let not-all = not-T (covers m s (W m lines)) (λ c. T-not (has s u) n (sub c u a)) in
-            stays u below (omega (arith, exactly z, one-le (has s u) false (T-not (has s u) n))) (rw (true-T atZero z, false-T (covers m s (W m lines)) not-all))
+            let lacking = one-le (has s u) false (T-not (has s u) n) in
+            stays u below (omega (arith, exactly z)) (rw (true-T atZero z, false-T (covers m s (W m lines)) not-all))
 
         -- at zero, the line has all of W: the tip u that a plan with line i on t uses most is in W, and so line i is on u
         in-W : T atZero → T (covers m s (W m lines)) → Supported m lines k i t → T (has (W m lines) t)
         in-W z c q =
             let (own, u, below, h) = consistent q in
-            let full : occ lines u ≡ top m lines = omega (arith, exactly z, occ-le ds u, one-le (eqb u t) (has s u) (λ y. rw (eqb→eq u t y) own)) in
+            let here = one-le (eqb u t) (has s u) (λ y. rw (eqb→eq u t y) own) in
+            let full : occ lines u ≡ top m lines = omega (arith, exactly z, occ-le ds u) in
             let pos : 0 < occ lines u = omega (arith, occ-le ds t, count-pos (λ x. has x t) 0 lines i l own) in
             let w = W-iff m lines u .1 (below, pos, full) in
             rw (← (eqb→eq u t (one-T (eqb u t) (omega (arith, exactly z, one-le true (has s u) (λ _. sub c u w)))))) w
@@ -127,7 +130,8 @@ module _ {m : ℕ} {lines : List ℕ} (k : ℕ) (some : 0 < m) (ds : All (Domain
           some = has-some (kept m lines k s) t (exact-at i t l b .1 (plan, v, h, refl));
           below =
               let own : s < 2 ^ m = all-at 0 ds i l .below in
-              cond-case (λ x. x < 2 ^ m) (eqb (length lines) (top m lines + k)) (λ _. cond-case (λ x. x < 2 ^ m) (covers m s w) (λ _. W-lt m lines) (λ _. own)) (λ _. own);
+              let small : narrowed m w s < 2 ^ m = cond-case (λ x. x < 2 ^ m) (covers m s w) (λ _. W-lt m lines) (λ _. own) in
+              cond-case (λ x. x < 2 ^ m) (eqb (length lines) (top m lines + k)) (λ _. small) (λ _. own);
         }
 
     -- EXACTNESS: the pruned sets hold the consistent tips and no other

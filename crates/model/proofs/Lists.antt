@@ -5,9 +5,9 @@ use mathlib.Core.Path.{_≡_, refl, ap, ap₂, sym, _∙_}
 use mathlib.Core.Logic.{_↔_}
 use mathlib.Core.Bool.{Bool, true, false, cond, _&&_}
 use mathlib.Core.List.{List, [], _∷_, map}
-use lib.ListN.{length, take, drop, getD, set}
+use lib.ListN.{length, take, drop, getD, set, replicate}
 use lib.Dec.{T}
-use Rattle.model.specs.Count.{count, select, each, All, none, more}
+use Rattle.model.specs.Count.{count, select, each, firstFail, All, none, more}
 use Rattle.model.proofs.Tests.{true-T, cond-case, one-le, and-left, and-right, and-in}
 
 module _ {A : Type 0} {P : A → Type 0} where
@@ -64,6 +64,15 @@ module _ {A : Type 0} where
   map-cong none = refl
   map-cong (more e es) = ap₂ _∷_ e (map-cong es)
 
+  pub map-map : {B D : Type 0} (f : B → D) (g : A → B) (xs : List A) → map f (map g xs) ≡ map (λ x. f (g x)) xs
+  map-map f g [] = refl
+  map-map f g (x ∷ xs) = ap (λ l. f (g x) ∷ l) (map-map f g xs)
+
+  -- a list of one value
+  pub all-same : (v : A) {xs : List A} → All (λ x. x ≡ v) xs → xs ≡ replicate (length xs) v
+  all-same v none = refl
+  all-same v (more e es) = ap₂ _∷_ e (all-same v es)
+
   pub getD-map : {B : Type 0} (g : A → B) (d : A) (e : B) (xs : List A) (i : ℕ) → i < length xs → getD (map g xs) i e ≡ g (getD xs i d)
   getD-map g d e [] i l = absurd (omega arith)
   getD-map g d e (x ∷ xs) zero l = refl
@@ -81,7 +90,8 @@ module _ {A : Type 0} where
       let r = select f xs in
       let s = select (λ y. f y && g y) xs in
       let e : select g r ≡ s = select-select f g xs in
-      elim (f x) as (λ b. select g (cond b (x ∷ r) r) ≡ cond (b && g x) (x ∷ s) s) [ true ↦ ap (λ l. cond (g x) (x ∷ l) l) e | false ↦ e ]
+      let kept : select g (x ∷ r) ≡ cond (g x) (x ∷ s) s = ap (λ l. cond (g x) (x ∷ l) l) e in
+      elim (f x) as (λ b. select g (cond b (x ∷ r) r) ≡ cond (b && g x) (x ∷ s) s) [ true ↦ kept | false ↦ e ]
 
   -- the test of each element passes exactly when each does
   pub each-iff : (f : A → Bool) (xs : List A) → T (each f xs) ↔ All (λ x. T (f x)) xs
@@ -109,6 +119,32 @@ module _ {A : Type 0} where
   unfolding count
   count-none f none = refl
   count-none f (more {x} n ns) = omega (arith, one-le (f x) false n, count-none f ns)
+
+  pub count-map : {B : Type 0} (f : B → Bool) (g : A → B) (xs : List A) → count f (map g xs) ≡ count (λ x. f (g x)) xs
+  unfolding count
+  count-map f g [] = refl
+  count-map f g (x ∷ xs) = ap (λ n. cond (f (g x)) 1 0 + n) (count-map f g xs)
+
+  pub count-cong : {f g : A → Bool} {xs : List A} → All (λ x. f x ≡ g x) xs → count f xs ≡ count g xs
+  unfolding count
+  count-cong none = refl
+  count-cong (more e es) = ap₂ (λ b n. cond b 1 0 + n) e (count-cong es)
+
+  pub fail-map : {B : Type 0} (f : B → Bool) (g : A → B) (xs : List A) → firstFail f (map g xs) ≡ firstFail (λ x. f (g x)) xs
+  unfolding firstFail
+  fail-map f g [] = refl
+  fail-map f g (x ∷ xs) = ap (λ n. cond (f (g x)) (suc n) 0) (fail-map f g xs)
+
+  pub fail-cong : {f g : A → Bool} {xs : List A} → All (λ x. f x ≡ g x) xs → firstFail f xs ≡ firstFail g xs
+  unfolding firstFail
+  fail-cong none = refl
+  fail-cong (more e es) = ap₂ (λ b n. cond b (suc n) 0) e (fail-cong es)
+
+  -- a test that passes wherever another does counts at least as many
+  pub count-mono : (f g : A → Bool) (xs : List A) → ((x : A) → T (f x) → T (g x)) → count f xs ≤ count g xs
+  unfolding count
+  count-mono f g [] h = zero-le
+  count-mono f g (x ∷ xs) h = omega (arith, one-le (f x) (g x) (h x), count-mono f g xs h)
 
   pub count-le : (f : A → Bool) (xs : List A) → count f xs ≤ length xs
   unfolding count

@@ -1,13 +1,14 @@
--- Best sharing on lines that are runs of tips. An interval of tips, which document 01 calls a stretch, has a first tip a and a width w.
+-- Best sharing on lines that are runs of the named tips. An interval of tips, which RULES calls a stretch, has a first tip a and a width w.
 use Prim.Native.Nat.{ℕ, zero, suc, _+_, _*_, _-_, _/_, _%_, _≤_, _<_}
 use mathlib.Core.Path.{_≡_}
 use mathlib.Core.Logic.{_⊎_}
-use mathlib.Core.Bool.{Bool, cond, _&&_}
-use mathlib.Core.List.{List, [], _∷_, map}
+use mathlib.Core.Bool.{Bool, true, not, cond, _&&_, _||_}
+use mathlib.Core.List.{List, map}
 use lib.Dec.{T, ltb, leb, eqb}
 use lib.Count.{ones, leadingZeros, trailingZeros}
-use Rattle.model.specs.Count.{count, listOf, largest, lowestAt}
-use Rattle.model.specs.Plan.{has, choose2, Domain, prefer}
+use Rattle.model.specs.Count.{count, every, listOf, largest}
+use Rattle.model.specs.Plan.{has, occ, choose2, Domain, prefer}
+use Rattle.model.specs.Choice.{Mounted, choice, from}
 
 -- the lowest and the highest tip of a set that is not empty
 unfoldable pub low : ℕ → ℕ
@@ -16,15 +17,13 @@ low s = trailingZeros 64 s
 unfoldable pub high : ℕ → ℕ
 high s = 63 - leadingZeros 64 s
 
--- the distance from its lowest tip to its highest, plus one, is the number of its tips
+-- some line has tip t
+unfoldable pub named : List ℕ → ℕ → Bool
+named lines t = ltb 0 (occ lines t)
+
+-- an unbroken run: the distance from its lowest tip to its highest, plus one, is the number of its tips
 unfoldable pub isRun : ℕ → Bool
 isRun s = eqb (high s - low s + 1) (ones s)
-
--- a line whose tips pass the test ok, and that has each such tip between its lowest and its highest
-pub record Line (ok : ℕ → Bool) (m s : ℕ) : Type 0 where
-  pub domain : Domain m s
-  pub run : (c : ℕ) → T (ok c) → low s ≤ c → c ≤ high s → T (has s c)
-  pub fits : (c : ℕ) → T (has s c) → T (ok c)
 
 -- the line s lies within the interval
 unfoldable pub lies : ℕ → ℕ → ℕ → Bool
@@ -38,14 +37,18 @@ inside lines a w c = count (λ s. lies a w s && has s c) lines
 abbrev pub split : (ℕ → ℕ → ℕ) → List ℕ → ℕ → ℕ → ℕ → ℕ
 split D lines a w i = choose2 (inside lines a w (a + i)) + (D a i + D (a + i + 1) (w - (i + 1)))
 
--- the largest split of the interval, and so on for those beside it; k bounds the width
-unfoldable pub most : ℕ → List ℕ → ℕ → ℕ → ℕ
-most zero lines a w = 0
-most (suc k) lines a w = largest (split (most k lines) lines a w) w
+-- the largest split of the interval at a tip that is ok, 0 where it has none, and so on for those beside it; k bounds the width
+unfoldable pub most : (ℕ → Bool) → ℕ → List ℕ → ℕ → ℕ → ℕ
+most ok zero lines a w = 0
+most ok (suc k) lines a w = largest (λ i. cond (ok (a + i)) (split (most ok k lines) lines a w i) 0) w
 
--- the most pairs of the lines lying within the interval
+-- the most pairs of the lines lying within the interval, where the tips that are ok may be chosen
+abbrev pub mostOf : (ℕ → Bool) → List ℕ → ℕ → ℕ → ℕ
+mostOf ok lines a w = most ok w lines a w
+
+-- and where the named tips may be chosen
 unfoldable pub C : List ℕ → ℕ → ℕ → ℕ
-C lines a w = most w lines a w
+C lines a w = mostOf (named lines) lines a w
 
 -- the tip of the line s, where tip a + pick a w takes the lines of an interval that allow it; k bounds the width
 unfoldable pub tipBy : (ℕ → ℕ → ℕ) → ℕ → ℕ → ℕ → ℕ → ℕ
@@ -55,17 +58,49 @@ tipBy pick (suc k) a w s =
     let c = a + i in
     prefer c (λ x. cond (ltb (high x) c) (tipBy pick k a i x) (tipBy pick k (c + 1) (w - (i + 1)) x)) s
 
--- the lowest tip, less a, at which the split of the interval is largest
-unfoldable pub lowestPick : List ℕ → ℕ → ℕ → ℕ
-lowestPick lines a w = lowestAt (split (C lines) lines a w) w
+-- how good tip a + i is for the interval: the pairs of its split and one more; 0 for a tip that is not ok
+unfoldable pub worth : (ℕ → Bool) → (ℕ → ℕ → ℕ) → List ℕ → ℕ → ℕ → ℕ → ℕ
+worth ok D lines a w i = cond (ok (a + i)) (suc (split D lines a w i)) 0
 
--- the plan that splits each interval at the lowest tip of a largest split
-unfoldable pub bestPlan : ℕ → List ℕ → List ℕ
-bestPlan m lines = map (tipBy (lowestPick lines) m 0 m) lines
+-- the tip that is ok, less a, at which the split of the interval is largest; on a tie the mounted one, else the lowest
+unfoldable pub pickOf : Mounted → (ℕ → Bool) → List ℕ → ℕ → ℕ → ℕ
+pickOf mounted ok lines a w = choice (from a mounted) (worth ok (mostOf ok lines) lines a w) w
+
+-- the tip of a line s where the named tips may be chosen
+unfoldable pub bestTip : Mounted → ℕ → List ℕ → ℕ → ℕ
+bestTip mounted m lines s = tipBy (pickOf mounted (named lines) lines) m 0 m s
+
+-- each line on its tip
+unfoldable pub bestPlan : Mounted → ℕ → List ℕ → List ℕ
+bestPlan mounted m lines = map (bestTip mounted m lines) lines
 
 -- C of the interval from tip a to tip b, b included, at a * m + b; below the diagonal the width b + 1 - a is 0, and so is C
 unfoldable pub table : ℕ → List ℕ → List ℕ
 table m lines = listOf (λ k. C lines (k / m) (k % m + 1 - k / m)) (m * m)
+
+-- ---- for proofs and leaf contracts: no call's contract speaks of these
+
+-- every tip passes
+abbrev pub any : ℕ → Bool
+any c = true
+
+-- tip t is not between the lowest and the highest tip of s, or s has it
+unfoldable pub fills : ℕ → ℕ → Bool
+fills s t = not (leb (low s) t && leb t (high s)) || has s t
+
+-- a run among the tips that pass the test ok: the set has each of them between its lowest tip and its highest
+unfoldable pub isRunOf : (ℕ → Bool) → ℕ → Bool
+isRunOf ok s = every (λ t. not (ok t) || fills s t) 64
+
+-- a line whose tips pass the test ok, and that has each such tip between its lowest and its highest
+pub record Line (ok : ℕ → Bool) (m s : ℕ) : Type 0 where
+  pub domain : Domain m s
+  pub run : (c : ℕ) → T (ok c) → low s ≤ c → c ≤ high s → T (has s c)
+  pub fits : (c : ℕ) → T (has s c) → T (ok c)
+
+-- each line on the tip that takes it when each interval is split at its pick, a tip that is ok
+abbrev pub planOf : Mounted → (ℕ → Bool) → ℕ → List ℕ → List ℕ
+planOf mounted ok m lines = map (tipBy (pickOf mounted ok lines) m 0 m) lines
 
 -- the table D is at least each split of each interval at a tip that is ok
 abbrev pub Dominates : (ℕ → Bool) → ℕ → List ℕ → (ℕ → ℕ → ℕ) → Type 0

@@ -1,68 +1,98 @@
-use mathlib.Core.Path.{_≡_, refl, ap, sym, _∙_}
+use mathlib.Core.Path.{refl, ap, sym, _∙_}
 use native.Mathlib.Omega.{arith}
 use lib.ListN.{length}
-use Rattle.model.specs.Interval.{low}
+use Rattle.head.specs.OnHead.{onHead, chosen as chosenOf}
 use borrow.Author.Needs.{needs}
-use Rattle.blocks.specs.Blocks.{Covers, Room}
 use Rattle.greedy.proofs.Unplanned.{unplanned}
-use Rattle.greedy.proofs.Round.{State, Begun, Chosen, start, few-lines, tip-counted, end-left, end-plan, end-pairs, pairs-fit, next, next-fewer}
+use Rattle.greedy.proofs.Round.{Ongoing, Begun, Chosen, start, few-lines, tip-takeable, end-left, end-plan, end-pairs}
+use Rattle.greedy.proofs.Round.{pairs-fit, next, next-fewer}
 use Rattle.greedy.proofs.take_rounds.Statement.{statement}
 use Rattle.greedy.proofs.take_rounds.Tie as tie
 
 abbrev Inv-loop : tie.InvT-loop
-Inv-loop rack unions₀ blocks₀ places₀ left₀ plan₀ counts₀ shared₀ unions blocks places left plan counts shared =
-    State rack left₀ left plan counts shared × Covers left unions × (length unions ≡ length unions₀) × (length blocks ≡ length blocks₀) × (length places ≡ length places₀)
+Inv-loop rack mounted unions₀ blocks₀ places₀ left₀ plan₀ counts₀ shared₀ unions blocks places left plan counts shared =
+    Ongoing (onHead mounted) rack shared left₀ left plan counts unions₀ unions blocks₀ blocks places₀ places
 
 abbrev μ-loop : tie.MeasureT-loop
-μ-loop rack unions₀ blocks₀ places₀ left₀ plan₀ counts₀ shared₀ unions blocks places left plan counts shared = length (unplanned left)
+μ-loop rack mounted unions₀ blocks₀ places₀ left₀ plan₀ counts₀ shared₀ unions blocks places left plan counts shared = length (unplanned left)
+
+-- the places that the answers speak of: the call, a round's busiest tips, its choice, its pairs, and the round done
+abbrev begins : tie.After-slice-known6 Inv-loop μ-loop → tie.Start Inv-loop μ-loop
+begins c = c .before .before .before .before .before .before
+
+abbrev called : tie.At-loop Inv-loop μ-loop → tie.Start Inv-loop μ-loop
+called c = begins (c .before)
+
+abbrev looped : tie.After-busiest-tips Inv-loop μ-loop → tie.At-loop Inv-loop μ-loop
+looped c = c .before .before
+
+abbrev counted : tie.After-choose Inv-loop μ-loop → tie.After-busiest-tips Inv-loop μ-loop
+counted c = c .before .before .before
+
+abbrev paired : tie.After-take-lines-arg6 Inv-loop μ-loop → tie.After-pairs-among Inv-loop μ-loop
+paired c = c .before .before .before .before .before .before
+
+abbrev done : tie.After-slice-known12 Inv-loop μ-loop → tie.After-take-lines Inv-loop μ-loop
+done c = c .before .before .before .before .before .before .before .before .before .before .before .before
 
 begun : (c : tie.After-busiest-tips Inv-loop μ-loop)
-    → let s = c .before .before .before .before .before .before .before .before .before .args in
-    let l = c .before .before .loop in
-    Begun (s .rack) (s .left .now) (l .left) (l .plan) (l .counts) (l .shared) (c .busiest-tips .result .top)
+    → let s = called (looped c) .args in
+    let l = looped c .loop in
+    Begun (onHead (s .mounted)) (s .rack) (s .left .now) (l .left) (l .plan) (l .counts) (l .shared) (c .busiest-tips .result .top)
 begun c =
-    let p = c .before .before .before .before .before .before .before .before .before .pre .0 in
-    record { state = c .before .before .loop .inv .0; some = p .some; narrow = p .most; is-most = c .busiest-tips .ensures .0 }
+    let l = looped c in
+    record { state = l .loop .inv .state; good = called l .pre .shareable .good; is-most = c .busiest-tips .ensures .0 }
 
-chosen : (c : tie.After-lowest Inv-loop μ-loop)
-    → let b = c .before .before .before in
-    let s = b .before .before .before .before .before .before .before .before .before .args in
-    let l = b .before .before .loop in
-    Chosen (s .rack) (s .left .now) (l .left) (l .plan) (l .counts) (l .shared) (b .busiest-tips .result .top) (c .lowest .result)
+chosen : (c : tie.After-choose Inv-loop μ-loop)
+    → let b = counted c in
+    let s = called (looped b) .args in
+    let l = looped b .loop in
+    let top = b .busiest-tips .result .top in
+    Chosen (onHead (s .mounted)) (s .rack) (s .left .now) (l .left) (l .plan) (l .counts) (l .shared) top (c .choose .result)
 chosen c =
-    let b = c .before .before .before in
-    record { begun = begun b; lines-left = c .before .if1 .left; is-tip = c .lowest .ensures ∙ ap low (b .busiest-tips .ensures .1) }
+    let b = counted c in
+    let mounted = onHead (called (looped b) .args .mounted) in
+    record { begun = begun b; lines-left = c .before .if1 .left; is-tip = c .choose .ensures ∙ ap (chosenOf mounted) (b .busiest-tips .ensures .1) }
 
 loop-holds : tie.Need-loop-holds Inv-loop μ-loop
 loop-holds c =
-    let p = c .before .before .before .before .before .before .pre in
-    (start (p .0 .domains) (p .0 .size) (p .1), p .2, refl, refl, refl)
+    let p = begins c .pre in
+    let s = p .shareable in
+    record {
+      state = start (s .good .domains) (s .size) (p .counts-are);
+      covers = p .covers;
+      unions-size = refl;
+      blocks-size = refl;
+      places-size = refl;
+    }
 
 busiest-tips-requires : tie.Need-busiest-tips-requires Inv-loop μ-loop
-busiest-tips-requires c κs = (c .before .loop .inv .0 .counts-are .size, c .before .before .before .before .before .before .before .before .pre .0 .most)
+busiest-tips-requires c κs =
+    let l = c .before in
+    (l .loop .inv .state .counts-are .size, called l .pre .shareable .good .most)
 
 same-length : tie.Need-same-length Inv-loop μ-loop
-same-length c = c .before .before .before .before .loop .inv .2
+same-length c = looped (c .before .before) .loop .inv .unions-size
 
 same-length-2 : tie.Need-same-length-2 Inv-loop μ-loop
-same-length-2 c = c .before .before .before .before .loop .inv .3
+same-length-2 c = looped (c .before .before) .loop .inv .blocks-size
 
 same-length-3 : tie.Need-same-length-3 Inv-loop μ-loop
-same-length-3 c = c .before .before .before .before .loop .inv .4
+same-length-3 c = looped (c .before .before) .loop .inv .places-size
 
 same-length-4 : tie.Need-same-length-4 Inv-loop μ-loop
-same-length-4 c = c .before .before .before .before .loop .inv .0 .size
+same-length-4 c = looped (c .before .before) .loop .inv .state .size
 
 same-length-5 : tie.Need-same-length-5 Inv-loop μ-loop
 same-length-5 c =
-    let l = c .before .before .before .before .loop .inv .0 in
-    let p = c .before .before .before .before .before .before .before .before .before .before .before .pre .0 in
-    l .plan-size ∙ l .size ∙ sym (p .size)
+    let l = looped (c .before .before) in
+    let state = l .loop .inv .state in
+    state .plan-size ∙ state .size ∙ sym (called l .pre .shareable .size)
 
 same-length-6 : tie.Need-same-length-6 Inv-loop μ-loop
 same-length-6 c =
-    let e = c .before .before .before .before .before .before .before .before .before .before .before .pre .1 .size in
-    c .before .before .before .before .loop .inv .0 .counts-are .size ∙ sym e
+    let l = looped (c .before .before) in
+    l .loop .inv .state .counts-are .size ∙ sym (called l .pre .counts-are .size)
 
 returns : tie.Need-returns Inv-loop μ-loop
 returns c =
@@ -70,46 +100,49 @@ returns c =
     let z = c .if1 .taken in
     record { pairs-are = end-pairs b z; plan-is = end-plan b z; left-is = end-left b z }
 
-lowest-requires : tie.Need-lowest-requires Inv-loop μ-loop
-lowest-requires c κs = search needs
+choose-requires : tie.Need-choose-requires Inv-loop μ-loop
+choose-requires c κs = search needs
 
 pairs-among-requires : tie.Need-pairs-among-requires Inv-loop μ-loop
-pairs-among-requires c κs =
-    let b = c .before .before .before in
-    few-lines (begun b) (b .before .before .before .before .before .before .before .before .before .pre .0 .few)
+pairs-among-requires c κs = few-lines (begun (counted c))
 
 add-shared : tie.Need-add-shared Inv-loop μ-loop
-add-shared c =
-    let few = c .before .before .before .before .before .before .before .before .before .before .before .before .before .pre .0 .few in
-    record { fits = omega (arith, pairs-fit (chosen (c .before)) (c .pairs-among .ensures) few) }
+add-shared c = record { fits = omega (arith, pairs-fit (chosen (c .before)) (c .pairs-among .ensures)) }
 
 take-lines-requires : tie.Need-take-lines-requires Inv-loop μ-loop
 take-lines-requires c κs =
-    let t = c .before .before .before .before .before .before .before in
-    let b = t .before .before .before in
-    let l = b .before .before .loop in
-    let room = b .before .before .before .before .before .before .before .before .before .pre .3 in (
-      tip-counted (chosen t),
-      l .inv .1,
-      record {
-        for-blocks = omega (arith, room .for-blocks, l .inv .2, l .inv .3);
-        for-lines = omega (arith, room .for-lines, l .inv .2, l .inv .4);
-        narrow = omega (arith, room .narrow, l .inv .2);
-      },
-    )
+    let t = paired c .before in
+    let l = looped (counted t) in
+    let fit = called l .pre .fit in
+    let inv = l .loop .inv in
+    record {
+      takeable = tip-takeable (chosen t);
+      covers = inv .covers;
+      fit = record {
+        for-blocks = omega (arith, fit .for-blocks, inv .unions-size, inv .blocks-size);
+        for-lines = omega (arith, fit .for-lines, inv .unions-size, inv .places-size);
+        narrow = omega (arith, fit .narrow, inv .unions-size);
+      };
+    }
 
 loop-less : tie.Need-loop-less Inv-loop μ-loop
 loop-less c =
-    let t = c .before .before .before .before .before .before .before .before .before .before .before .before in
-    let p = t .before .before .before .before .before .before .before in
-    next-fewer (chosen (p .before)) (p .pairs-among .ensures) (t .take-lines .ensures .0)
+    let t = done c in
+    let p = paired (t .before) in
+    next-fewer (chosen (p .before)) (p .pairs-among .ensures) (t .take-lines .ensures .taken)
 
 loop-again : tie.Need-loop-again Inv-loop μ-loop
 loop-again c =
-    let t = c .before .before .before .before .before .before .before .before .before .before .before .before in
-    let p = t .before .before .before .before .before .before .before in
-    let (taken, covers) = t .take-lines .ensures in
-    (next (chosen (p .before)) (p .pairs-among .ensures) taken, covers, search needs, search needs, search needs)
+    let t = done c in
+    let p = paired (t .before) in
+    let r = t .take-lines .ensures in
+    record {
+      state = next (chosen (p .before)) (p .pairs-among .ensures) (r .taken);
+      covers = r .covers;
+      unions-size = search needs;
+      blocks-size = search needs;
+      places-size = search needs;
+    }
 
 pub take-rounds-spec : {M : Type 1} → statement M
 take-rounds-spec =
@@ -126,7 +159,7 @@ take-rounds-spec =
     same-length-5
     same-length-6
     returns
-    lowest-requires
+    choose-requires
     pairs-among-requires
     add-shared
     take-lines-requires

@@ -1,5 +1,6 @@
 use mathlib.Core.Path.{_∙_}
-use Rattle.layout.proofs.Plan.{plan-best}
+use Rattle.head.specs.OnHead.{onHead}
+use Rattle.layout.proofs.Plan.{plan-laid}
 use borrow.Author.Needs.{needs}
 use Rattle.layout.proofs.plan_lines.Statement.{statement}
 use Rattle.layout.proofs.plan_lines.Tie as tie
@@ -24,8 +25,11 @@ same-length c = search needs
 
 returns : tie.Need-returns
 returns c =
-    let owners = c .before .before .before .before .before .before .before .before .no-owners in
-    c .before .before .plan-owners .ensures ∙ rw (c .before .before .before .before .before .before .lay-interval .ensures) (plan-best (c .before .before .before .before .before .before .before .before .before .before .before .before .before .pre .0) (owners .result) (owners .ensures))
+    let laid = c .before .before .before .before .before .before in
+    let none = laid .before .before in
+    let s = none .before .before .before .before .before in
+    let planned = plan-laid (onHead (s .args .mounted)) (s .pre .0) (none .no-owners .result) (none .no-owners .ensures) in
+    c .before .before .plan-owners .ensures ∙ rw (laid .lay-interval .ensures) planned
 
 pub plan-lines-spec : {M : Type 1} → statement M
 plan-lines-spec =

@@ -1,0 +1,13 @@
+/* The functions of include/tipshare.h written by hand in C++, twice; everything said there holds for them too. */
+#pragma once
+
+#include "tipshare.h"
+
+extern "C" {
+decltype(tipshare_read) baseline_read, tuned_read;
+decltype(tipshare_common) baseline_common, tuned_common;
+decltype(tipshare_keep) baseline_keep, tuned_keep;
+decltype(tipshare_quick) baseline_quick, tuned_quick;
+decltype(tipshare_best) baseline_best, tuned_best;
+decltype(tipshare_report) baseline_report, tuned_report;
+}

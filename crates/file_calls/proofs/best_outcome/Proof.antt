@@ -1,0 +1,49 @@
+use Rattle.file_calls.proofs.ReadLines.{same-lines, best-in}
+use borrow.Author.Needs.{needs}
+use Rattle.file_calls.proofs.best_outcome.Statement.{statement}
+use Rattle.file_calls.proofs.best_outcome.Tie as tie
+
+no-sets-requires : tie.Need-no-sets-requires
+no-sets-requires c κs = search needs
+
+slice-aggregate-read-lines : tie.Need-slice-aggregate-read-lines
+slice-aggregate-read-lines c = search needs
+
+read-lines-requires : tie.Need-read-lines-requires
+read-lines-requires c κs = search needs
+
+slice-aggregate-best : tie.Need-slice-aggregate-best
+slice-aggregate-best c = search needs
+
+best-requires : tie.Need-best-requires
+best-requires c κs = search needs
+
+plan-outcome-requires : tie.Need-plan-outcome-requires
+plan-outcome-requires c κs = search needs
+
+same-length : tie.Need-same-length
+same-length c = search needs
+
+same-length-2 : tie.Need-same-length-2
+same-length-2 c = search needs
+
+returns : tie.Need-returns
+returns c =
+    let laid = c .before .before .before .before .before in
+    let (e, (lines, _)) = laid .before .before .before .before .before .read-lines .ensures in
+    let (answer, (plan, (table, rule))) = laid .best .ensures in
+    rw (c .plan-outcome .ensures) (best-in _ e (λ z. same-lines (lines z)) _ _ answer plan table rule)
+
+pub best-outcome-spec : {M : Type 1} → statement M
+best-outcome-spec =
+    tie.close
+    (tie.spec
+    no-sets-requires
+    slice-aggregate-read-lines
+    read-lines-requires
+    slice-aggregate-best
+    best-requires
+    plan-outcome-requires
+    same-length
+    same-length-2
+    returns)

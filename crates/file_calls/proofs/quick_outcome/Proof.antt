@@ -1,0 +1,45 @@
+use Rattle.file_calls.proofs.ReadLines.{same-lines, quick-in}
+use borrow.Author.Needs.{needs}
+use Rattle.file_calls.proofs.quick_outcome.Statement.{statement}
+use Rattle.file_calls.proofs.quick_outcome.Tie as tie
+
+no-sets-requires : tie.Need-no-sets-requires
+no-sets-requires c κs = search needs
+
+slice-aggregate-read-lines : tie.Need-slice-aggregate-read-lines
+slice-aggregate-read-lines c = search needs
+
+read-lines-requires : tie.Need-read-lines-requires
+read-lines-requires c κs = search needs
+
+slice-aggregate-quick : tie.Need-slice-aggregate-quick
+slice-aggregate-quick c = search needs
+
+quick-requires : tie.Need-quick-requires
+quick-requires c κs = search needs
+
+plan-outcome-requires : tie.Need-plan-outcome-requires
+plan-outcome-requires c κs = search needs
+
+same-length : tie.Need-same-length
+same-length c = search needs
+
+returns : tie.Need-returns
+returns c =
+    let laid = c .before .before .before .before in
+    let (e, (lines, _)) = laid .before .before .before .before .read-lines .ensures in
+    let (answer, (plan, rule)) = laid .quick .ensures in
+    rw (c .plan-outcome .ensures) (quick-in _ e (λ z. same-lines (lines z)) _ answer plan rule)
+
+pub quick-outcome-spec : {M : Type 1} → statement M
+quick-outcome-spec =
+    tie.close
+    (tie.spec
+    no-sets-requires
+    slice-aggregate-read-lines
+    read-lines-requires
+    slice-aggregate-quick
+    quick-requires
+    plan-outcome-requires
+    same-length
+    returns)

@@ -1,0 +1,126 @@
+// What each call gives for a job file in memory: the lines are read once, and the calls work on them after the refusal of reading.
+ghost use mathlib.Core.Path.{_≡_};
+ghost use lib.ListN.{length};
+ghost use Rattle.file_calls.specs.Calls.{twosComplement, planOutcome, keepOutcome};
+ghost use Rattle.file_calls.specs.Calls.{readIn, commonIn, keepIn, keepFileIn, quickIn, quickPlanIn, bestIn, bestPlanIn, bestTableIn};
+ghost use Rattle.file_calls.specs.Rules.{CommonRuleOf, KeepRuleOf, HalfRuleOf, BestRuleOf};
+use line_calls::FileAnswer;
+use line_calls::KeepAnswer;
+use line_calls::PlanAnswer;
+use refusal::Refusal;
+
+// A call's refusal, and up to three counts.
+pub struct Outcome {
+    pub refusal: Refusal,
+    pub first: u64,
+    pub second: u64,
+    pub third: u64,
+}
+
+pub fn read_outcome(file: &[u8]) -> Outcome
+    ensures { λ r. ⌜ r ≡ readIn (now (file .entry)) ⌝ }
+{
+    let refusal = reading::read_refusal(file);
+    if refusal.number != 0 {
+        return Outcome {
+            refusal,
+            first: 0,
+            second: 0,
+            third: 0,
+        };
+    }
+    Outcome {
+        refusal,
+        first: job::rack_in(file) as u64,
+        second: job::count_in(file) as u64,
+        third: 0,
+    }
+}
+
+pub fn common_outcome(file: &[u8]) -> Outcome
+    ensures outcome { λ r. ⌜ r ≡ commonIn (now (file .entry)) ⌝ }
+    ensures rule { λ r. ⌜ CommonRuleOf (now (file .entry)) r ⌝ }
+{
+    let mut sets = sound::no_sets();
+    let read = reading::read_lines(file, &mut sets);
+    let found = line_calls::common(read.refusal, read.rack, read.count, &sets);
+    let refusal = found.refusal;
+    Outcome {
+        refusal,
+        first: found.top as u64,
+        second: found.off as u64,
+        third: found.tips,
+    }
+}
+
+// Two's complement in 64 bits. No cast takes a number below zero to an unsigned one.
+fn twos_complement(x: i32) -> u64
+    ensures { λ r. ⌜ r ≡ twosComplement x ⌝ }
+{
+    if x < 0 {
+        return !(!x as u64);
+    }
+    x as u64
+}
+
+fn keep_outcome_of(kept: KeepAnswer, written: FileAnswer) -> Outcome
+    ensures { λ r. ⌜ r ≡ keepOutcome kept written ⌝ }
+{
+    let refusal = written.refusal;
+    let first = if refusal.number == 11 {
+        0
+    } else {
+        twos_complement(kept.margin)
+    };
+    Outcome {
+        refusal,
+        first,
+        second: written.bytes as u64,
+        third: 0,
+    }
+}
+
+pub fn keep_outcome(file: &[u8], k: u16, out: &mut [u8]) -> Outcome
+    ensures outcome { λ r. ⌜ r ≡ keepIn (now (file .entry)) k (length (now (out .entry))) ⌝ }
+    ensures out { λ _. ⌜ now (out .exit) ≡ keepFileIn (now (file .entry)) k (now (out .entry)) ⌝ }
+    ensures rule { λ r. ⌜ KeepRuleOf (now (file .entry)) k (now (out .exit)) r ⌝ }
+{
+    let mut sets = sound::no_sets();
+    let read = reading::read_lines(file, &mut sets);
+    let kept = line_calls::keep(read.refusal, read.rack, read.count, &mut sets, k);
+    let written = line_calls::write(kept.refusal, read.rack, read.count, &sets, out);
+    keep_outcome_of(kept, written)
+}
+
+fn plan_outcome(laid: PlanAnswer) -> Outcome
+    ensures { λ r. ⌜ r ≡ planOutcome laid ⌝ }
+{
+    let refusal = laid.refusal;
+    Outcome {
+        refusal,
+        first: laid.pairs as u64,
+        second: 0,
+        third: 0,
+    }
+}
+
+pub fn quick_outcome(file: &[u8], plan: &mut [u8]) -> Outcome
+    ensures outcome { λ r. ⌜ r ≡ quickIn (now (file .entry)) (length (now (plan .entry))) ⌝ }
+    ensures plan { λ _. ⌜ now (plan .exit) ≡ quickPlanIn (now (file .entry)) (now (plan .entry)) ⌝ }
+    ensures rule { λ r. ⌜ HalfRuleOf (now (file .entry)) (now (plan .exit)) r ⌝ }
+{
+    let mut sets = sound::no_sets();
+    let read = reading::read_lines(file, &mut sets);
+    plan_outcome(line_calls::quick(read.refusal, read.rack, read.count, &mut sets, plan))
+}
+
+pub fn best_outcome(file: &[u8], plan: &mut [u8], table: &mut [u32]) -> Outcome
+    ensures outcome { λ r. ⌜ r ≡ bestIn (now (file .entry)) (length (now (plan .entry))) (length (now (table .entry))) ⌝ }
+    ensures plan { λ _. ⌜ now (plan .exit) ≡ bestPlanIn (now (file .entry)) (now (plan .entry)) (length (now (table .entry))) ⌝ }
+    ensures table { λ _. ⌜ now (table .exit) ≡ bestTableIn (now (file .entry)) (length (now (plan .entry))) (now (table .entry)) ⌝ }
+    ensures rule { λ r. ⌜ BestRuleOf (now (file .entry)) (now (plan .exit)) r ⌝ }
+{
+    let mut sets = sound::no_sets();
+    let read = reading::read_lines(file, &mut sets);
+    plan_outcome(line_calls::best(read.refusal, read.rack, read.count, &sets, plan, table))
+}

@@ -1,0 +1,129 @@
+// The whole of what the program tipshare prints for a file, written into a buffer.
+ghost use mathlib.Core.Path.{_≡_};
+ghost use Prim.Native.Nat.{_≤_, min};
+ghost use lib.Dec.{T};
+ghost use lib.ListN.{length};
+ghost use Rattle.model.specs.Count.{each};
+ghost use Rattle.model.specs.Limits.{mostLines, GoodLines};
+ghost use Rattle.model.specs.Interval.{isRun};
+ghost use Rattle.report.specs.Report.{reportOf};
+ghost use Rattle.text.specs.Buffer.{Printed};
+ghost use Rattle.file_report.specs.Summary.{factsOf, BestShared, textOf, takenBytes, textRoom, summaryOf};
+
+// The bytes of a file that are taken: one more than the longest good file has, by which a longer one is seen.
+pub const TAKEN: usize = 4105;
+
+// The bytes that the longest text may need.
+pub const ROOM: usize = 16384;
+
+// A byte for each line of the longest board.
+fn plan_buffer() -> [u8; model::MOST_LINES]
+    ensures { λ r. ⌜ length r ≡ mostLines ⌝ }
+{
+    [0u8; model::MOST_LINES]
+}
+
+// A place for each interval of the largest rack.
+fn table_buffer() -> [u32; 4096]
+    ensures { λ r. ⌜ length r ≡ 4096 ⌝ }
+{
+    [0u32; 4096]
+}
+
+// Whether each line is a run, and the pairs of best sharing where it is so.
+struct Best {
+    runs: bool,
+    pairs: u32,
+}
+
+// Best sharing of the lines. Where some line is no run the plan stays as it was.
+fn best_lines(rack: usize, lines: &[u64], plan: &mut [u8]) -> Best
+    requires { ⌜ GoodLines rack (now lines) × (length (now plan) ≡ length (now lines)) ⌝ }
+    ensures runs { λ r. ⌜ r .runs ≡ each isRun (now (lines .entry)) ⌝ }
+    ensures best { λ r. ⌜ (T (r .runs) → BestShared rack (now (lines .entry)) (r .pairs) (now (plan .exit))) ⌝ }
+{
+    let mut table = table_buffer();
+    let laid = line_calls::best(
+        refusal::refuse(0),
+        rack,
+        lines.len(),
+        lines,
+        plan,
+        &mut table,
+    );
+    let refusal = laid.refusal;
+    Best {
+        runs: refusal.number == 0,
+        pairs: laid.pairs,
+    }
+}
+
+// The report on good lines, which quick sharing uses up; both plans have a byte a line.
+fn write_lines(
+    rack: usize,
+    lines: &mut [u64],
+    quick: &mut [u8],
+    best: &mut [u8],
+    out: &mut [u8],
+) -> usize
+    requires { ⌜ GoodLines rack (now lines) × (textRoom ≤ length (now out)) ⌝ }
+    requires { ⌜ (length (now quick) ≡ length (now lines)) × (length (now best) ≡ length (now lines)) ⌝ }
+    ensures { λ r. ⌜ Printed (reportOf (factsOf rack (now (lines .entry)))) (now (out .entry)) r (now (out .exit)) ⌝ }
+{
+    let count = lines.len();
+    let common = line_calls::common(refusal::refuse(0), rack, count, lines);
+    let shared = best_lines(rack, lines, best);
+    let laid = line_calls::quick(refusal::refuse(0), rack, count, lines, quick);
+    report::write_report(
+        rack,
+        common.off,
+        common.tips,
+        laid.pairs,
+        shared.runs,
+        shared.pairs,
+        quick,
+        best,
+        out,
+    )
+}
+
+// The report on a file, or on its refusal.
+fn write_file(file: &[u8], out: &mut [u8]) -> usize
+    requires { ⌜ textRoom ≤ length (now out) ⌝ }
+    ensures { λ r. ⌜ Printed (textOf (now (file .entry))) (now (out .entry)) r (now (out .exit)) ⌝ }
+{
+    let mut sets = sound::no_sets();
+    let read = reading::read_lines(file, &mut sets);
+    let refusal = read.refusal;
+    if refusal.number != 0 {
+        return report::write_refused(refusal.number, out);
+    }
+    let count = read.count;
+    let mut quick = plan_buffer();
+    let mut best = plan_buffer();
+    write_lines(
+        read.rack,
+        &mut sets[..count],
+        &mut quick[..count],
+        &mut best[..count],
+        out,
+    )
+}
+
+// The size of the part that is taken of a file of this size.
+fn taken_size(size: usize) -> usize
+    ensures { λ r. ⌜ r ≡ min size takenBytes ⌝ }
+{
+    if size < TAKEN { size } else { TAKEN }
+}
+
+// The text for a file, and its length; a buffer shorter than the longest text is left as it is.
+pub fn summarize(file: &[u8], out: &mut [u8]) -> usize
+    ensures { λ r. ⌜ Printed (summaryOf (now (file .entry)) (length (now (out .entry)))) (now (out .entry)) r (now (out .exit)) ⌝ }
+{
+    if out.len() < ROOM {
+        return 0;
+    }
+    let size = taken_size(file.len());
+    write_file(&file[..size], out)
+}

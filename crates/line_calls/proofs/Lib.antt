@@ -1,0 +1,5 @@
+pub mod CommonTip
+pub mod KeepWithin
+pub mod Plans
+pub mod JobFile
+pub mod Refused

@@ -1,0 +1,3 @@
+pub mod Listed
+pub mod Parts
+pub mod Columns

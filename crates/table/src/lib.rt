@@ -1,0 +1,147 @@
+// The table of best sharing: the most pairs of each interval of tips, from the lines summed by lowest and highest tip.
+ghost use mathlib.Core.Path.{_≡_};
+ghost use Prim.Native.Nat.{ℕ, _+_, _*_, _-_, _^_, _≤_, _<_, max};
+ghost use lib.ListN.{length};
+ghost use mathlib.Core.List.{List};
+ghost use Rattle.model.specs.Interval.{table as tableOf};
+ghost use Rattle.model.specs.Limits.{mostPlacements};
+ghost use Rattle.table.specs.Cells.{splitOf, Small, largestAt, SplitLists, allowsOf, zeros, cellBy, Cell, Differences, RunSums, ColumnsBy};
+
+// A power of two that is more than the most placements.
+const SHORT: u32 = 1024;
+
+// A column has a place for each tip, and one more.
+const COLUMN_SIZE: usize = model::MOST_TIPS + 1;
+
+// Signed numbers, because the compiler has one instruction to compare four of them.
+fn larger(x: u32, y: u32) -> u32
+    requires { ⌜ (x < 2 ^ 31) × (y < 2 ^ 31) ⌝ }
+    ensures { λ r. ⌜ r ≡ max x y ⌝ }
+{
+    if (x as i32) < (y as i32) { y } else { x }
+}
+
+// The remainder changes nothing: it tells the compiler that the number is short, and has a short product.
+fn lines_on(base: u32, allow: u32, sum: u32) -> u32
+    requires { ⌜ (base ≤ allow + sum) × (allow + sum ≤ base + mostPlacements) × (allow + sum ≤ 2 * mostPlacements) ⌝ }
+    ensures { λ r. ⌜ r ≡ allow + sum - base ⌝ }
+{
+    (allow + sum - base) % SHORT
+}
+
+// p * p - p, and not p * (p - 1), which goes below zero without lines.
+fn split_of(base: u32, allow: u32, sum: u32, left: u32, right: u32) -> u32
+    requires { ⌜ Small base allow sum left right ⌝ }
+    ensures { λ r. ⌜ (r ≡ splitOf base allow sum left right) × (r < 2 ^ 31) ⌝ }
+{
+    let p = lines_on(base, allow, sum);
+    (p * p - p) / 2 + (left + right)
+}
+
+// The largest of the first split and those at the tips after it: the innermost loop.
+fn largest_split(
+    first: u32,
+    base: u32,
+    allows: &[u32],
+    sums: &[u32],
+    lefts: &[u32],
+    rights: &[u32],
+) -> u32
+    requires { ⌜ (first < 2 ^ 31) × SplitLists base (now allows) (now sums) (now lefts) (now rights) ⌝ }
+    ensures { λ r. ⌜ r ≡ max first (largestAt base (now (allows .entry)) (now (sums .entry)) (now (lefts .entry)) (now (rights .entry))) ⌝ }
+{
+    let mut best = first;
+    let mut i = 0;
+    while i < allows.len() {
+        best = larger(
+            best,
+            split_of(base, allows[i], sums[i], lefts[i], rights[i]),
+        );
+        i += 1;
+    }
+    best
+}
+
+fn zeros() -> [u32; COLUMN_SIZE]
+    ensures { λ r. ⌜ r ≡ zeros ⌝ }
+{
+    [0u32; COLUMN_SIZE]
+}
+
+// For each tip c to b, how many lines that allow it have no tip after b.
+fn count_allows(sums: &[u32], b: usize, allows: &mut [u32])
+    requires { ⌜ Differences (now sums) b (now allows) ⌝ }
+    ensures { λ _. ⌜ now (allows .exit) ≡ allowsOf (now (sums .entry)) b (now (allows .entry)) ⌝ }
+{
+    let end = b + 1;
+    let mut c = 0;
+    while c < end {
+        let next = (c + 1) * spans::SUMS_WIDTH;
+        allows[c] = sums[next + end] - sums[next + c];
+        c += 1;
+    }
+}
+
+// The most pairs of the interval from tip a to tip b. No interval is left of tip a itself.
+fn cell(
+    m: usize,
+    a: usize,
+    b: usize,
+    sums: &[u32],
+    allows: &[u32],
+    column: &[u32],
+    table: &[u32],
+) -> u32
+    requires { ⌜ Cell m a b (now sums) (now allows) (now column) (now table) ⌝ }
+    ensures { λ r. ⌜ r ≡ cellBy m a b (now (sums .entry)) (now (allows .entry)) (now (column .entry)) (now (table .entry)) ⌝ }
+{
+    let row = a * spans::SUMS_WIDTH;
+    let next = a + 1;
+    let end = b + 1;
+    let next_sum = row + next;
+    let end_sum = row + end;
+    let first_cell = a * m + a;
+    let end_cell = a * m + b;
+    let next_right = a + 2;
+    let end_right = b + 2;
+    let base = sums[end_sum];
+    let first = split_of(base, allows[a], sums[row + a], 0, column[next]);
+    largest_split(
+        first,
+        base,
+        &allows[next..end],
+        &sums[next_sum..end_sum],
+        &table[first_cell..end_cell],
+        &column[next_right..end_right],
+    )
+}
+
+// Column b, from the diagonal up.
+fn fill_column(m: usize, b: usize, sums: &[u32], table: &mut [u32])
+    requires { ⌜ ((lines : List ℕ) × RunSums m lines (now sums)) × (b < m) × ColumnsBy m (now sums) (now table) b ⌝ }
+    ensures { λ _. ⌜ ColumnsBy m (now (sums .entry)) (now (table .exit)) (b + 1) ⌝ }
+{
+    let mut allows = zeros();
+    count_allows(sums, b, &mut allows);
+    let mut column = zeros();
+    let mut a = b + 1;
+    while 0 < a {
+        a -= 1;
+        let best = cell(m, a, b, sums, &allows, &column, table);
+        table[a * m + b] = best;
+        column[a] = best;
+    }
+}
+
+// C of the interval from a to b at a * m + b, and 0 below the diagonal: the table of all lines that have these sums.
+pub fn fill_table(m: usize, sums: &[u32], table: &mut [u32])
+    requires { ⌜ ((lines : List ℕ) × RunSums m lines (now sums)) × (length (now table) ≡ m * m) ⌝ }
+    ensures { λ _. ⌜ ((lines : List ℕ) → RunSums m lines (now (sums .entry)) → now (table .exit) ≡ tableOf m lines) ⌝ }
+{
+    spans::clear(table);
+    let mut b = 0;
+    while b < m {
+        fill_column(m, b, sums, table);
+        b += 1;
+    }
+}

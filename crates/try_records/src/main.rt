@@ -1,0 +1,334 @@
+// Records made by hand with rack sizes and numbers of lines up to 2^64 - 1, and boards of 512 lines over 64 tips through every call.
+use board::Answer;
+use board::Board;
+use board::Shared;
+use board::Stage;
+use board::Written;
+use try_lib::changed_bytes;
+use try_lib::changed_places;
+use try_lib::differences;
+use try_lib::junk_file;
+use try_lib::junk_plan;
+use try_lib::junk_table;
+use try_lib::only;
+use try_lib::show;
+use try_lib::size;
+use try_lib::sum;
+use try_lib::text;
+ghost use Prim.Native.Nat.{_≤_};
+ghost use lib.ListN.{length};
+
+// The tips 0 to 63.
+const ALL_TIPS: u64 = 18446744073709551615;
+
+// The tips 0 and 63: no run.
+const ENDS: u64 = 9223372036854775809;
+
+// The sets of 512 lines {0}.
+fn full() -> [u64; 512] {
+    [1; 512]
+}
+
+fn longest_file() -> [u8; 4104] {
+    [0; 4104]
+}
+
+// Both stages of a record whose 512 sets are {0}.
+fn each_stage(rack: usize, count: usize) {
+    let sets = full();
+    show(b"rack # lines #, open\n", &[rack as u64, count as u64]);
+    each_call(Board {
+        rack,
+        stage: Stage::Open,
+        count,
+        sets,
+    });
+    show(b"rack # lines #, closed\n", &[rack as u64, count as u64]);
+    each_call(Board {
+        rack,
+        stage: Stage::Closed,
+        count,
+        sets,
+    });
+}
+
+// In 64 bits the square of 2^32 is 0, and 8 + 8·2^63 is 8.
+fn records() {
+    each_stage(0, 512);
+    each_stage(65, 512);
+    each_stage(4294967296, 512);
+    each_stage(18446744073709551615, 512);
+    each_stage(3, 513);
+    each_stage(3, 9223372036854775808);
+    each_stage(3, 18446744073709551615);
+    each_stage(0, 513);
+    each_stage(4294967296, 9223372036854775808);
+    each_stage(18446744073709551615, 18446744073709551615);
+}
+
+// The sets of 512 lines.
+enum Lines {
+    AllTips,
+    OneTip,
+    TwoTips,
+    Upwards,
+    LastNoRun,
+}
+
+// The tips from this one to 63: 2^64 - 2^tip.
+fn upwards(tip: u64) -> u64 {
+    std::num::wrapping_sub_u64(0, only(tip))
+}
+
+fn set_of(lines: Lines, line: u64) -> u64 {
+    match lines {
+        Lines::AllTips => ALL_TIPS,
+        Lines::OneTip => only(line % 64),
+        Lines::TwoTips => only(line % 63) | only(sum(line % 63, 1)),
+        Lines::Upwards => upwards(line % 64),
+        Lines::LastNoRun => if line == 511 {
+            ENDS
+        } else {
+            upwards(line % 64)
+        },
+    }
+}
+
+// The closed board of 512 lines over 64 tips, by open, add and close.
+fn board_of(lines: Lines) -> Board {
+    let mut board = Board::open(64).board;
+    for i in 0..512 {
+        board = board.add(set_of(lines, i)).board;
+    }
+    board.close().board
+}
+
+// A prime: a set with one tip more or less has another remainder.
+const PRIME: u64 = 1000003;
+
+fn byte(x: u8) -> u64 {
+    x as u64
+}
+
+fn place(x: u32) -> u64 {
+    x as u64
+}
+
+// The sum of the sums of the first values, so that their order counts.
+fn sum_of_bytes(bytes: &[u8]) -> u64 {
+    let mut first: u64 = 0;
+    let mut all: u64 = 0;
+    for i in 0..bytes.len() {
+        first = sum(first, byte(bytes[i]));
+        all = sum(all, first);
+    }
+    all
+}
+
+fn sum_of_places(table: &[u32]) -> u64 {
+    let mut first: u64 = 0;
+    let mut all: u64 = 0;
+    for i in 0..table.len() {
+        first = sum(first, place(table[i]));
+        all = sum(all, first);
+    }
+    all
+}
+
+fn sum_of_sets(sets: &[u64]) -> u64 {
+    let mut first: u64 = 0;
+    let mut all: u64 = 0;
+    for i in 0..sets.len() {
+        first = sum(first, sets[i] % PRIME);
+        all = sum(all, first);
+    }
+    all
+}
+
+fn show_number(number: u32, place: usize, changed: u64) {
+    show(
+        b": number # place #; board changed #",
+        &[number as u64, place as u64, changed],
+    );
+}
+
+fn show_answer(words: &[u8], board: Board, answer: Answer) {
+    let back = answer.board;
+    text(words);
+    show_number(answer.number, answer.place, differences(board, back));
+    text(b"\n");
+}
+
+// The changed bytes of the whole buffer and of its part behind the first, and its sum.
+fn show_bytes(bytes: &[u8], first: usize) {
+    let changed = changed_bytes(bytes, 0);
+    let behind = changed_bytes(bytes, first);
+    show(
+        b" changed #, behind the first #: #, sum #",
+        &[changed, first as u64, behind, sum_of_bytes(bytes)],
+    );
+}
+
+fn show_places(table: &[u32], first: usize) {
+    let changed = changed_places(table, 0);
+    let behind = changed_places(table, first);
+    show(
+        b" changed #, behind the first #: #, sum #",
+        &[changed, first as u64, behind, sum_of_places(table)],
+    );
+}
+
+fn show_common(board: Board) {
+    let answer = board.common_tip();
+    let back = answer.board;
+    text(b"common tip");
+    show_number(answer.number, answer.place, differences(board, back));
+    show(
+        b"; top # off # tips #\n",
+        &[answer.top as u64, answer.off as u64, answer.tips],
+    );
+}
+
+fn show_margin(margin: i32) {
+    let size = size(margin);
+    if margin < 0 {
+        show(b"; margin -#", &[size]);
+    } else {
+        show(b"; margin #", &[size]);
+    }
+}
+
+fn show_keep(board: Board, k: u16) {
+    let answer = board.keep(k);
+    let back = answer.board;
+    let sets = back.sets;
+    show(b"keep k #", &[k as u64]);
+    show_number(answer.number, answer.place, differences(board, back));
+    show_margin(answer.margin);
+    show(b"; sets sum #\n", &[sum_of_sets(&sets)]);
+}
+
+// Quick sharing into the first `room` bytes.
+fn quick_in(board: Board, plan: &mut [u8], room: usize) -> Shared
+    requires { ⌜ room ≤ length (now plan) ⌝ }
+{
+    board.quick(&mut plan[..room])
+}
+
+fn show_quick(board: Board, room: usize)
+    requires { ⌜ room ≤ 520 ⌝ }
+{
+    let mut plan = junk_plan();
+    let answer = quick_in(board, &mut plan, room);
+    let back = answer.board;
+    show(b"quick, room #", &[room as u64]);
+    show_number(answer.number, answer.place, differences(board, back));
+    show(b"; pairs #; plan", &[answer.pairs as u64]);
+    show_bytes(&plan, 512);
+    text(b"\n");
+}
+
+fn best_in(board: Board, plan: &mut [u8], room: usize, table: &mut [u32], places: usize) -> Shared
+    requires { ⌜ (room ≤ length (now plan)) × (places ≤ length (now table)) ⌝ }
+{
+    board.best(&mut plan[..room], &mut table[..places])
+}
+
+fn show_best(board: Board, room: usize, places: usize)
+    requires { ⌜ (room ≤ 520) × (places ≤ 4100) ⌝ }
+{
+    let mut plan = junk_plan();
+    let mut table = junk_table();
+    let answer = best_in(board, &mut plan, room, &mut table, places);
+    let back = answer.board;
+    show(b"best, room # places #", &[room as u64, places as u64]);
+    show_number(answer.number, answer.place, differences(board, back));
+    show(b"; pairs #; plan", &[answer.pairs as u64]);
+    show_bytes(&plan, 512);
+    text(b"; table");
+    show_places(&table, 4096);
+    text(b"\n");
+}
+
+fn write_in(board: Board, file: &mut [u8], room: usize) -> Written
+    requires { ⌜ room ≤ length (now file) ⌝ }
+{
+    board.write(&mut file[..room])
+}
+
+fn show_write(board: Board, room: usize)
+    requires { ⌜ room ≤ 4112 ⌝ }
+{
+    let mut file = junk_file();
+    let answer = write_in(board, &mut file, room);
+    let back = answer.board;
+    show(b"write, room #", &[room as u64]);
+    show_number(answer.number, answer.place, differences(board, back));
+    show(b"; bytes #; file", &[answer.bytes as u64]);
+    show_bytes(&file, 4104);
+    text(b"\n");
+}
+
+// The written file is read, and the board compared.
+fn show_read(board: Board) {
+    let mut file = longest_file();
+    board.write(&mut file);
+    show_answer(b"read back", board, Board::read(&file));
+}
+
+// The seven calls, with buffers longer than any call needs.
+fn each_call(board: Board) {
+    show_answer(b"add {0}", board, board.add(1));
+    show_answer(b"close", board, board.close());
+    show_common(board);
+    show_keep(board, 5);
+    show_quick(board, 520);
+    show_best(board, 520, 4100);
+    show_write(board, 4112);
+}
+
+// Buffers one short, exactly long enough and longer.
+fn show_lent(board: Board) {
+    show_quick(board, 511);
+    show_quick(board, 512);
+    show_quick(board, 520);
+    show_best(board, 511, 4096);
+    show_best(board, 512, 4095);
+    show_best(board, 512, 4096);
+    show_best(board, 520, 4100);
+    show_write(board, 4103);
+    show_write(board, 4104);
+    show_write(board, 4112);
+}
+
+fn show_calls(words: &[u8], lines: Lines, bounds: [u16; 3]) {
+    let board = board_of(lines);
+    text(words);
+    show_common(board);
+    show_keep(board, bounds[0]);
+    show_keep(board, bounds[1]);
+    show_keep(board, bounds[2]);
+    show_lent(board);
+    show_read(board);
+}
+
+fn large_boards() {
+    show_calls(b"each line {0..63}\n", Lines::AllTips, [0, 1, 65535]);
+    show_calls(b"line i {i mod 64}\n", Lines::OneTip, [0, 504, 505]);
+    show_calls(
+        b"line i {i mod 63, i mod 63 + 1}\n",
+        Lines::TwoTips,
+        [0, 494, 495],
+    );
+    show_calls(b"line i {i mod 64..63}\n", Lines::Upwards, [0, 1, 65535]);
+    show_calls(
+        b"line i {i mod 64..63}, line 511 {0, 63}\n",
+        Lines::LastNoRun,
+        [0, 1, 65535],
+    );
+}
+
+fn main() {
+    records();
+    large_boards();
+}

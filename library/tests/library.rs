@@ -1,0 +1,44 @@
+//! The linked library through its safe form.
+
+use library::{best, common, keep, quick, read, report, CommonTip, Job, Kept, Refusal};
+
+/// The example of the rules: rack 3, lines {0} and {1,2}.
+const EXAMPLE: [u8; 24] = *b"TIP\x00\x01\x03\x00\x02\x00\x00\x00\x00\x00\x00\x00\x01\x00\x00\x00\x00\x00\x00\x00\x06";
+
+fn refused(number: u32, line: u64, margin: i64) -> Refusal {
+    Refusal { number, line, margin }
+}
+
+#[test]
+fn example_is_answered() {
+    assert_eq!(read(&EXAMPLE), Ok(Job { rack: 3, lines: 2 }));
+    assert_eq!(common(&EXAMPLE), Ok(CommonTip { top: 1, off: 1, tips: 0b111 }));
+    let mut out = [7; 25];
+    assert_eq!(keep(&EXAMPLE, 2, &mut out), Ok(Kept { margin: 1, bytes: 24 }));
+    assert_eq!((&out[..24], out[24]), (&EXAMPLE[..], 7));
+    let mut plan = [7; 3];
+    assert_eq!(quick(&EXAMPLE, &mut plan), Ok(0));
+    assert_eq!(plan, [0, 1, 7]);
+    let mut table = [7; 10];
+    assert_eq!(best(&EXAMPLE, &mut plan, &mut table), Ok(0));
+    assert_eq!((plan, table), ([0, 1, 7], [0, 0, 0, 0, 0, 0, 0, 0, 0, 7]));
+    let text = "lines 2 rack 3\noff 1 tips 0 1 2\nquick 0\nbest 0\nline 0 quick 0 best 0\nline 1 quick 1 best 1\n";
+    assert_eq!(report(&EXAMPLE), text.as_bytes());
+}
+
+#[test]
+fn refusals_carry_line_and_margin() {
+    let mut file = EXAMPLE;
+    assert_eq!(keep(&file, 0, &mut []), Err(refused(26, 0, -1)));
+    assert_eq!(keep(&file, 1, &mut []), Err(refused(11, 0, 0)));
+    assert_eq!(quick(&file, &mut [0]), Err(refused(4, 0, 0)));
+    file[23] = 0b101;
+    assert_eq!(best(&file, &mut [0; 2], &mut [0; 9]), Err(refused(25, 1, 0)));
+    file[23] = 0b1000;
+    assert_eq!(read(&file), Err(refused(3, 1, 0)));
+    assert_eq!(common(&file[..7]), Err(refused(6, 0, 0)));
+    assert_eq!(report(&file), b"refused 3\n");
+    assert_eq!(refused(3, 1, 0).to_string(), "refused 3 at line 1");
+    assert_eq!(refused(26, 0, -1).to_string(), "refused 26 with margin -1");
+    assert_eq!(refused(6, 0, 0).to_string(), "refused 6");
+}

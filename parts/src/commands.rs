@@ -1,0 +1,166 @@
+//! The commands, and what they share.
+
+use std::io::{self, IsTerminal, Write};
+
+use parts::files::{of_standard_output, Input, Output};
+use parts::job::{has_mark, Job};
+use parts::list::{is_quantity, Fault, List};
+use parts::planning::Named;
+
+/// The most faults of a list that are printed.
+const MOST_FAULTS: usize = 20;
+
+/// Why a command ends without its result.
+pub enum Failure {
+    /// The arguments are not those of a command.
+    Arguments,
+    /// One argument is not what the command takes.
+    Argument(String),
+    /// A file was refused, or could not be read or written.
+    Refused(String),
+}
+
+pub fn make(arguments: &[&str]) -> Result<(), Failure> {
+    let [path] = arguments else { return Err(Failure::Arguments) };
+    let file = list_of(path, &input_of(path)?.bytes)?.job().write();
+    if io::stdout().is_terminal() {
+        return Err(Failure::Refused(format!("a job file is no text; name a file: parts make {path} > JOB")));
+    }
+    print(&file)
+}
+
+pub fn show(arguments: &[&str]) -> Result<(), Failure> {
+    let [path] = arguments else { return Err(Failure::Arguments) };
+    let file = input_of(path)?.bytes;
+    let job = Job::read(&file).map_err(|refusal| about(path, refusal.in_words(&file)))?;
+    print(job.in_words().as_bytes())
+}
+
+pub fn sort(arguments: &[&str]) -> Result<(), Failure> {
+    let [column, path] = arguments else { return Err(Failure::Arguments) };
+    if is_quantity(column) {
+        return Err(Failure::Argument(format!("{column} is a quantity, and no list has one yet; name another column")));
+    }
+    let list = list_of(path, &input_of(path)?.bytes)?;
+    print(list.sorted_by(column).map_err(|faults| faulty(path, &faults))?.as_bytes())
+}
+
+pub fn keep(arguments: &[&str]) -> Result<(), Failure> {
+    let (arguments, list) = list_option(arguments)?;
+    let (k, path, job) = match arguments[..] {
+        [k, path] => (k, path, None),
+        [k, path, job] => (k, path, Some(job)),
+        _ => return Err(Failure::Arguments),
+    };
+    let Some(k) = k.parse().ok().filter(|_| k.bytes().all(|byte| byte.is_ascii_digit())) else {
+        return Err(Failure::Argument(format!("k is a number from 0 to 65535, and not {k}")));
+    };
+    let input = input_of(path)?;
+    let job = job.map(|out| output_of(out, &input)).transpose()?;
+    let list = list.map(|out| output_of(out, &input)).transpose()?;
+    if let (Some((_, job)), Some((out, list))) = (&job, &list) {
+        if list.replaces(job) {
+            return Err(Failure::Argument(format!("{out}: this is JOB and LIST; name two files")));
+        }
+    }
+    let kept = named(path, input.bytes)?.keep(k).map_err(|why| about(path, why))?;
+    let mut written = Vec::new();
+    for (output, bytes) in [(job, &kept.file[..]), (list, kept.list.as_bytes())] {
+        if let Some((out, output)) = output {
+            written.push((out, output.write(bytes).map_err(|error| about(out, error))?));
+        }
+    }
+    // Only when all is written does any file change.
+    for (out, written) in written {
+        written.put().map_err(|error| about(out, error))?;
+    }
+    print(kept.text.as_bytes())
+}
+
+pub fn plan(arguments: &[&str]) -> Result<(), Failure> {
+    let [path] = arguments else { return Err(Failure::Arguments) };
+    print(named(path, input_of(path)?.bytes)?.plan().map_err(|why| about(path, why))?.as_bytes())
+}
+
+pub fn picture(arguments: &[&str]) -> Result<(), Failure> {
+    let [path] = arguments else { return Err(Failure::Arguments) };
+    print(named(path, input_of(path)?.bytes)?.picture().map_err(|why| about(path, why))?.as_bytes())
+}
+
+/// The arguments but `--list`, and the file named behind it.
+fn list_option<'a>(arguments: &[&'a str]) -> Result<(Vec<&'a str>, Option<&'a str>), Failure> {
+    let mut others = Vec::new();
+    let mut list = None;
+    let mut words = arguments.iter();
+    while let Some(&word) = words.next() {
+        if word != "--list" {
+            others.push(word);
+            continue;
+        }
+        let file = words.next().filter(|file| !file.starts_with("--") && list.is_none());
+        list = Some(*file.ok_or(Failure::Arguments)?);
+    }
+    Ok((others, list))
+}
+
+/// Where to write, which is never the file that was read.
+fn output_of<'a>(path: &'a str, input: &Input) -> Result<(&'a str, Output), Failure> {
+    if path == "-" {
+        return Err(Failure::Argument(format!("{path}: this is standard input; name a file to write")));
+    }
+    let output = Output::at(path).map_err(|error| about(path, error))?;
+    if output.is(input) {
+        return Err(about(path, "this is the file that was read; name another one to write"));
+    }
+    Ok((path, output))
+}
+
+/// The job file of these bytes, with names where they are a parts list.
+fn named(path: &str, bytes: Vec<u8>) -> Result<Named, Failure> {
+    if has_mark(&bytes) {
+        return Ok(Named { file: bytes, list: None });
+    }
+    Ok(Named::of_list(list_of(path, &bytes)?))
+}
+
+fn about(path: &str, why: impl ToString) -> Failure {
+    Failure::Refused(format!("{path}: {}", why.to_string()))
+}
+
+/// A file, or standard input for `-`, unless standard output is the same file.
+fn input_of(path: &str) -> Result<Input, Failure> {
+    let input = Input::read(path).map_err(|error| about(path, error))?;
+    let output = of_standard_output().map_err(lost)?;
+    if output.is_some() && output == input.identity {
+        return Err(about(path, "this file is standard output too; name another file behind `>`"));
+    }
+    Ok(input)
+}
+
+fn list_of(path: &str, bytes: &[u8]) -> Result<List, Failure> {
+    if has_mark(bytes) {
+        return Err(about(path, "this is a job file and no parts list; `parts show` turns it into one"));
+    }
+    List::read(bytes).map_err(|faults| faulty(path, &faults))
+}
+
+/// The faults as lines `FILE:LINE: what is wrong; what to do`.
+fn faulty(path: &str, faults: &[Fault]) -> Failure {
+    let mut lines: Vec<String> =
+        faults.iter().take(MOST_FAULTS).map(|fault| format!("{path}:{}: {}", fault.line, fault.what)).collect();
+    if faults.len() > MOST_FAULTS {
+        lines.push(format!("{path}: {} more lines are wrong", faults.len() - MOST_FAULTS));
+    }
+    Failure::Refused(lines.join("\n"))
+}
+
+pub fn print(bytes: &[u8]) -> Result<(), Failure> {
+    let mut out = io::stdout();
+    let result = out.write_all(bytes).and_then(|()| out.flush());
+    result.map_err(lost)
+}
+
+/// The failure of standard output.
+fn lost(error: io::Error) -> Failure {
+    about("standard output", format!("{error}; let it lead to a file or a pipe that takes all of it"))
+}

@@ -1,0 +1,132 @@
+//! The commands, with what is typed and what each does.
+
+use crate::commands::{self, print, Failure};
+
+/// A command of the program.
+pub struct Command {
+    name: &'static str,
+    /// What is typed behind its name.
+    arguments: &'static str,
+    /// What it does, in short lines for the page of all commands.
+    does: &'static str,
+    /// The rest of its own page.
+    more: &'static str,
+    /// The options that its arguments may have.
+    options: &'static [&'static str],
+    run: fn(&[&str]) -> Result<(), Failure>,
+}
+
+const COMMANDS: [Command; 6] = [
+    Command {
+        name: "make",
+        arguments: "LIST",
+        does: "write the job file of a parts list to standard output",
+        more: "Line i of the job file, counted from 0, is part i of the list.\n\
+               Example: parts make board.txt > board.job\n",
+        options: &[],
+        run: commands::make,
+    },
+    Command {
+        name: "show",
+        arguments: "JOB",
+        does: "print a job file as a parts list",
+        more: "A job file has no names: each part is named by its line number, counted from 0.\n\
+               Example: parts show board.job > board.txt\n",
+        options: &[],
+        run: commands::show,
+    },
+    Command {
+        name: "sort",
+        arguments: "COLUMN LIST",
+        does: "print a parts list sorted by a column, as height",
+        more: "The lowest number comes first, and parts with equal numbers stay in their order.\n\
+               Example: parts sort height board.txt > by-height.txt\n",
+        options: &[],
+        run: commands::sort,
+    },
+    Command {
+        name: "keep",
+        arguments: "K FILE [JOB] [--list LIST]",
+        does: "print which parts lose tips when at most K parts may be off the most used tip,\n\
+               and write what is left as the job file JOB and as the parts list LIST",
+        more: "A tip is struck from a part where no plan within K has the part on that tip. The list written has the\n\
+               names, columns and comments of the list read; from a job file it has line numbers for names.\n\
+               JOB and LIST replace files of their names, but never FILE.\n\
+               Example: parts keep 3 board.txt --list kept.txt\n",
+        options: &["--list"],
+        run: commands::keep,
+    },
+    Command {
+        name: "plan",
+        arguments: "FILE",
+        does: "print the quick and the best plan, part by part, and a summary of both",
+        more: "Quick takes every list. Best has the most pairs of all plans, a pair being two parts on one tip;\n\
+               it takes lists in which each part has every tip between its lowest and its highest.\n\
+               The summary counts tip changes for parts placed tip by tip: one less than the tips used.\n\
+               Example: parts plan board.txt\n",
+        options: &[],
+        run: commands::plan,
+    },
+    Command {
+        name: "picture",
+        arguments: "FILE",
+        does: "print a drawing of both plans, parts against tips, as SVG",
+        more: "The comment behind each part stands beside its name.\n\
+               Example: parts picture board.txt > board.svg\n",
+        options: &[],
+        run: commands::picture,
+    },
+];
+
+const FILES: &str = "LIST is a parts list, JOB a job file, FILE either one; - is standard input.\n";
+
+impl Command {
+    pub fn named(name: &str) -> Option<&'static Command> {
+        COMMANDS.iter().find(|command| command.name == name)
+    }
+
+    /// Does what the command does, or prints its page where that is asked for.
+    pub fn run(&self, arguments: &[&str]) -> Result<(), Failure> {
+        if arguments.iter().any(|word| matches!(*word, "--help" | "-h")) {
+            return print(self.page().as_bytes());
+        }
+        // A word with two dashes is never a file, so that a mistyped option is not taken for one.
+        if arguments.iter().any(|word| word.starts_with("--") && !self.options.contains(word)) {
+            return Err(Failure::Arguments);
+        }
+        (self.run)(arguments)
+    }
+
+    fn typed(&self) -> String {
+        format!("parts {} {}", self.name, self.arguments)
+    }
+
+    /// What to type, after wrong arguments.
+    pub fn usage(&self) -> String {
+        format!("usage: {}\n`parts {} --help` says more", self.typed(), self.name)
+    }
+
+    /// The page of this command.
+    pub fn page(&self) -> String {
+        format!("{}\n{}\n\n{}{FILES}", self.typed(), self.does, self.more)
+    }
+}
+
+/// The page of all commands.
+pub fn page() -> String {
+    let width = COMMANDS.iter().map(|command| command.typed().len()).max().unwrap_or(0) + 2;
+    let mut page = concat!(env!("CARGO_PKG_DESCRIPTION"), ".\n\n").to_string();
+    for command in &COMMANDS {
+        let mut left = command.typed();
+        for line in command.does.lines() {
+            page += &format!("{left:width$}{line}\n");
+            left.clear();
+        }
+    }
+    page + "\n" + FILES + ENDS
+}
+
+const ENDS: &str = "\
+Exit 0: done. Exit 1: a file was refused, or could not be read or written. Exit 2: wrong arguments.
+`parts COMMAND --help` says more of a command, `parts --version` names the version.
+";

@@ -1,0 +1,193 @@
+//! A drawing of a parts list, parts against tips, with its quick and its best plan, as SVG.
+
+use crate::counted;
+use crate::planning::{Named, Plan, Plans};
+
+/// The side of a cell.
+const CELL: usize = 38;
+/// The least width of the comments beside the names.
+const COMMENTS: usize = 166;
+/// Between the two plans.
+const BETWEEN: usize = 56;
+/// The least width of a plan, for the words above it.
+const HEADING: usize = 228;
+const MARGIN: usize = 24;
+/// Above the first part.
+const TOP: usize = 84;
+/// Below the last part.
+const BELOW: usize = 116;
+
+const INK: &str = "#1f2933";
+const GREY: &str = "#66727f";
+const RULE: &str = "#c3ccd5";
+const ALLOWED: &str = "#dfe6ec";
+
+/// Which plan is drawn, a disc for quick and a square for best, so that they differ in black and white too.
+#[derive(Clone, Copy)]
+enum Kind {
+    Quick,
+    Best,
+}
+
+impl Kind {
+    fn name(self) -> &'static str {
+        match self {
+            Kind::Quick => "quick",
+            Kind::Best => "best",
+        }
+    }
+
+    fn colour(self) -> &'static str {
+        match self {
+            Kind::Quick => "#1f6fb2",
+            Kind::Best => "#b8480b",
+        }
+    }
+
+    /// The mark of a used tip in the cell at this place.
+    fn mark(self, x: usize, y: usize) -> String {
+        let colour = self.colour();
+        match self {
+            Kind::Quick => {
+                let (middle, radius) = (CELL / 2, CELL / 2 - 8);
+                format!(r#"<circle cx="{}" cy="{}" r="{radius}" fill="{colour}"/>"#, x + middle, y + middle)
+            }
+            Kind::Best => {
+                let side = CELL - 16;
+                format!(r#"<rect x="{}" y="{}" width="{side}" height="{side}" fill="{colour}"/>"#, x + 8, y + 8)
+            }
+        }
+    }
+}
+
+/// A line of text.
+struct Text {
+    size: usize,
+    anchor: &'static str,
+    colour: &'static str,
+    weight: &'static str,
+}
+
+const PLAIN: Text = Text { size: 15, anchor: "start", colour: INK, weight: "normal" };
+
+impl Text {
+    fn at(&self, x: usize, y: usize, words: &str) -> String {
+        let Text { size, anchor, colour, weight } = self;
+        let words = escaped(words);
+        format!(r#"<text x="{x}" y="{y}" font-size="{size}" text-anchor="{anchor}""#)
+            + &format!(r#" fill="{colour}" font-weight="{weight}">{words}</text>"#)
+    }
+}
+
+fn escaped(words: &str) -> String {
+    let marks = [("&", "&amp;"), ("<", "&lt;"), (">", "&gt;"), ("\"", "&quot;"), ("'", "&#x27;")];
+    marks.iter().fold(words.into(), |words: String, (mark, name)| words.replace(mark, name))
+}
+
+/// The mark of a tip that can pick the part, in the cell at this place.
+fn allowed(x: usize, y: usize) -> String {
+    let side = CELL - 8;
+    format!(r#"<rect x="{}" y="{}" width="{side}" height="{side}" rx="4" fill="{ALLOWED}"/>"#, x + 4, y + 4)
+}
+
+/// The top of a part's row.
+fn row_top(row: usize) -> usize {
+    TOP + CELL * row
+}
+
+/// One plan, or none: a column for each tip, a row for each part, and the sums below.
+fn panel(kind: Kind, left: usize, plans: &Plans, plan: Option<&Plan>) -> Vec<String> {
+    let (rack, sets) = (plans.job.rack, &plans.job.sets);
+    let (name, colour) = (kind.name(), kind.colour());
+    let middle = |tip: usize| left + CELL * tip + CELL / 2;
+    let bottom = row_top(sets.len());
+    let words = plan.map_or("none".into(), |plan| {
+        format!("{} on {}", counted(plan.pairs, "pair"), counted(plan.tips_used(rack) as u64, "tip"))
+    });
+    let mut drawn = vec![
+        format!(r#"<text x="{left}" y="{}" font-size="18" fill="{INK}">"#, TOP - 50),
+        format!(r#"<tspan font-weight="bold" fill="{colour}">{name}:</tspan> {words}</text>"#),
+    ];
+    let number = Text { anchor: "middle", ..PLAIN };
+    let strong = Text { weight: "bold", ..number };
+    for tip in 0..rack {
+        drawn.push(strong.at(middle(tip), TOP - 12, &tip.to_string()));
+    }
+    for (row, set) in sets.iter().enumerate() {
+        let y = row_top(row);
+        drawn.extend((0..rack).filter(|tip| set >> tip & 1 == 1).map(|tip| allowed(left + CELL * tip, y)));
+        drawn.extend(plan.map(|plan| kind.mark(left + CELL * usize::from(plan.tips[row]), y)));
+    }
+    let right = left + CELL * rack;
+    drawn.push(format!(r#"<path d="M{left} {}H{right}" stroke="{GREY}" stroke-width="1"/>"#, bottom + 3));
+    let Some(plan) = plan else {
+        return drawn;
+    };
+    for tip in 0..rack {
+        let (x, count) = (middle(tip), plan.on_tip(tip));
+        if count == 0 {
+            let nothing = Text { colour: GREY, ..number };
+            drawn.push(nothing.at(x, bottom + 27, "–"));
+            drawn.push(nothing.at(x, bottom + 50, "–"));
+        } else {
+            drawn.push(number.at(x, bottom + 27, &count.to_string()));
+            drawn.push(Text { colour, ..strong }.at(x, bottom + 50, &(count * (count - 1) / 2).to_string()));
+        }
+    }
+    drawn
+}
+
+impl Named {
+    /// The drawing of the list and both plans.
+    pub fn picture(&self) -> Result<String, String> {
+        let plans = self.plans()?;
+        let rows = plans.job.sets.len();
+        let labels: Vec<String> = (0..rows).map(|line| self.label(line)).collect();
+        let comments: Vec<&str> =
+            (0..rows).map(|line| self.list.as_ref().map_or("", |list| list.parts[line].comment())).collect();
+        let longest = |words: &mut dyn Iterator<Item = &str>| words.map(|word| word.chars().count()).max().unwrap_or(0);
+        let names_width = 14 + 10 * longest(&mut labels.iter().map(String::as_str));
+        let comments_width = COMMENTS.max(22 + 8 * longest(&mut comments.iter().copied()));
+        let first = MARGIN + names_width + comments_width;
+        let panel_width = HEADING.max(CELL * plans.job.rack);
+        let second = first + panel_width + BETWEEN;
+        let width = second + panel_width + MARGIN;
+        let bottom = row_top(rows);
+        let height = bottom + BELOW;
+
+        let size = format!(r#"viewBox="0 0 {width} {height}" width="{width}" height="{height}""#);
+        let mut drawn = vec![
+            format!(r#"<svg xmlns="http://www.w3.org/2000/svg" {size}"#),
+            r#" font-family="Helvetica, Arial, DejaVu Sans, sans-serif">"#.into(),
+            "<title>Lines of a parts list against tips, with the quick and the best plan</title>".into(),
+            format!(r#"<rect width="{width}" height="{height}" fill="white"/>"#),
+            Text { anchor: "end", colour: GREY, ..PLAIN }.at(first - 16, TOP - 12, "tip"),
+        ];
+        let small = Text { size: 14, ..PLAIN };
+        for (row, (label, comment)) in labels.iter().zip(comments).enumerate() {
+            let y = row_top(row) + CELL / 2 + 5;
+            drawn.push(Text { weight: "bold", ..PLAIN }.at(MARGIN, y, label));
+            drawn.push(Text { colour: GREY, ..small }.at(MARGIN + names_width, y, comment));
+            if row > 0 {
+                let (y, right) = (row_top(row), width - MARGIN);
+                drawn.push(format!(r#"<path d="M{MARGIN} {y}H{right}" stroke="{RULE}" stroke-width="0.5"/>"#));
+            }
+        }
+        let sums = Text { anchor: "end", colour: GREY, ..small };
+        drawn.push(sums.at(first - 16, bottom + 27, "parts on the tip"));
+        drawn.push(sums.at(first - 16, bottom + 50, "pairs"));
+        drawn.extend(panel(Kind::Quick, first, &plans, Some(&plans.quick)));
+        drawn.extend(panel(Kind::Best, second, &plans, plans.best.as_ref().ok()));
+        let y = height - 46;
+        for (x, mark, words) in [
+            (MARGIN - 8, allowed(MARGIN - 8, y), "tip that can pick the part"),
+            (first + 30, Kind::Quick.mark(first + 30, y), "its tip in the quick plan"),
+            (first + 270, Kind::Best.mark(first + 270, y), "its tip in the best plan"),
+        ] {
+            drawn.push(mark);
+            drawn.push(small.at(x + CELL + 3, y + CELL / 2 + 5, words));
+        }
+        drawn.push("</svg>\n".into());
+        Ok(drawn.join("\n"))
+    }
+}

@@ -1,0 +1,175 @@
+//! The lines about records out of range, and about boards of 512 lines over 64 tips.
+
+use second::{Answer, Board, Stage, LONGEST_FILE, MOST_LINES, MOST_TIPS};
+
+use crate::boards::{closed_board, differences, show_number};
+use crate::junk::{self, changed, Junk};
+
+/// A prime: a set with one tip more or less has another remainder.
+const PRIME: u64 = 1_000_003;
+
+/// Each value as often as there are values from it on.
+fn sum_by_place<T: Copy + Into<u64>>(values: &[T]) -> u64 {
+    let weighed = values.iter().rev().zip(1..).map(|(&value, weight)| value.into().wrapping_mul(weight));
+    weighed.fold(0, u64::wrapping_add)
+}
+
+fn show_changed<T: Junk + Into<u64>>(buffer: &[T], first: usize) -> String {
+    format!(
+        "changed {}, behind the first {first}: {}, sum {}",
+        changed(buffer),
+        changed(&buffer[first..]),
+        sum_by_place(buffer)
+    )
+}
+
+fn show_common(board: &Board) -> String {
+    let answer = board.clone().common_tip();
+    let common = answer.value;
+    format!(
+        "common tip: {}; board changed {}; top {} off {} tips {}",
+        show_number(&answer),
+        differences(board, &answer.board),
+        common.top,
+        common.off,
+        common.tips
+    )
+}
+
+fn show_keep(board: &Board, k: u16) -> String {
+    let answer = board.clone().keep_within(k);
+    format!(
+        "keep k {k}: {}; board changed {}; margin {}; sets sum {}",
+        show_number(&answer),
+        differences(board, &answer.board),
+        answer.value,
+        sum_by_place(&answer.board.sets.map(|set| set % PRIME))
+    )
+}
+
+fn show_quick(board: &Board, room: usize) -> String {
+    let mut plan = junk::plan();
+    let answer = board.clone().quick(&mut plan[..room]);
+    format!(
+        "quick, room {room}: {}; board changed {}; pairs {}; plan {}",
+        show_number(&answer),
+        differences(board, &answer.board),
+        answer.value,
+        show_changed(&plan, MOST_LINES)
+    )
+}
+
+fn show_best(board: &Board, room: usize, places: usize) -> String {
+    let mut plan = junk::plan();
+    let mut table = junk::table();
+    let answer = board.clone().best(&mut plan[..room], &mut table[..places]);
+    format!(
+        "best, room {room} places {places}: {}; board changed {}; pairs {}; plan {}; table {}",
+        show_number(&answer),
+        differences(board, &answer.board),
+        answer.value,
+        show_changed(&plan, MOST_LINES),
+        show_changed(&table, MOST_TIPS * MOST_TIPS)
+    )
+}
+
+fn show_write(board: &Board, room: usize) -> String {
+    let mut file = junk::file();
+    let answer = board.clone().write(&mut file[..room]);
+    format!(
+        "write, room {room}: {}; board changed {}; bytes {}; file {}",
+        show_number(&answer),
+        differences(board, &answer.board),
+        answer.value,
+        show_changed(&file, LONGEST_FILE)
+    )
+}
+
+fn show_answer(words: &str, board: &Board, answer: Answer<()>) -> String {
+    format!("{words}: {}; board changed {}", show_number(&answer), differences(board, &answer.board))
+}
+
+/// The seven calls, with buffers longer than any call needs.
+fn each_call(board: &Board) -> Vec<String> {
+    vec![
+        show_answer("add {0}", board, board.clone().add(1)),
+        show_answer("close", board, board.clone().close()),
+        show_common(board),
+        show_keep(board, 5),
+        show_quick(board, 520),
+        show_best(board, 520, 4100),
+        show_write(board, 4112),
+    ]
+}
+
+/// Both stages of a record whose 512 sets are {0}.
+fn each_stage(rack: usize, count: usize) -> Vec<String> {
+    let mut printed = Vec::new();
+    for (words, stage) in [("open", Stage::Open), ("closed", Stage::Closed)] {
+        printed.push(format!("rack {rack} lines {count}, {words}"));
+        printed.extend(each_call(&Board { rack, stage, count, sets: [1; MOST_LINES] }));
+    }
+    printed
+}
+
+/// Rack size and number of lines out of range, one of them or both.
+fn records() -> Vec<String> {
+    let fields = [
+        (0, 512),
+        (65, 512),
+        (1 << 32, 512),
+        (usize::MAX, 512),
+        (3, 513),
+        (3, 1 << 63),
+        (3, usize::MAX),
+        (0, 513),
+        (1 << 32, 1 << 63),
+        (usize::MAX, usize::MAX),
+    ];
+    fields.iter().flat_map(|&(rack, count)| each_stage(rack, count)).collect()
+}
+
+/// The pairs of so many lines on one tip.
+fn pairs_of(lines: u32) -> u32 {
+    lines * (lines - 1) / 2
+}
+
+/// The calls on the board of 512 lines, with keep for each bound; the pairs of its plans are known by a formula.
+fn show_calls(words: &str, set_of: impl Fn(usize) -> u64, bounds: [u16; 3], pairs: u32) -> Vec<String> {
+    let lines: Vec<u64> = (0..MOST_LINES).map(set_of).collect();
+    let board = closed_board(MOST_TIPS, &lines);
+    assert_eq!((board.count, board.is_sound()), (MOST_LINES, true));
+    assert_eq!(board.clone().quick(&mut junk::plan()).value, pairs);
+    let mut printed = vec![words.to_string(), show_common(&board)];
+    printed.extend(bounds.map(|k| show_keep(&board, k)));
+    printed.extend([511, 512, 520].map(|room| show_quick(&board, room)));
+    let rooms = [(511, 4096), (512, 4095), (512, 4096), (520, 4100)];
+    printed.extend(rooms.map(|(room, places)| show_best(&board, room, places)));
+    printed.extend([4103, 4104, 4112].map(|room| show_write(&board, room)));
+    printed.push(show_answer("read back", &board, second::read(&board.file())));
+    printed
+}
+
+/// The tips from the first to 63.
+fn upwards(first: usize) -> u64 {
+    (first..MOST_TIPS).map(|tip| 1 << tip).sum()
+}
+
+fn large_boards() -> Vec<String> {
+    let upwards_by_line = |line: usize| upwards(line % 64);
+    let last_no_run = |line| if line == 511 { 1 | 1 << 63 } else { upwards_by_line(line) };
+    // {r, r + 1} has 9 lines for r below 8, else 8: tips 1, 3, 5, 7 take 18 lines, 9 to 61 take 16, and 62 takes 8.
+    let two_tips = 4 * pairs_of(18) + 27 * pairs_of(16) + pairs_of(8);
+    [
+        show_calls("each line {0..63}", |_| u64::MAX, [0, 1, 65_535], pairs_of(512)),
+        show_calls("line i {i mod 64}", |line| 1 << (line % 64), [0, 504, 505], 64 * pairs_of(8)),
+        show_calls("line i {i mod 63, i mod 63 + 1}", |line| 0b11 << (line % 63), [0, 494, 495], two_tips),
+        show_calls("line i {i mod 64..63}", upwards_by_line, [0, 1, 65_535], pairs_of(512)),
+        show_calls("line i {i mod 64..63}, line 511 {0, 63}", last_no_run, [0, 1, 65_535], pairs_of(512)),
+    ]
+    .concat()
+}
+
+pub fn lines() -> Vec<String> {
+    [records(), large_boards()].concat()
+}
