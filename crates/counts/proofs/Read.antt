@@ -22,7 +22,7 @@ use Rattle.model.proofs.Tests.{test, le-or-lt, same-test, and-left, and-right, 
 use Rattle.model.proofs.Largest.{largest-cong, largest-ge, lowest-lt, lowest-attains, lowest-first}
 use Rattle.model.proofs.Sets.{has-some, some-tip, setOf-lt, setOf-cong, has-setOf, has-and, covers-or}
 use Rattle.model.proofs.Run.{low-le, low-tip}
-use Rattle.counts.specs.Counts.{planeCount, digit, countAt, Counts}
+use Rattle.counts.specs.Counts.{planeCount, digit, countAt, Counts, busyTips}
 use Rattle.counts.proofs.Planes.{countAt-lt}
 use Rattle.counts.proofs.Digits.{digit-le, lacks-digit, has-one-digit, one-digit-has}
 
@@ -219,24 +219,24 @@ module _ (f : ℕ → ℕ) (m n : ℕ) where
   busy : ℕ → Bool
   busy t = ltb 0 (f t) && eqb (f t) n
 
-  pub busy-none : n ≡ 0 → setOf (λ t. ltb 0 (f t) && eqb (f t) n) m ≡ 0
+  pub busy-none : n ≡ 0 → busyTips f n m ≡ 0
   unfolding busy
   busy-none z =
       setOf-cong busy (λ t. false) m (λ t l. ⊎-elim (λ h. rw (le-ltb 0 (f t) h)) (λ h. rw (lt-ltb 0 (f t) h, ne-eqb (f t) n (λ q. omega arith))) (le-or-lt (f t) 0))
       ∙ setOf-none m
 
-  pub busy-some : (n ≡ 0 → ⊥) → setOf (λ t. ltb 0 (f t) && eqb (f t) n) m ≡ tipsAt f n m
+  pub busy-some : (n ≡ 0 → ⊥) → busyTips f n m ≡ tipsAt f n m
   unfolding busy
   busy-some s =
       setOf-cong busy (λ t. eqb (f t) n) m (λ t l.
       ⊎-elim (λ h. rw (le-ltb 0 (f t) h, ne-eqb (f t) n (λ q. s (omega arith)))) (λ h. rw (lt-ltb 0 (f t) h)) (le-or-lt (f t) 0))
 
   -- the lowest of them
-  pub low-busiest : (n ≡ 0 → ⊥) → n ≡ largest f m → m ≤ 64 → low (setOf (λ t. ltb 0 (f t) && eqb (f t) n) m) ≡ lowestAt f m
+  pub low-busiest : (n ≡ 0 → ⊥) → n ≡ largest f m → m ≤ 64 → low (busyTips f n m) ≡ lowestAt f m
   unfolding largest busy
   low-busiest s e h = by m refl
     where
-      by : (k : ℕ) → m ≡ k → low (setOf (λ t. ltb 0 (f t) && eqb (f t) n) m) ≡ lowestAt f m
+      by : (k : ℕ) → m ≡ k → low (busyTips f n m) ≡ lowestAt f m
       by zero z = absurd (s (e ∙ ap (largest f) z))
       by (suc k) z =
           let tips = setOf busy m in
@@ -271,6 +271,6 @@ module _ {lines planes : List ℕ} (c : Counts lines planes) (m : ℕ) where
   unfolding busiest choice
   lowest-busiest = lowest-cong _ _ m (λ t _. c .counted t)
 
-  pub tips-W : {n : ℕ} → n ≡ top m lines → setOf (λ t. ltb 0 (countAt planes t) && eqb (countAt planes t) n) m ≡ W m lines
+  pub tips-W : {n : ℕ} → n ≡ top m lines → busyTips (countAt planes) n m ≡ W m lines
   unfolding W
   tips-W q = setOf-cong _ _ m (λ t _. rw (c .counted t, q))
