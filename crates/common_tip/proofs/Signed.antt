@@ -44,3 +44,7 @@ module _ (a b k : ℕ) (ha : a ≤ mostPlacements) (hb : b ≤ mostPlacements) (
   pub margin-fits : SFits w32 (marginBy a b k)
   unfolding marginBy
   margin-fits = record { sfits = omega (arith, mag-sum (pos a -ℤ pos b) k, mag-diff a b) }
+
+-- zero fits 32 bits with a sign
+pub zero-fits : SFits w32 (pos 0)
+zero-fits = record { sfits = omega arith }
