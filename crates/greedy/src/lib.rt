@@ -21,7 +21,8 @@ fn take_line(
     counts: &mut [u64],
 )
     requires { ⌜ Takeable tip (now quantities) (now left) (now plan) (now counts) × (i < length (now left)) ⌝ }
-    ensures { λ _. ⌜ LineTaken tip i (now (quantities .entry)) (now (left .entry)) (now (plan .entry)) (now (left .exit)) (now (plan .exit)) (now (counts .exit)) ⌝ }
+    ensures { λ _. ⌜ LineTaken tip i (now (quantities .entry)) (now (left .entry)) (now (plan .entry))
+        (now (left .exit)) (now (plan .exit)) (now (counts .exit)) ⌝ }
 {
     let set = left[i];
     if tips::has_tip(set, tip) {
@@ -41,8 +42,10 @@ fn take_listed(
     plan: &mut [u8],
     counts: &mut [u64],
 )
-    requires { ⌜ Takeable tip (now quantities) (now left) (now plan) (now counts) × Below (length (now left)) n (now lines) × (n ≤ length (now lines)) ⌝ }
-    ensures { λ _. ⌜ ListTaken tip n (now (lines .entry)) (now (quantities .entry)) (now (left .entry)) (now (plan .entry)) (now (left .exit)) (now (plan .exit)) (now (counts .exit)) ⌝ }
+    requires { ⌜ Takeable tip (now quantities) (now left) (now plan) (now counts)
+        × Below (length (now left)) n (now lines) × (n ≤ length (now lines)) ⌝ }
+    ensures { λ _. ⌜ ListTaken tip n (now (lines .entry)) (now (quantities .entry)) (now (left .entry)) (now (plan .entry))
+        (now (left .exit)) (now (plan .exit)) (now (counts .exit)) ⌝ }
 {
     let mut i = 0;
     while i < n {
@@ -63,7 +66,8 @@ fn take_lines(
     counts: &mut [u64],
 )
     requires { ⌜ RoundReady tip (now quantities) (now left) (now plan) (now counts) (now unions) (now blocks) (now lines) ⌝ }
-    ensures { λ _. ⌜ RoundDone tip (now (quantities .entry)) (now (left .entry)) (now (plan .entry)) (now (left .exit)) (now (plan .exit)) (now (counts .exit)) (now (unions .exit)) ⌝ }
+    ensures { λ _. ⌜ RoundDone tip (now (quantities .entry)) (now (left .entry)) (now (plan .entry))
+        (now (left .exit)) (now (plan .exit)) (now (counts .exit)) (now (unions .exit)) ⌝ }
 {
     let all = (left.len() + 7) / 8;
     let hit = blocks::add_places(tip, 0, all, unions, 0, blocks);
@@ -115,7 +119,8 @@ fn plan_counted(
     plan: &mut [u8],
     counts: &mut [u64],
 ) -> u32
-    requires { ⌜ Shareable rack (now quantities) (now left) (now plan) × Counts (repeated (now quantities) (now left)) (now counts) ⌝ }
+    requires { ⌜ Shareable rack (now quantities) (now left) (now plan)
+        × Counts (repeated (now quantities) (now left)) (now counts) ⌝ }
     ensures { λ r. ⌜ QuickShared (onHead mounted) rack (now (quantities .entry)) (now (left .entry)) r (now (plan .exit)) (now (left .exit)) ⌝ }
 {
     let mut unions = [0u64; blocks::BLOCKS];

@@ -10,7 +10,7 @@ ghost use Rattle.model.specs.Plan.{Domain};
 ghost use Rattle.model.specs.Choice.{tip};
 ghost use Rattle.model.specs.Interval.{any, isRun, planFor};
 ghost use Rattle.head.specs.OnHead.{onHead};
-ghost use Rattle.layout.specs.Picks.{mostBy, splitBy, lowestBy, pickBy, Ready, Filled};
+ghost use Rattle.layout.specs.Picks.{mostBy, splitBy, lowestBy, pickBy, Ready, Filled, Layable};
 ghost use Rattle.layout.specs.Owners.{ownersSize, ownerOf, owned, laid};
 use head::Mounted;
 
@@ -134,7 +134,7 @@ fn plan_owners(m: usize, lines: &[u64], owner: &[u8], plan: &mut [u8])
     }
 }
 
-// An interval, which document 01 calls a stretch, is laid by its tip.
+// An interval, which RULES calls a stretch, is laid by its tip.
 fn lay_interval(
     m: usize,
     mounted: Mounted,
@@ -144,7 +144,7 @@ fn lay_interval(
     w: usize,
     owner: &mut [u8],
 )
-    requires { ⌜ Filled m (now sums) (now table) × (a + w ≤ m) × (length (now owner) ≡ ownersSize) ⌝ }
+    requires { ⌜ Layable m (now sums) (now table) a w (now owner) ⌝ }
     ensures { λ _. ⌜ now (owner .exit) ≡ laid (pickBy (onHead mounted) m (now (sums .entry)) (now (table .entry))) a w (now (owner .entry)) ⌝ }
 {
     if 0 < w {
@@ -164,7 +164,7 @@ fn lay_tip(
     i: usize,
     owner: &mut [u8],
 )
-    requires { ⌜ Filled m (now sums) (now table) × (a + w ≤ m) × (i < w) × (i ≡ pickBy (onHead mounted) m (now sums) (now table) a w) × (length (now owner) ≡ ownersSize) ⌝ }
+    requires { ⌜ Layable m (now sums) (now table) a w (now owner) × (i < w) × (i ≡ pickBy (onHead mounted) m (now sums) (now table) a w) ⌝ }
     ensures { λ _. ⌜ now (owner .exit) ≡ laid (pickBy (onHead mounted) m (now (sums .entry)) (now (table .entry))) a w (now (owner .entry)) ⌝ }
 {
     own_runs(a, w, i, owner);

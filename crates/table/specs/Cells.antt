@@ -27,6 +27,10 @@ pub record Small (base allow sum left right : ℕ) : Type 0 where
 abbrev pub splitAt : ℕ → List ℕ → List ℕ → List ℕ → List ℕ → ℕ → ℕ
 splitAt base allows sums lefts rights i = splitOf base (getD allows i 0) (getD sums i 0) (getD lefts i 0) (getD rights i 0)
 
+-- the largest of these
+abbrev pub largestAt : ℕ → List ℕ → List ℕ → List ℕ → List ℕ → ℕ
+largestAt base allows sums lefts rights = largest (splitAt base allows sums lefts rights) (length allows)
+
 -- lists of one length, with small numbers at each place
 pub record SplitLists (base : ℕ) (allows sums lefts rights : List ℕ) : Type 0 where
   pub as-sums : length sums ≡ length allows

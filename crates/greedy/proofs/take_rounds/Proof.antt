@@ -16,8 +16,11 @@ abbrev μ-loop : tie.MeasureT-loop
 μ-loop rack mounted unions₀ blocks₀ places₀ qs left₀ plan₀ counts₀ shared₀ unions blocks places left plan counts shared = length (toPlan qs left)
 
 -- the places that the answers speak of: the call, a round's busiest tips, its choice, its pairs, and the round done
+abbrev begins : tie.After-slice-known6 Inv-loop μ-loop → tie.Start Inv-loop μ-loop
+begins c = c .before .before .before .before .before .before .before
+
 abbrev called : tie.At-loop Inv-loop μ-loop → tie.Start Inv-loop μ-loop
-called c = c .before .before .before .before .before .before .before .before
+called c = begins (c .before)
 
 abbrev looped : tie.After-busiest-tips Inv-loop μ-loop → tie.At-loop Inv-loop μ-loop
 looped c = c .before .before
@@ -25,8 +28,8 @@ looped c = c .before .before
 abbrev counted : tie.After-choose Inv-loop μ-loop → tie.After-busiest-tips Inv-loop μ-loop
 counted c = c .before .before .before
 
-abbrev paired : tie.After-take-lines Inv-loop μ-loop → tie.After-pairs-among Inv-loop μ-loop
-paired c = c .before .before .before .before .before .before .before
+abbrev paired : tie.After-take-lines-arg6 Inv-loop μ-loop → tie.After-pairs-among Inv-loop μ-loop
+paired c = c .before .before .before .before .before .before
 
 abbrev done : tie.After-slice-known12 Inv-loop μ-loop → tie.After-take-lines Inv-loop μ-loop
 done c = c .before .before .before .before .before .before .before .before .before .before .before .before
@@ -52,7 +55,7 @@ chosen c =
 
 loop-holds : tie.Need-loop-holds Inv-loop μ-loop
 loop-holds c =
-    let p = c .before .before .before .before .before .before .before .pre in
+    let p = begins c .pre in
     let s = p .shareable in
     record {
       state = start _ (s .good .domains) (s .size) (p .counts-are);
@@ -107,7 +110,7 @@ add-shared c = record { fits = omega (arith, pairs-fit (chosen (c .before)) (c .
 
 take-lines-requires : tie.Need-take-lines-requires Inv-loop μ-loop
 take-lines-requires c κs =
-    let t = c .before .before .before .before .before .before .before in
+    let t = paired c .before in
     let l = looped (counted t) in
     let fit = called l .pre .fit in
     let inv = l .loop .inv in
@@ -124,13 +127,13 @@ take-lines-requires c κs =
 loop-less : tie.Need-loop-less Inv-loop μ-loop
 loop-less c =
     let t = done c in
-    let p = paired t in
+    let p = paired (t .before) in
     next-fewer (chosen (p .before)) (p .pairs-among .ensures) (t .take-lines .ensures .taken)
 
 loop-again : tie.Need-loop-again Inv-loop μ-loop
 loop-again c =
     let t = done c in
-    let p = paired t in
+    let p = paired (t .before) in
     let r = t .take-lines .ensures in
     record {
       state = next (chosen (p .before)) (p .pairs-among .ensures) (r .taken);
