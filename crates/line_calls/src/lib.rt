@@ -180,6 +180,11 @@ pub fn write<'a>(
         return FileAnswer { refusal, bytes: 0 };
     }
     let bytes = job::file_length(version, count);
-    job_write::write_file(rack, &quantities[..count], &sets[..count], &mut out[..bytes]);
+    job_write::write_file(
+        rack,
+        &quantities[..count],
+        &sets[..count],
+        &mut out[..bytes],
+    );
     FileAnswer { refusal, bytes }
 }
