@@ -12,7 +12,7 @@ use lib.Signed.{ltZ}
 use mir.Syntax.{w32}
 use mir.Val.{toZ, ofZ, SFits}
 use mir.ValLaws.{toZ-ofZ}
-use borrow.Author.Tests.{eq-eqb, ne-eqb, eqb-true}
+use borrow.Author.Tests.{eq-eqb, ne-eqb, eqb-true, le-ltb}
 use Rattle.model.specs.CommonTip.{top, margin}
 use Rattle.model.proofs.Tests.{le-or-lt}
 use Rattle.model.proofs.CommonTip.{margin-pos, margin-neg}
@@ -50,8 +50,7 @@ module _ (m : ℕ) (lines : List ℕ) (k : ℕ) where
 
 -- ltZ and isNegative are one test
 below-zero : (z : ℤ) → ltZ z (pos 0) ≡ isNegative z
-unfolding ltZ
-below-zero (pos n) = refl
+below-zero (pos n) = le-ltb n 0 (omega arith)
 below-zero (negsuc n) = refl
 
 -- ---- the answers and the sets, refused and accepted
@@ -92,7 +91,7 @@ module _ (earlier : Refusal) {m : ℕ} {qs lines : List ℕ} (k : ℕ) (good : e
   keep-exact z =
       let (free, sign) = keep-none earlier (margin m (repeated qs lines) k) z in
       let g = good free in
-      prune-exact-placements k (g .some) (g .domains) qs (g .same) (g .placed) (not-negative m (repeated qs lines) k sign)
+      prune-exact-placements k (g .some) (g .domains) qs (g .same) (not-negative m (repeated qs lines) k sign)
 
   pub keep-refuses : earlier .number ≡ 0 → (r .number ≡ 26) ↔ NoneWithin m qs lines k
   unfolding keepRefusal orElse
@@ -106,8 +105,8 @@ module _ (earlier : Refusal) {m : ℕ} {qs lines : List ℕ} (k : ℕ) (good : e
         λ z plan v w.
             omega (arith, neg .0 (when-taken (isNegative (margin m placements k)) 26 (omega (arith, z))), some .0 (plan, v, w), size),
         λ f.
-            let met = λ h. let (plan, v, w) = some .1 (omega arith) in absurd (f plan v w) in
-            rw (neg .1 (⊎-elim met (λ h. h) (le-or-lt (length placements) (top m placements + k)))) refl,
+            rw (neg .1 (⊎-elim (λ h. let (plan, v, w) = some .1 h in absurd (f plan v w)) (λ h. h)
+            (le-or-lt (length placements) (top m placements + k)))) refl,
       )
 
   -- the kept lines are as many
