@@ -12,7 +12,9 @@ unfolding writeRefusal
 returns c = or-first refl _ (c .if1 .taken)
 
 file-length-requires : tie.Need-file-length-requires
-file-length-requires c κs = omega (arith, file-few _ _ (c .before .before .pre (c .if1 .left)))
+file-length-requires c κs =
+    let s = c .before .before in
+    omega (arith, file-few (s .args .version) (s .args .count) (s .pre (c .if1 .left)))
 
 refuse-when-requires : tie.Need-refuse-when-requires
 refuse-when-requires c κs = search needs

@@ -61,8 +61,7 @@ loop-again c =
     let positive = c .before in
     let read = positive .before in
     let in-rack = read .before .before in
-    let domain = passes (in-rack .before .is-domain .ensures) (in-rack .if1 .left) in
-    (
+    let domain = passes (in-rack .before .is-domain .ensures) (in-rack .if1 .left) in (
       omega arith,
       wrong-next _ _ _ (headOf read .loop .inv .1) (omega arith) (read .wide .ensures) (omega arith) domain (positive .if2 .left) (c .if3 .left),
     )
