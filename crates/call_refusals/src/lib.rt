@@ -47,7 +47,7 @@ pub fn state_refusal<'a>(
     stage_refusal(asked, stage)
 }
 
-// The lines are as many as the first `count` quantities; their total is worked out last, where nothing is refused before.
+// The lines' quantities are the first `count`; their total is worked out last, where nothing else is refused.
 pub fn add_refusal(
     earlier: Refusal,
     rack: usize,
