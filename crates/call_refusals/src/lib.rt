@@ -69,7 +69,7 @@ pub fn add_refusal(
     if number != 0 {
         return refusal::refuse(number);
     }
-    let placements = sound::total(&quantities[..count]);
+    let placements = placements::total(&quantities[..count]);
     refusal::refuse_when(model::MOST_PLACEMENTS < placements + quantity as usize, 30)
 }
 
