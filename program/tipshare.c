@@ -5,6 +5,7 @@
 #include "tipshare.h"
 
 #include <errno.h>
+#include <signal.h>
 #include <stdbool.h>
 #include <stdio.h>
 #include <string.h>
@@ -86,6 +87,8 @@ static int print(const void *text, size_t length)
 
 int main(int argc, char **argv)
 {
+    /* A pipe that nobody reads is a write that failed, and is told like any other. */
+    signal(SIGPIPE, SIG_IGN);
     if (argc == 2 && strcmp(argv[1], "--help") == 0) {
         return print(help, sizeof help - 1);
     }

@@ -14,6 +14,8 @@ const MOST_FAULTS: usize = 20;
 pub enum Failure {
     /// The arguments are not those of a command.
     Arguments,
+    /// One argument is not what the command takes.
+    Argument(String),
     /// A file was refused, or could not be read or written.
     Refused(String),
 }
@@ -37,7 +39,7 @@ pub fn show(arguments: &[&str]) -> Result<(), Failure> {
 pub fn sort(arguments: &[&str]) -> Result<(), Failure> {
     let [column, path] = arguments else { return Err(Failure::Arguments) };
     if is_quantity(column) {
-        return Err(Failure::Refused(format!("{column} is a quantity, and no list has one yet; name another column")));
+        return Err(Failure::Argument(format!("{column} is a quantity, and no list has one yet; name another column")));
     }
     let list = list_of(path, &input_of(path)?.bytes)?;
     print(list.sorted_by(column).map_err(|faults| faulty(path, &faults))?.as_bytes())
@@ -51,14 +53,14 @@ pub fn keep(arguments: &[&str]) -> Result<(), Failure> {
         _ => return Err(Failure::Arguments),
     };
     let Some(k) = k.parse().ok().filter(|_| k.bytes().all(|byte| byte.is_ascii_digit())) else {
-        return Err(Failure::Refused(format!("k is a number from 0 to 65535, and not {k}")));
+        return Err(Failure::Argument(format!("k is a number from 0 to 65535, and not {k}")));
     };
     let input = input_of(path)?;
     let job = job.map(|out| output_of(out, &input)).transpose()?;
     let list = list.map(|out| output_of(out, &input)).transpose()?;
     if let (Some((_, job)), Some((out, list))) = (&job, &list) {
         if list.replaces(job) {
-            return Err(about(out, "this is JOB and LIST; name two files"));
+            return Err(Failure::Argument(format!("{out}: this is JOB and LIST; name two files")));
         }
     }
     let kept = named(path, input.bytes)?.keep(k).map_err(|why| about(path, why))?;
@@ -104,7 +106,7 @@ fn list_option<'a>(arguments: &[&'a str]) -> Result<(Vec<&'a str>, Option<&'a st
 /// Where to write, which is never the file that was read.
 fn output_of<'a>(path: &'a str, input: &Input) -> Result<(&'a str, Output), Failure> {
     if path == "-" {
-        return Err(about(path, "this is standard input; name a file to write"));
+        return Err(Failure::Argument(format!("{path}: this is standard input; name a file to write")));
     }
     let output = Output::at(path).map_err(|error| about(path, error))?;
     if output.is(input) {

@@ -16,6 +16,7 @@ fn main() -> ExitCode {
     let (why, status) = match run(&words) {
         Ok(()) => return ExitCode::SUCCESS,
         Err(Failure::Arguments) => (usage(&words), ExitCode::from(2)),
+        Err(Failure::Argument(why)) => (why, ExitCode::from(2)),
         Err(Failure::Refused(why)) => (why, ExitCode::FAILURE),
     };
     // Where standard error fails too, the exit status is all that can be told.

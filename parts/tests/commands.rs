@@ -38,6 +38,10 @@ fn refused(why: &str) -> (Vec<u8>, String, i32) {
     (Vec::new(), format!("{why}\n"), 1)
 }
 
+fn wrong_argument(why: &str) -> (Vec<u8>, String, i32) {
+    (Vec::new(), format!("{why}\n"), 2)
+}
+
 /// An empty folder for the files of one test.
 fn folder(name: &str) -> PathBuf {
     let folder = PathBuf::from(env!("CARGO_TARGET_TMPDIR")).join(name);
@@ -88,7 +92,7 @@ fn quantities_are_refused() {
                write the part once for each placement, each time with its own name";
     assert_eq!(run(&["make", "-"], b"rack 2\nR1 qty=40 : 0-1\n"), refused(why));
     let why = "Qty is a quantity, and no list has one yet; name another column";
-    assert_eq!(run(&["sort", "Qty", "-"], LIST.as_bytes()), refused(why));
+    assert_eq!(run(&["sort", "Qty", "-"], LIST.as_bytes()), wrong_argument(why));
 }
 
 #[test]
@@ -306,11 +310,11 @@ fn one_file_is_not_job_and_list() {
     let folder = folder("twice");
     for (job, list) in [("out", "out"), ("out", "./out")] {
         let (job, list) = (typed(&folder, job), typed(&folder, list));
-        let why = refused(&format!("{list}: this is JOB and LIST; name two files"));
+        let why = wrong_argument(&format!("{list}: this is JOB and LIST; name two files"));
         assert_eq!(run(&["keep", "1", "-", &job, "--list", &list], &EXAMPLE), why);
     }
     assert!(names_in(&folder).is_empty());
-    let why = refused("-: this is standard input; name a file to write");
+    let why = wrong_argument("-: this is standard input; name a file to write");
     assert_eq!(run(&["keep", "1", "-", "-"], &EXAMPLE), why);
     assert_eq!(run(&["keep", "1", "-", "--list", "-"], &EXAMPLE), why);
 }
@@ -374,6 +378,6 @@ fn pipe_is_written_to_as_it_is() {
 fn k_out_of_range_is_named() {
     for k in ["65536", "-1", "x", "", "+1", "1.0"] {
         let why = format!("k is a number from 0 to 65535, and not {k}");
-        assert_eq!(run(&["keep", k, "-"], &EXAMPLE), refused(&why));
+        assert_eq!(run(&["keep", k, "-"], &EXAMPLE), wrong_argument(&why));
     }
 }

@@ -32,7 +32,7 @@ pub struct Answer<T> {
     pub board: Board,
     /// 0 for an accepted call, else the refusal number.
     pub number: u32,
-    /// The line that a refusal is about, else 0.
+    /// The line or set that a refusal is about, else 0.
     pub place: usize,
     pub value: T,
 }
@@ -82,33 +82,39 @@ impl Board {
         Answer::accepted(Board::without_lines(rack), ())
     }
 
-    /// Whether rack size, number of lines and every set keep the rules of a board.
-    pub fn is_sound(&self) -> bool {
+    /// The refusal of a board that is not sound, with the first offending set; 0 for a sound one.
+    fn unsound(&self) -> (u32, usize) {
         if self.rack == 0 || self.rack > MOST_TIPS || self.count > MOST_LINES {
-            return false;
+            return (refusal::OUT_OF_RANGE, 0);
         }
-        for line in 0..MOST_LINES {
-            let set = self.sets[line];
-            if line < self.count {
-                if set == 0 || reaches_outside(set, self.rack) {
-                    return false;
-                }
-            } else if set != 0 {
-                return false;
+        for line in 0..self.count {
+            if self.sets[line] == 0 || reaches_outside(self.sets[line], self.rack) {
+                return (refusal::BAD_LINE, line);
             }
         }
-        true
+        for place in self.count..MOST_LINES {
+            if self.sets[place] != 0 {
+                return (refusal::SET_LEFT, place);
+            }
+        }
+        (refusal::NONE, 0)
     }
 
-    /// The refusal of a call that needs a sound board in the given stage, 0 for none.
-    pub(crate) fn refusal_in(&self, needed: Stage) -> u32 {
-        if !self.is_sound() {
-            return refusal::NOT_SOUND;
+    /// Whether rack size, number of lines and every set keep the rules of a board.
+    pub fn is_sound(&self) -> bool {
+        self.unsound() == (refusal::NONE, 0)
+    }
+
+    /// The refusal of a call that needs a sound board in the given stage, 0 for none, and its place.
+    pub(crate) fn refusal_in(&self, needed: Stage) -> (u32, usize) {
+        let (number, place) = self.unsound();
+        if number != refusal::NONE {
+            return (number, place);
         }
         match (needed, self.stage) {
-            (Stage::Open, Stage::Closed) => refusal::CLOSED,
-            (Stage::Closed, Stage::Open) => refusal::OPEN,
-            _ => refusal::NONE,
+            (Stage::Open, Stage::Closed) => (refusal::CLOSED, 0),
+            (Stage::Closed, Stage::Open) => (refusal::OPEN, 0),
+            _ => (refusal::NONE, 0),
         }
     }
 
@@ -120,9 +126,9 @@ impl Board {
     /// Adds one line with these tips at the end.
     #[allow(clippy::should_implement_trait)] // the call's own name
     pub fn add(self, set: u64) -> Answer<()> {
-        let number = self.refusal_in(Stage::Open);
+        let (number, place) = self.refusal_in(Stage::Open);
         if number != refusal::NONE {
-            return Answer::refused(self, number);
+            return Answer::refused_at(self, number, place);
         }
         if self.count == MOST_LINES {
             return Answer::refused(self, refusal::FULL);
@@ -141,9 +147,9 @@ impl Board {
 
     /// Closes an open board.
     pub fn close(self) -> Answer<()> {
-        let number = self.refusal_in(Stage::Open);
+        let (number, place) = self.refusal_in(Stage::Open);
         if number != refusal::NONE {
-            return Answer::refused(self, number);
+            return Answer::refused_at(self, number, place);
         }
         Answer::accepted(Board { stage: Stage::Closed, ..self }, ())
     }

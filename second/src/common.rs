@@ -46,9 +46,9 @@ fn is_supported(board: &Board, occurrences: &[usize; MOST_TIPS], k: u16, line: u
 impl Board {
     /// The largest occurrence, the least number of lines off the common tip, and the tips that attain it.
     pub fn common_tip(self) -> Answer<CommonTip> {
-        let number = self.refusal_in(Stage::Closed);
+        let (number, place) = self.refusal_in(Stage::Closed);
         if number != refusal::NONE {
-            return Answer::refused(self, number);
+            return Answer::refused_at(self, number, place);
         }
         let occurrences = occurrences(&self);
         let mut top = 0;
@@ -70,9 +70,9 @@ impl Board {
 
     /// Keeps, in each line, the tips that it has in some plan within k; the answer is the margin.
     pub fn keep_within(self, k: u16) -> Answer<i64> {
-        let number = self.refusal_in(Stage::Closed);
+        let (number, place) = self.refusal_in(Stage::Closed);
         if number != refusal::NONE {
-            return Answer::refused(self, number);
+            return Answer::refused_at(self, number, place);
         }
         let occurrences = occurrences(&self);
         let top = *occurrences.iter().max().unwrap();

@@ -93,9 +93,9 @@ impl Board {
 
     /// Writes the board as a job file; the answer is the number of bytes.
     pub fn write(self, out: &mut [u8]) -> Answer<usize> {
-        let number = self.refusal_in(Stage::Closed);
+        let (number, place) = self.refusal_in(Stage::Closed);
         if number != refusal::NONE {
-            return Answer::refused(self, number);
+            return Answer::refused_at(self, number, place);
         }
         let length = length_of(self.count);
         if out.len() < length {

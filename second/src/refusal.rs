@@ -26,8 +26,8 @@ pub const FILE_LENGTH: u32 = 10;
 /// The output for a file is too short.
 pub const SHORT_OUTPUT: u32 = 11;
 
-/// The board is not sound.
-pub const NOT_SOUND: u32 = 21;
+/// The board's rack size or number of lines is out of range.
+pub const OUT_OF_RANGE: u32 = 21;
 /// Add or close on a closed board.
 pub const CLOSED: u32 = 22;
 /// Common tip, keep, a plan or write on an open board.
@@ -38,6 +38,10 @@ pub const FULL: u32 = 24;
 pub const NO_RUN: u32 = 25;
 /// Keep, and the margin is below zero.
 pub const NO_PLAN: u32 = 26;
+/// A line of the board has no tip, or one outside the rack.
+pub const BAD_LINE: u32 = 27;
+/// A set after the last line of the board is not empty.
+pub const SET_LEFT: u32 = 28;
 
 /// The answer of a call of the C interface has fewer than 4 places.
 pub const SHORT_ANSWER: u32 = 100;

@@ -79,9 +79,9 @@ fn lay_stretch(board: &Board, table: &[u32], plan: &mut [u8], a: usize, b: usize
 impl Board {
     /// Quick sharing: each round plans all lines of the tip that most unplanned lines allow.
     pub fn quick(self, plan: &mut [u8]) -> Answer<u32> {
-        let number = self.refusal_in(Stage::Closed);
+        let (number, place) = self.refusal_in(Stage::Closed);
         if number != refusal::NONE {
-            return Answer::refused(self, number);
+            return Answer::refused_at(self, number, place);
         }
         if plan.len() < self.count {
             return Answer::refused(self, refusal::SHORT_PLAN);
@@ -116,9 +116,9 @@ impl Board {
 
     /// Best sharing of lines that are runs; the table ends with the most pairs of each stretch.
     pub fn best(self, plan: &mut [u8], table: &mut [u32]) -> Answer<u32> {
-        let number = self.refusal_in(Stage::Closed);
+        let (number, place) = self.refusal_in(Stage::Closed);
         if number != refusal::NONE {
-            return Answer::refused(self, number);
+            return Answer::refused_at(self, number, place);
         }
         let m = self.rack;
         if plan.len() < self.count {

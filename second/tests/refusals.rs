@@ -11,31 +11,46 @@ fn with_stage(board: Board, stage: Stage) -> Board {
     Board { stage, ..board }
 }
 
-/// One board for each way of being unsound, of which every number of lines and rack size stays in memory.
-fn unsound_boards() -> Vec<Board> {
+/// The board with these sets at their places.
+fn with_sets(board: &Board, sets: &[(usize, u64)]) -> Board {
+    let mut board = board.clone();
+    for &(place, set) in sets {
+        board.sets[place] = set;
+    }
+    board
+}
+
+/// Boards that are unsound in each way and in several at once, with the refusal's number and place.
+fn unsound_boards() -> Vec<(Board, u32, usize)> {
     let sound = closed_board();
-    let mut empty = sound.clone();
-    empty.sets[1] = 0;
-    let mut outside = sound.clone();
-    outside.sets[0] |= 1 << 3;
-    let mut after = sound.clone();
-    after.sets[2] = 1;
-    let mut last = sound.clone();
-    last.sets[511] = 1;
-    let mut full = sound.clone();
-    full.sets = [1; 512];
+    let empty = Board { count: 0, sets: [0; 512], ..sound.clone() };
+    let full = Board { count: 512, sets: [1; 512], ..sound.clone() };
+    let wrong = with_sets(&sound, &[(1, 0), (2, 1), (511, 1)]);
     vec![
-        Board { rack: 0, ..sound.clone() },
-        Board { rack: 0, count: 0, sets: [0; 512], ..sound.clone() },
-        Board { rack: 65, ..sound.clone() },
-        Board { rack: usize::MAX, ..sound.clone() },
-        Board { count: 3, ..sound.clone() },
-        Board { count: 513, ..full.clone() },
-        Board { count: usize::MAX, ..full },
-        empty,
-        outside,
-        after,
-        last,
+        (Board { rack: 0, ..sound.clone() }, 21, 0),
+        (Board { rack: 0, ..empty.clone() }, 21, 0),
+        (Board { rack: 65, ..sound.clone() }, 21, 0),
+        (Board { rack: usize::MAX, ..sound.clone() }, 21, 0),
+        (Board { count: 513, ..full.clone() }, 21, 0),
+        (Board { count: usize::MAX, ..full.clone() }, 21, 0),
+        // The numbers come before the sets.
+        (Board { rack: 0, ..wrong.clone() }, 21, 0),
+        (Board { count: 513, ..wrong.clone() }, 21, 0),
+        (with_sets(&sound, &[(0, 0)]), 27, 0),
+        (with_sets(&sound, &[(0, 0b1001)]), 27, 0),
+        (with_sets(&sound, &[(1, 0)]), 27, 1),
+        (with_sets(&sound, &[(0, 1 << 63), (1, 0)]), 27, 0),
+        (Board { count: 3, ..sound.clone() }, 27, 2),
+        (with_sets(&full, &[(511, 0)]), 27, 511),
+        (with_sets(&full, &[(300, 8), (511, 0)]), 27, 300),
+        // The lines come before the sets after them.
+        (wrong.clone(), 27, 1),
+        (with_sets(&sound, &[(2, 1)]), 28, 2),
+        (with_sets(&sound, &[(511, 1)]), 28, 511),
+        (with_sets(&sound, &[(2, 8), (511, 1)]), 28, 2),
+        (Board { count: 511, ..full.clone() }, 28, 511),
+        (Board { count: 0, ..full }, 28, 0),
+        (with_sets(&empty, &[(511, 1)]), 28, 511),
     ]
 }
 
@@ -51,19 +66,19 @@ fn assert_refused<T: PartialEq + std::fmt::Debug>(
     assert_eq!(&answer.board, board);
 }
 
-/// Every call that needs a closed board is refused with the number and leaves its buffers alone.
-fn assert_closed_calls_refused(board: &Board, number: u32) {
+/// Every call that needs a closed board is refused with the number and place and leaves its buffers alone.
+fn assert_closed_calls_refused(board: &Board, number: u32, place: usize) {
     // Buffers both too short and long enough: the state is looked at first.
     for length in [0, 5000] {
         let mut plan = vec![7_u8; length];
         let mut table = vec![7_u32; length];
         let mut out = vec![7_u8; length];
-        assert_refused(board.clone().common_tip(), board, number, 0, Default::default());
-        assert_refused(board.clone().keep_within(0), board, number, 0, 0);
-        assert_refused(board.clone().keep_within(u16::MAX), board, number, 0, 0);
-        assert_refused(board.clone().quick(&mut plan), board, number, 0, 0);
-        assert_refused(board.clone().best(&mut plan, &mut table), board, number, 0, 0);
-        assert_refused(board.clone().write(&mut out), board, number, 0, 0);
+        assert_refused(board.clone().common_tip(), board, number, place, Default::default());
+        assert_refused(board.clone().keep_within(0), board, number, place, 0);
+        assert_refused(board.clone().keep_within(u16::MAX), board, number, place, 0);
+        assert_refused(board.clone().quick(&mut plan), board, number, place, 0);
+        assert_refused(board.clone().best(&mut plan, &mut table), board, number, place, 0);
+        assert_refused(board.clone().write(&mut out), board, number, place, 0);
         assert!(plan.iter().all(|&byte| byte == 7));
         assert!(table.iter().all(|&place| place == 7));
         assert!(out.iter().all(|&byte| byte == 7));
@@ -72,14 +87,15 @@ fn assert_closed_calls_refused(board: &Board, number: u32) {
 
 #[test]
 fn unsound_boards_are_refused_by_every_call() {
-    for board in unsound_boards() {
+    for (board, number, place) in unsound_boards() {
+        assert!(!board.is_sound());
         for stage in [Stage::Open, Stage::Closed] {
             let board = with_stage(board.clone(), stage);
             for set in [0, 1, 1 << 3] {
-                assert_refused(board.clone().add(set), &board, 21, 0, ());
+                assert_refused(board.clone().add(set), &board, number, place, ());
             }
-            assert_refused(board.clone().close(), &board, 21, 0, ());
-            assert_closed_calls_refused(&board, 21);
+            assert_refused(board.clone().close(), &board, number, place, ());
+            assert_closed_calls_refused(&board, number, place);
         }
     }
 }
@@ -97,10 +113,10 @@ fn closed_board_takes_no_line_and_no_close() {
 
 #[test]
 fn open_board_gives_no_plan_and_no_file() {
-    assert_closed_calls_refused(&with_stage(closed_board(), Stage::Open), 23);
+    assert_closed_calls_refused(&with_stage(closed_board(), Stage::Open), 23, 0);
     let mut no_runs = with_stage(closed_board(), Stage::Open);
     no_runs.sets[0] = 0b101;
-    assert_closed_calls_refused(&no_runs, 23);
+    assert_closed_calls_refused(&no_runs, 23, 0);
 }
 
 #[test]

@@ -3,7 +3,7 @@
 //! The kept output was taken from the programs' own runs; here it is checked by answers that do not come from them.
 
 use std::collections::HashSet;
-use std::path::{Path, PathBuf};
+use std::path::Path;
 
 mod every_plan;
 
@@ -24,13 +24,10 @@ mod small;
 #[path = "test_programs/sorts.rs"]
 mod sorts;
 
-/// Where the output of a test program is kept.
-fn kept_output(program: &str) -> PathBuf {
-    Path::new(env!("CARGO_MANIFEST_DIR")).join("../crates").join(program).join("stdout")
-}
-
+/// The kept output of a test program.
 fn printed_by(program: &str) -> String {
-    std::fs::read_to_string(kept_output(program)).expect(program)
+    let kept = Path::new(env!("CARGO_MANIFEST_DIR")).join("../crates").join(program).join("stdout");
+    std::fs::read_to_string(kept).expect(program)
 }
 
 /// Whole texts are compared, lines only to name the first that differs.
@@ -43,13 +40,13 @@ fn assert_same(printed: &str, worked_out: &[String]) {
 }
 
 #[test]
-fn calls_and_files() {
-    let mut printed = printed_by("try_calls");
-    // One program may print both subjects.
-    if kept_output("try_files").exists() {
-        printed += &printed_by("try_files");
-    }
-    assert_same(&printed, &[calls::lines(), files::lines()].concat());
+fn calls() {
+    assert_same(&printed_by("try_calls"), &calls::lines());
+}
+
+#[test]
+fn files() {
+    assert_same(&printed_by("try_files"), &files::lines());
 }
 
 #[test]

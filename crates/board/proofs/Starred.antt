@@ -8,21 +8,24 @@ use Rattle.model.specs.CommonTip.{setOf, top, W, margin, covers, narrowed, kept
 use Rattle.model.specs.Greedy.{busiest, rounds, first, quickTip, quickPlan}
 use Rattle.model.specs.Interval.{low, high, isRun, named, lies, inside, most, C, tipBy, worth, pickOf, bestTip, bestPlan, table}
 use Rattle.refusal.specs.Refusal.{orElse, scan}
-use Rattle.sound.specs.Sound.{countOk, soundSets, soundRefusal}
+use Rattle.sound.specs.Sound.{countOk, soundRefusal}
 use Rattle.call_refusals.specs.State.{stageRefusal, stateRefusal}
-use Rattle.call_refusals.specs.Calls.{keepRefusal, planRefusal, bestRefusal}
+use Rattle.call_refusals.specs.Calls.{addRefusal, keepRefusal, planRefusal, bestRefusal}
 use Rattle.line_calls.specs.Lines
+use Rattle.board.specs.Board.{addOf, closeOf}
 use Rattle.board.specs.Common.{commonOf, keepOf}
 use Rattle.board.specs.Sharing.{quickOf, quickBuffer, bestOf, bestBuffer, bestTable}
 use Rattle.board.specs.Rows.{run, rows, Gives, HalfReached}
 use Rattle.board.specs.Rows.{B1-common, B1-keep, B2-keep, B3-keep, B4-quick, B5-best, B6-best, B7-quick, B8-best, B9-quick, B9-best, B10-best}
+use Rattle.board.specs.Rows.{B15-rack-0, B15-rack-65, B16-count-513, B16-count-most, B17-first, B17-middle, B17-last, B18-next}
+use Rattle.board.specs.Rows.{B18-last, B18-both, B19-21, B19-27, B19-27-open, B19-27-closed, B19-28-closed}
 
 pub starred : All Gives rows
-unfolding run commonOf keepOf quickOf quickBuffer bestOf bestBuffer bestTable Lines.commonOf Lines.keepOf Lines.keptSets Lines.quickOf
-    Lines.quickBuffer Lines.bestOf Lines.bestBuffer Lines.bestTable keepRefusal planRefusal bestRefusal orElse scan stageRefusal stateRefusal
-    soundRefusal soundSets countOk rackOk isDomain inRack each firstFail margin prune kept narrowed covers every W setOf top largest occ has
-    count quickPlan quickTip rounds first busiest choice lowestAt select pairs uses table listOf bestPlan bestTip tipBy pickOf worth from
-    named C most lies inside low high isRun choose2 leadingZeros trailingZeros ones onesIn
+unfolding run addOf closeOf commonOf keepOf quickOf quickBuffer bestOf bestBuffer bestTable Lines.commonOf Lines.keepOf Lines.keptSets
+    Lines.quickOf Lines.quickBuffer Lines.bestOf Lines.bestBuffer Lines.bestTable addRefusal keepRefusal planRefusal bestRefusal orElse scan
+    stageRefusal stateRefusal soundRefusal countOk rackOk isDomain inRack each firstFail margin prune kept narrowed covers every W setOf top
+    largest occ has count quickPlan quickTip rounds first busiest choice lowestAt select pairs uses table listOf bestPlan bestTip tipBy
+    pickOf worth from named C most lies inside low high isRun choose2 leadingZeros trailingZeros ones onesIn
 starred =
     more {x = B1-common} refl
     (more {x = B1-keep} refl
@@ -35,7 +38,22 @@ starred =
     (more {x = B8-best} refl
     (more {x = B9-quick} refl
     (more {x = B9-best} refl
-    (more {x = B10-best} refl none)))))))))))
+    (more {x = B10-best} refl
+    (more {x = B15-rack-0} refl
+    (more {x = B15-rack-65} refl
+    (more {x = B16-count-513} refl
+    (more {x = B16-count-most} refl
+    (more {x = B17-first} refl
+    (more {x = B17-middle} refl
+    (more {x = B17-last} refl
+    (more {x = B18-next} refl
+    (more {x = B18-last} refl
+    (more {x = B18-both} refl
+    (more {x = B19-21} refl
+    (more {x = B19-27} refl
+    (more {x = B19-27-open} refl
+    (more {x = B19-27-closed} refl
+    (more {x = B19-28-closed} refl none))))))))))))))))))))))))))
 
 pub half-reached : HalfReached
 unfolding has pairs uses count

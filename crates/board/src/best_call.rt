@@ -13,14 +13,11 @@ impl Board {
         ensures table { λ _. ⌜ now (table .exit) ≡ bestTable self (length (now (plan .entry))) (now (table .entry)) ⌝ }
         ensures rule { λ r. ⌜ BestRule self (now (plan .exit)) r ⌝ }
     {
-        let state = call_refusals::state_refusal(
-            Stage::Closed,
-            self.rack,
-            self.stage,
-            self.count,
-            &self.sets,
-        );
-        let laid = line_calls::best(state, self.rack, self.count, &self.sets, plan, table);
+        let stage = self.stage;
+        let sets = self.sets;
+        let lent: &[u64] = &sets;
+        let state = call_refusals::state_refusal(Stage::Closed, self.rack, stage, self.count, lent);
+        let laid = line_calls::best(state, self.rack, self.count, lent, plan, table);
         Shared {
             board: self,
             number: laid.refusal.number,

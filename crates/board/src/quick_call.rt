@@ -12,14 +12,15 @@ impl Board {
         ensures buffer { λ _. ⌜ now (plan .exit) ≡ quickBuffer self (now (plan .entry)) ⌝ }
         ensures rule { λ r. ⌜ HalfRule self (now (plan .exit)) r ⌝ }
     {
+        let stage = self.stage;
+        let mut left = self.sets;
         let state = call_refusals::state_refusal(
             Stage::Closed,
             self.rack,
-            self.stage,
+            stage,
             self.count,
-            &self.sets,
+            &left,
         );
-        let mut left = self.sets;
         let laid = line_calls::quick(state, self.rack, self.count, &mut left, plan);
         Shared {
             board: self,

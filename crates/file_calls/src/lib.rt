@@ -1,7 +1,8 @@
 // What each call gives for a job file in memory: the lines are read once, and the calls work on them after the refusal of reading.
 ghost use mathlib.Core.Path.{_≡_};
 ghost use lib.ListN.{length};
-ghost use Rattle.file_calls.specs.Calls.{twosComplement, planOutcome, keepOutcome, readIn, commonIn, keepIn, keepFileIn, quickIn, quickPlanIn, bestIn, bestPlanIn, bestTableIn};
+ghost use Rattle.file_calls.specs.Calls.{twosComplement, planOutcome, keepOutcome};
+ghost use Rattle.file_calls.specs.Calls.{readIn, commonIn, keepIn, keepFileIn, quickIn, quickPlanIn, bestIn, bestPlanIn, bestTableIn};
 ghost use Rattle.file_calls.specs.Rules.{CommonRuleOf, KeepRuleOf, HalfRuleOf, BestRuleOf};
 use line_calls::FileAnswer;
 use line_calls::KeepAnswer;

@@ -27,7 +27,7 @@ use Rattle.line_calls.specs.declared.CommonAnswer.{CommonAnswer}
 use Rattle.line_calls.specs.declared.PlanAnswer.{PlanAnswer}
 use Rattle.line_calls.specs.Lines.{commonOf, quickOf, quickBuffer, bestOf, bestBuffer}
 use Rattle.report.specs.Report.{Facts, pairsText, lineText, lineAt, bestText, reportOf}
-use Rattle.file_report.specs.Summary.{factsOf}
+use Rattle.file_report.specs.Summary.{factsOf, BestShared}
 
 -- all the sets are lines
 pub given-whole : {r : Refusal} {m : ℕ} {lines : List ℕ} → GoodLines m lines → Given r m (length lines) lines
@@ -71,7 +71,7 @@ module _ (m : ℕ) (lines : List ℕ) {earlier : Refusal} (free : earlier ≡ no
         → r ≡ bestOf earlier m (take (length lines) lines) (length old) places
         → out ≡ bestBuffer earlier m (take (length lines) lines) old places
         → (eqb (r .refusal .number) 0 ≡ each isRun lines)
-        × (T (eqb (r .refusal .number) 0) → (r .pairs ≡ C lines 0 m) × (out ≡ bestPlan bare m lines))
+        × (T (eqb (r .refusal .number) 0) → BestShared m lines (r .pairs) out)
     unfolding bestOf bestBuffer
     best-is few s e f = rw (e, f, free, take-length lines, best-left few s) (
       runs-each lines,
@@ -100,13 +100,13 @@ without-runs m lines x y plan other = refl
 pub same-report : (m : ℕ) (lines : List ℕ) {o w x y : ℕ} {runs : Bool} {quick best : List ℕ}
     → (o ≡ length lines - top m lines) × (w ≡ W m lines)
     → (x ≡ pairs (quickPlan bare m lines)) × (quick ≡ quickPlan bare m lines)
-    → runs ≡ each isRun lines → (T runs → (y ≡ C lines 0 m) × (best ≡ bestPlan bare m lines))
+    → runs ≡ each isRun lines → (T runs → BestShared m lines y best)
     → reportOf (record { rack = m; off = o; tips = w; quickPairs = x; runs = runs; bestPairs = y; quick = quick; best = best })
     ≡ reportOf (factsOf m lines)
 unfolding facts factsOf
 same-report m lines {y = y} {runs = runs} {best = best} (e, f) (g, h) i j = rw (e, f, g, h, ← i) (by runs j)
   where
-    by : (t : Bool) → (T t → (y ≡ C lines 0 m) × (best ≡ bestPlan bare m lines))
+    by : (t : Bool) → (T t → BestShared m lines y best)
         → reportOf (facts m lines t y best) ≡ reportOf (facts m lines t (C lines 0 m) (bestPlan bare m lines))
     by true k = let (p, q) = k tt in rw (p, q)
     by false k = without-runs m lines _ _ _ _

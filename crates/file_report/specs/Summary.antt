@@ -1,5 +1,6 @@
 -- What the program tipshare prints for a file.
 use Prim.Native.Nat.{ℕ, _-_}
+use mathlib.Core.Path.{_≡_}
 use mathlib.Core.Bool.{cond}
 use mathlib.Core.List.{List, []}
 use lib.Dec.{ltb}
@@ -28,6 +29,10 @@ factsOf m lines =
       quick = quick;
       best = bestPlan bare m lines;
     }
+
+-- best sharing of the lines answers these pairs, and leaves this plan
+abbrev pub BestShared : ℕ → List ℕ → ℕ → List ℕ → Type 0
+BestShared m lines shared plan = (shared ≡ C lines 0 m) × (plan ≡ bestPlan bare m lines)
 
 -- the text for a file: the report on its lines, or the number of its refusal
 unfoldable pub textOf : List ℕ → List ℕ

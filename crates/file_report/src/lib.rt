@@ -5,11 +5,10 @@ ghost use lib.Dec.{T};
 ghost use lib.ListN.{length};
 ghost use Rattle.model.specs.Count.{each};
 ghost use Rattle.model.specs.Limits.{mostLines, GoodLines};
-ghost use Rattle.model.specs.Choice.{bare};
-ghost use Rattle.model.specs.Interval.{isRun, C, bestPlan};
+ghost use Rattle.model.specs.Interval.{isRun};
 ghost use Rattle.report.specs.Report.{reportOf};
 ghost use Rattle.text.specs.Buffer.{Printed};
-ghost use Rattle.file_report.specs.Summary.{factsOf, textOf, takenBytes, textRoom, summaryOf};
+ghost use Rattle.file_report.specs.Summary.{factsOf, BestShared, textOf, takenBytes, textRoom, summaryOf};
 
 // The bytes of a file that are taken: one more than the longest good file has, by which a longer one is seen.
 pub const TAKEN: usize = 4105;
@@ -41,7 +40,7 @@ struct Best {
 fn best_lines(rack: usize, lines: &[u64], plan: &mut [u8]) -> Best
     requires { ⌜ GoodLines rack (now lines) × (length (now plan) ≡ length (now lines)) ⌝ }
     ensures runs { λ r. ⌜ r .runs ≡ each isRun (now (lines .entry)) ⌝ }
-    ensures best { λ r. ⌜ (T (r .runs) → (r .pairs ≡ C (now (lines .entry)) 0 rack) × (now (plan .exit) ≡ bestPlan bare rack (now (lines .entry)))) ⌝ }
+    ensures best { λ r. ⌜ (T (r .runs) → BestShared rack (now (lines .entry)) (r .pairs) (now (plan .exit))) ⌝ }
 {
     let mut table = table_buffer();
     let laid = line_calls::best(

@@ -1,17 +1,18 @@
 -- The tip of an interval, found by the sums of the lines and the table of the intervals.
 -- For proofs and leaf contracts: no call's contract speaks of these.
-use Prim.Native.Nat.{ℕ, _+_, _*_, _-_}
+use Prim.Native.Nat.{ℕ, _+_, _*_, _-_, _≤_}
 use mathlib.Core.Path.{_≡_}
 use mathlib.Core.Bool.{cond}
 use mathlib.Core.List.{List}
 use lib.Dec.{T, eqb}
-use lib.ListN.{getD}
+use lib.ListN.{length, getD}
 use Rattle.model.specs.Count.{All, lowestAt}
 use Rattle.model.specs.Plan.{choose2}
-use Rattle.model.specs.Limits.{GoodLines}
+use Rattle.model.specs.Limits.{GoodPlacements}
 use Rattle.model.specs.Choice.{Mounted, choice, from}
 use Rattle.model.specs.Interval.{isRun, table as tableOf}
 use Rattle.spans.specs.Spans.{sums as sumsOf, insideBy}
+use Rattle.layout.specs.Owners.{ownersSize}
 
 -- the most pairs of an interval, from the table of m columns; 0 for an interval of no width
 unfoldable pub mostBy : ℕ → List ℕ → ℕ → ℕ → ℕ
@@ -29,9 +30,9 @@ lowestBy m sums table a w = lowestAt (splitBy m sums table a w) w
 unfoldable pub pickBy : Mounted → ℕ → List ℕ → List ℕ → ℕ → ℕ → ℕ
 pickBy mounted m sums table a w = choice (from a mounted) (splitBy m sums table a w) w
 
--- the lines are good and unbroken runs, and the sums and the table are theirs
+-- the lines, one for each placement, are good and unbroken runs, and the sums and the table are theirs
 pub record Ready (m : ℕ) (lines sums table : List ℕ) : Type 0 where
-  pub good : GoodLines m lines
+  pub good : GoodPlacements m lines
   pub runs : All (λ s. T (isRun s)) lines
   pub summed : sums ≡ sumsOf lines
   pub filled : table ≡ tableOf m lines
@@ -39,3 +40,9 @@ pub record Ready (m : ℕ) (lines sums table : List ℕ) : Type 0 where
 -- the sums and the table are those of some such lines
 abbrev pub Filled : ℕ → List ℕ → List ℕ → Type 0
 Filled m sums table = (lines : List ℕ) × Ready m lines sums table
+
+-- an interval of their rack, and a place for each owner
+pub record Layable (m : ℕ) (sums table : List ℕ) (a w : ℕ) (owner : List ℕ) : Type 0 where
+  pub filled : Filled m sums table
+  pub inside : a + w ≤ m
+  pub places : length owner ≡ ownersSize

@@ -5,10 +5,10 @@ use mathlib.Core.Path.{_≡_, refl, ap, _∙_}
 use mathlib.Core.Logic.{⊎-elim}
 use mathlib.Core.Bool.{Bool, true, false, not, cond}
 use mathlib.Core.List.{List, [], _∷_}
-use lib.ListN.{length, drop, getD}
+use lib.ListN.{length, drop, getD, drop-of-length-le}
 use lib.Dec.{T}
 use Rattle.model.specs.Count.{All, none, more, firstFail}
-use Rattle.model.proofs.Tests.{test, true-T, false-T}
+use Rattle.model.proofs.Tests.{test, true-T, false-T, cond-case}
 use Rattle.model.proofs.Loops.{fail-rest}
 
 module _ {A : Type 0} (f : A → Bool) where
@@ -27,6 +27,11 @@ module _ {A : Type 0} (f : A → Bool) where
       (λ t. let g = rw (true-T (f x) t) at h in more {x = x} t (none-fails xs (omega arith)))
       (λ n. let g = rw (false-T (f x) n) at h in absurd (omega arith))
       (test (f x))
+
+  pub fails-most : (xs : List A) → firstFail f xs ≤ length xs
+  unfolding firstFail
+  fails-most [] = omega arith
+  fails-most (x ∷ xs) = cond-case (λ k. k ≤ suc (length xs)) (f x) (λ _. omega (arith, fails-most xs)) (λ _. omega arith)
 
 module _ (f : ℕ → Bool) where
   -- the first that fails does so
@@ -47,3 +52,8 @@ module _ (f : ℕ → Bool) where
       by : (t : Bool) → b ≡ t → i + cond t (suc (firstFail f (drop (i + 1) xs))) 0 ≡ cond b (i + 1 + firstFail f (drop (i + 1) xs)) i
       by true q = rw q (omega arith)
       by false q = rw q (omega arith)
+
+  -- no element left to test
+  pub fails-end : (xs : List ℕ) (i : ℕ) → length xs ≤ i → firstFail f xs ≡ i + firstFail f (drop i xs) → firstFail f xs ≡ i
+  unfolding firstFail
+  fails-end xs i h inv = omega (arith, inv, ap (firstFail f) (drop-of-length-le xs h))

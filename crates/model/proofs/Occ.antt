@@ -2,13 +2,12 @@
 use Prim.Native.Nat.{ℕ, _≤_, _<_}
 use native.Mathlib.Omega.{arith}
 use native.Mathlib.Nat.{le-trans}
-use mathlib.Core.Path.{_≡_, refl}
 use mathlib.Core.Logic.{⊎-elim}
 use mathlib.Core.List.{List}
 use lib.ListN.{length}
-use Rattle.model.specs.Count.{All, lowestAt}
+use Rattle.model.specs.Count.{All}
 use Rattle.model.specs.Plan.{has, occ, Domain}
-use Rattle.model.specs.Choice.{Mounted, bare, choice}
+use Rattle.model.specs.Choice.{Mounted, bare}
 use Rattle.model.specs.Greedy.{busiest}
 use Rattle.model.specs.CommonTip.{top}
 use Rattle.model.proofs.Tests.{le-or-lt}
@@ -16,11 +15,6 @@ use Rattle.model.proofs.Lists.{all-map, count-none, count-le}
 use Rattle.model.proofs.Largest.{largest-ge}
 use Rattle.model.proofs.Choice.{choice-lt, choice-attains}
 use Rattle.model.proofs.Sets.{has-below}
-
--- without a mounted tip the busiest tip is the lowest that most lines allow
-pub busiest-bare : (m : ℕ) (lines : List ℕ) → busiest bare lines m ≡ lowestAt (occ lines) m
-unfolding busiest choice
-busiest-bare m lines = refl
 
 -- a tip that some line allows is in the rack
 pub occ-below : {m : ℕ} {lines : List ℕ} → All (Domain m) lines → (t : ℕ) → 0 < occ lines t → t < m

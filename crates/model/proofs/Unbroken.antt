@@ -1,4 +1,4 @@
--- BOARDS KEEP THEIR PLANS: without a mounted tip the plan is the one that may choose any tip, as document 01 has it for unbroken runs.
+-- BOARDS KEEP THEIR PLANS: without a mounted tip the plan is the one that may choose any tip, as RULES 3.7 has it for unbroken runs.
 use Prim.Native.Nat.{ℕ, zero, suc, _+_, _-_, _/_, _%_, _*_, _≤_, _<_, zero-le}
 use native.Mathlib.Omega.{arith}
 use native.Mathlib.Nat.{le-refl}

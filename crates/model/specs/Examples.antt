@@ -1,4 +1,4 @@
--- Computed facts that the edits of must-fail make false. Document 01's boards are rows of one list in the crate board.
+-- Computed facts that the edits of must-fail make false. The boards of RULES 9 are rows of one list in the crate board.
 use mathlib.Core.Path.{_≡_, refl}
 use mathlib.Core.Bool.{true, false}
 use mathlib.Core.List.{[], _∷_, map}

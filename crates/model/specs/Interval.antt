@@ -1,4 +1,4 @@
--- Best sharing on lines that are runs of the named tips. An interval of tips, which document 01 calls a stretch, has a first tip a and a width w.
+-- Best sharing on lines that are runs of the named tips. An interval of tips, which RULES calls a stretch, has a first tip a and a width w.
 use Prim.Native.Nat.{ℕ, zero, suc, _+_, _*_, _-_, _/_, _%_, _≤_, _<_}
 use mathlib.Core.Path.{_≡_}
 use mathlib.Core.Logic.{_⊎_}

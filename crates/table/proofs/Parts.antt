@@ -11,7 +11,7 @@ use Rattle.model.specs.Limits.{mostTips}
 use Rattle.model.specs.Count.{largest}
 use Rattle.model.proofs.Largest.{largest-cong, largest-first}
 use Rattle.spans.specs.Spans.{sumsWidth, sumAt}
-use Rattle.table.specs.Cells.{splitOf, splitAt, SplitLists, leftOf, splitFrom, cellBy, Cell}
+use Rattle.table.specs.Cells.{splitOf, splitAt, largestAt, SplitLists, leftOf, splitFrom, cellBy, Cell}
 
 -- the part of a list from place s to before e
 abbrev pub part : ℕ → ℕ → List ℕ → List ℕ
@@ -68,7 +68,7 @@ module _ {m a b : ℕ} {xs allows column table : List ℕ} (k : Cell m a b xs al
 
   -- the split at a, and the largest split by the parts
   pub by-parts : {first v : ℕ} → first ≡ splitOf (sumAt xs a (b + 1)) (getD allows a 0) (sumAt xs a a) 0 (getD column (a + 1) 0)
-      → v ≡ max first (largest (splitAt (sumAt xs a (b + 1)) allow-part sum-part left-part right-part) (length allow-part))
+      → v ≡ max first (largestAt (sumAt xs a (b + 1)) allow-part sum-part left-part right-part)
       → v ≡ cellBy m a b xs allows column table
   unfolding cellBy
   by-parts {first} e g =

@@ -5,7 +5,7 @@ use mathlib.Core.Path.{_≡_}
 use mathlib.Core.List.{List, _++_}
 use lib.Dec.{T}
 use lib.ListN.{length, getD, drop, replicate}
-use Rattle.model.specs.Limits.{mostTips, mostPlacements, mostPairs, GoodLines}
+use Rattle.model.specs.Limits.{mostTips, mostPlacements, mostPairs, GoodPlacements}
 use Rattle.model.specs.Count.{All, listOf, largest}
 use Rattle.model.specs.Plan.{choose2}
 use Rattle.model.specs.Interval.{isRun, C}
@@ -26,6 +26,10 @@ pub record Small (base allow sum left right : ℕ) : Type 0 where
 -- splitOf at place i of each list
 abbrev pub splitAt : ℕ → List ℕ → List ℕ → List ℕ → List ℕ → ℕ → ℕ
 splitAt base allows sums lefts rights i = splitOf base (getD allows i 0) (getD sums i 0) (getD lefts i 0) (getD rights i 0)
+
+-- the largest of these
+abbrev pub largestAt : ℕ → List ℕ → List ℕ → List ℕ → List ℕ → ℕ
+largestAt base allows sums lefts rights = largest (splitAt base allows sums lefts rights) (length allows)
 
 -- lists of one length, with small numbers at each place
 pub record SplitLists (base : ℕ) (allows sums lefts rights : List ℕ) : Type 0 where
@@ -86,9 +90,9 @@ pub record Cell (m a b : ℕ) (xs allows column table : List ℕ) : Type 0 where
   pub small : (i : ℕ) → i < b + 1 - a
       → Small (sumAt xs a (b + 1)) (getD allows (a + i) 0) (sumAt xs a (a + i)) (leftOf m table a i) (getD column (a + i + 1) 0)
 
--- good lines in a rack of m tips, each an unbroken run
+-- good placements in a rack of m tips, each an unbroken run
 pub record Runs (m : ℕ) (lines : List ℕ) : Type 0 where
-  pub good : GoodLines m lines
+  pub good : GoodPlacements m lines
   pub runs : All (λ s. T (isRun s)) lines
 
 -- the sums are those of the lines, which are such runs

@@ -1,15 +1,14 @@
-// The table of best sharing: the most pairs of each interval of tips, from the lines summed by lowest and highest tip.
+// The table of best sharing: the most pairs of each interval of tips, from the lines summed by lowest and highest tip, one for each placement.
 ghost use mathlib.Core.Path.{_≡_};
 ghost use Prim.Native.Nat.{ℕ, _+_, _*_, _-_, _^_, _≤_, _<_, max};
 ghost use lib.ListN.{length};
 ghost use mathlib.Core.List.{List};
-ghost use Rattle.model.specs.Count.{largest};
 ghost use Rattle.model.specs.Interval.{table as tableOf};
 ghost use Rattle.model.specs.Limits.{mostPlacements};
-ghost use Rattle.table.specs.Cells.{splitOf, Small, splitAt, SplitLists, allowsOf, zeros, cellBy, Cell, Differences, RunSums, ColumnsBy};
+ghost use Rattle.table.specs.Cells.{splitOf, Small, largestAt, SplitLists, allowsOf, zeros, cellBy, Cell, Differences, RunSums, ColumnsBy};
 
 // A power of two that is more than the most placements.
-const SHORT: u32 = 1024;
+const SHORT: u32 = 4096;
 
 // A column has a place for each tip, and one more.
 const COLUMN_SIZE: usize = model::MOST_TIPS + 1;
@@ -49,7 +48,7 @@ fn largest_split(
     rights: &[u32],
 ) -> u32
     requires { ⌜ (first < 2 ^ 31) × SplitLists base (now allows) (now sums) (now lefts) (now rights) ⌝ }
-    ensures { λ r. ⌜ r ≡ max first (largest (splitAt base (now (allows .entry)) (now (sums .entry)) (now (lefts .entry)) (now (rights .entry))) (length (now (allows .entry)))) ⌝ }
+    ensures { λ r. ⌜ r ≡ max first (largestAt base (now (allows .entry)) (now (sums .entry)) (now (lefts .entry)) (now (rights .entry))) ⌝ }
 {
     let mut best = first;
     let mut i = 0;

@@ -18,7 +18,8 @@ use try_lib::size;
 use try_lib::sum;
 use try_lib::text;
 use try_lib::three_lines;
-ghost use Prim.Native.Nat.{_≤_, _<_};
+use try_lib::with_set;
+ghost use Prim.Native.Nat.{_≤_};
 ghost use lib.ListN.{length};
 
 // A call's number; the sum of its place and counts; how many values of the board and of the lent buffers differ from before it.
@@ -213,14 +214,6 @@ fn each_stage(words: &[u8], rack: usize, count: usize, sets: [u64; 512]) {
         count,
         sets,
     });
-}
-
-fn with_set(given: [u64; 512], at: usize, set: u64) -> [u64; 512]
-    requires { ⌜ at < 512 ⌝ }
-{
-    let mut sets = given;
-    sets[at] = set;
-    sets
 }
 
 fn opened(board: Board) -> Board {

@@ -3,7 +3,7 @@ use board::Answer;
 use board::Board;
 use board::Stage;
 use libc::STDOUT_FILENO;
-ghost use Prim.Native.Nat.{_≤_};
+ghost use Prim.Native.Nat.{_≤_, _<_};
 
 // No tip, and no byte of a job file whose tips are below 6.
 const JUNK: u8 = 170;
@@ -148,6 +148,15 @@ pub fn differences(a: Board, b: Board) -> u64 {
     let stage = one_if(is_closed(a_stage) != is_closed(b_stage));
     let numbers = sum(one_if(a.rack != b.rack), one_if(a.count != b.count));
     sum(sum(sets, stage), numbers)
+}
+
+// The sets with another at a place.
+pub fn with_set(given: [u64; 512], at: usize, set: u64) -> [u64; 512]
+    requires { ⌜ at < 512 ⌝ }
+{
+    let mut sets = given;
+    sets[at] = set;
+    sets
 }
 
 // Eight bytes more than a plan of 512 lines.

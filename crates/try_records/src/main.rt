@@ -1,4 +1,4 @@
-// Records made by hand with rack sizes and numbers of lines up to 2^64 - 1, and boards of 512 lines over 64 tips through every call.
+// Records made by hand (numbers up to 2^64 - 1, bad lines, sets left after them), and boards of 512 lines over 64 tips, through every call.
 use board::Answer;
 use board::Board;
 use board::Shared;
@@ -15,6 +15,8 @@ use try_lib::show;
 use try_lib::size;
 use try_lib::sum;
 use try_lib::text;
+use try_lib::three_lines;
+use try_lib::with_set;
 ghost use Prim.Native.Nat.{_≤_};
 ghost use lib.ListN.{length};
 
@@ -33,9 +35,9 @@ fn longest_file() -> [u8; 4104] {
     [0; 4104]
 }
 
-// Both stages of a record whose 512 sets are {0}.
-fn each_stage(rack: usize, count: usize) {
-    let sets = full();
+// Both stages of a record.
+fn each_stage(words: &[u8], rack: usize, count: usize, sets: [u64; 512]) {
+    text(words);
     show(b"rack # lines #, open\n", &[rack as u64, count as u64]);
     each_call(Board {
         rack,
@@ -43,6 +45,7 @@ fn each_stage(rack: usize, count: usize) {
         count,
         sets,
     });
+    text(words);
     show(b"rack # lines #, closed\n", &[rack as u64, count as u64]);
     each_call(Board {
         rack,
@@ -53,17 +56,45 @@ fn each_stage(rack: usize, count: usize) {
 }
 
 // In 64 bits the square of 2^32 is 0, and 8 + 8·2^63 is 8.
-fn records() {
-    each_stage(0, 512);
-    each_stage(65, 512);
-    each_stage(4294967296, 512);
-    each_stage(18446744073709551615, 512);
-    each_stage(3, 513);
-    each_stage(3, 9223372036854775808);
-    each_stage(3, 18446744073709551615);
-    each_stage(0, 513);
-    each_stage(4294967296, 9223372036854775808);
-    each_stage(18446744073709551615, 18446744073709551615);
+fn out_of_range() {
+    let sets = full();
+    each_stage(b"", 0, 512, sets);
+    each_stage(b"", 65, 512, sets);
+    each_stage(b"", 4294967296, 512, sets);
+    each_stage(b"", 18446744073709551615, 512, sets);
+    each_stage(b"", 3, 513, sets);
+    each_stage(b"", 3, 9223372036854775808, sets);
+    each_stage(b"", 3, 18446744073709551615, sets);
+    each_stage(b"", 0, 513, sets);
+    each_stage(b"", 4294967296, 9223372036854775808, sets);
+    each_stage(b"", 18446744073709551615, 18446744073709551615, sets);
+}
+
+// A bad line, a set left after the lines, and several faults at once.
+fn wrong_sets() {
+    let three = three_lines();
+    let sets = three.sets;
+    each_stage(b"line 0 empty, ", 3, 3, with_set(sets, 0, 0));
+    each_stage(b"line 1 {3}, ", 3, 3, with_set(sets, 1, 8));
+    each_stage(b"line 2 {0,63}, ", 3, 3, with_set(sets, 2, ENDS));
+    let last_empty = with_set(sets, 2, 0);
+    each_stage(b"lines 1 and 2 empty, ", 3, 3, with_set(last_empty, 1, 0));
+    let next_left = with_set(sets, 3, 1);
+    each_stage(b"set 3 left, ", 3, 3, next_left);
+    each_stage(b"set 511 left, ", 3, 3, with_set(sets, 511, 1));
+    each_stage(b"sets 3 and 511 left, ", 3, 3, with_set(next_left, 511, 1));
+    let both = with_set(next_left, 1, 0);
+    each_stage(b"line 1 empty and set 3 left, ", 3, 3, both);
+    each_stage(b"line 1 empty and set 3 left, ", 0, 3, both);
+    each_stage(b"line 1 empty and set 3 left, ", 3, 513, both);
+}
+
+// The same at the ends of 512 sets {0}.
+fn wrong_ends() {
+    let sets = full();
+    each_stage(b"line 511 empty, ", 3, 512, with_set(sets, 511, 0));
+    each_stage(b"set 511 left, ", 3, 511, sets);
+    each_stage(b"sets 0 to 511 left, ", 3, 0, sets);
 }
 
 // The sets of 512 lines.
@@ -329,6 +360,8 @@ fn large_boards() {
 }
 
 fn main() {
-    records();
+    out_of_range();
+    wrong_sets();
+    wrong_ends();
     large_boards();
 }

@@ -1,5 +1,6 @@
 // Small boards solved by trying every plan, compared with what common tip, keep, quick and best sharing answer.
-// A tally is the boards and those made wrong, and for common tip, keep, quick and best the calls, for keep and best the refusals, and the facts that do not hold.
+// A tally is the boards and those made wrong, and for common tip, keep, quick and best the calls, for keep and best the
+// refusals, and the facts that do not hold.
 use board::Board;
 use board::Kept;
 use board::Shared;
@@ -152,7 +153,8 @@ fn wrong_quick(small: Small, board: Board) -> u64
     )
 }
 
-// The places of the table up to m·m hold the most pairs of the lines between tips, or 0 where the first tip is above the last; those past them the junk.
+// The places of the table up to m·m hold the most pairs of the lines between tips, or 0 where the first tip is above the
+// last; those past them the junk.
 fn wrong_place(small: Small, place: u64, value: u32) -> u64
     requires { ⌜ small .n ≤ 8 ⌝ }
 {

@@ -1,8 +1,8 @@
-//! The lines about records out of range, and about boards of 512 lines over 64 tips.
+//! The lines about records that are not sound, and about boards of 512 lines over 64 tips.
 
 use second::{Answer, Board, Stage, LONGEST_FILE, MOST_LINES, MOST_TIPS};
 
-use crate::boards::{closed_board, differences, show_number};
+use crate::boards::{closed_board, differences, show_number, three_lines};
 use crate::junk::{self, changed, Junk};
 
 /// A prime: a set with one tip more or less has another remainder.
@@ -102,18 +102,18 @@ fn each_call(board: &Board) -> Vec<String> {
     ]
 }
 
-/// Both stages of a record whose 512 sets are {0}.
-fn each_stage(rack: usize, count: usize) -> Vec<String> {
+/// Both stages of a record.
+fn each_stage(words: &str, rack: usize, count: usize, sets: [u64; MOST_LINES]) -> Vec<String> {
     let mut printed = Vec::new();
-    for (words, stage) in [("open", Stage::Open), ("closed", Stage::Closed)] {
-        printed.push(format!("rack {rack} lines {count}, {words}"));
-        printed.extend(each_call(&Board { rack, stage, count, sets: [1; MOST_LINES] }));
+    for (name, stage) in [("open", Stage::Open), ("closed", Stage::Closed)] {
+        printed.push(format!("{words}rack {rack} lines {count}, {name}"));
+        printed.extend(each_call(&Board { rack, stage, count, sets }));
     }
     printed
 }
 
-/// Rack size and number of lines out of range, one of them or both.
-fn records() -> Vec<String> {
+/// Rack size and number of lines out of range, one of them or both; all sets are {0}.
+fn out_of_range() -> Vec<String> {
     let fields = [
         (0, 512),
         (65, 512),
@@ -126,7 +126,38 @@ fn records() -> Vec<String> {
         (1 << 32, 1 << 63),
         (usize::MAX, usize::MAX),
     ];
-    fields.iter().flat_map(|&(rack, count)| each_stage(rack, count)).collect()
+    fields.iter().flat_map(|&(rack, count)| each_stage("", rack, count, [1; MOST_LINES])).collect()
+}
+
+/// A bad line, a set left after the lines, and several faults at once: in the board of three lines, and at the ends of 512 sets {0}.
+fn wrong_sets() -> Vec<String> {
+    let with = |sets: [u64; MOST_LINES], changes: &[(usize, u64)]| {
+        let mut sets = sets;
+        for &(place, set) in changes {
+            sets[place] = set;
+        }
+        sets
+    };
+    let three = three_lines().sets;
+    let full = [1; MOST_LINES];
+    let both = with(three, &[(1, 0), (3, 1)]);
+    let several = "line 1 empty and set 3 left, ";
+    [
+        each_stage("line 0 empty, ", 3, 3, with(three, &[(0, 0)])),
+        each_stage("line 1 {3}, ", 3, 3, with(three, &[(1, 1 << 3)])),
+        each_stage("line 2 {0,63}, ", 3, 3, with(three, &[(2, 1 | 1 << 63)])),
+        each_stage("lines 1 and 2 empty, ", 3, 3, with(three, &[(1, 0), (2, 0)])),
+        each_stage("set 3 left, ", 3, 3, with(three, &[(3, 1)])),
+        each_stage("set 511 left, ", 3, 3, with(three, &[(511, 1)])),
+        each_stage("sets 3 and 511 left, ", 3, 3, with(three, &[(3, 1), (511, 1)])),
+        each_stage(several, 3, 3, both),
+        each_stage(several, 0, 3, both),
+        each_stage(several, 3, 513, both),
+        each_stage("line 511 empty, ", 3, 512, with(full, &[(511, 0)])),
+        each_stage("set 511 left, ", 3, 511, full),
+        each_stage("sets 0 to 511 left, ", 3, 0, full),
+    ]
+    .concat()
 }
 
 /// The pairs of so many lines on one tip.
@@ -171,5 +202,5 @@ fn large_boards() -> Vec<String> {
 }
 
 pub fn lines() -> Vec<String> {
-    [records(), large_boards()].concat()
+    [out_of_range(), wrong_sets(), large_boards()].concat()
 }

@@ -16,7 +16,10 @@ refuse-when-requires c κs = search needs
 
 returns-2 : tie.Need-returns-2
 unfolding keepRefusal
-returns-2 c = or-next refl _ (c .before .if1 .left) (c .refuse-when .ensures ∙ ap (λ t. when t 26) (sign-test _ (c .before .before .before .fits .margin)))
+returns-2 c =
+    let asked = c .before in
+    let s = asked .before .before in
+    or-next refl _ (asked .if1 .left) (c .refuse-when .ensures ∙ ap (λ t. when t 26) (sign-test _ (s .fits .margin)))
 
 pub keep-refusal-spec : {M : Type 1} → statement M
 keep-refusal-spec = tie.close (tie.spec returns refuse-when-requires returns-2)

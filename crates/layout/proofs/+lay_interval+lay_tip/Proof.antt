@@ -43,157 +43,104 @@ lay-tip-at t = and 3 lay-tip-kinds.ps (is 3 lay-tip-kinds.ps μ-lay-tip t) lay-t
 abbrev lay-tip-below : ℕ → In 3 lay-tip-kinds.ps
 lay-tip-below t = and 3 lay-tip-kinds.ps (falls 3 lay-tip-kinds.ps _<_ μ-lay-tip t) lay-tip.Pre
 
-lay-interval-find-tip-requires : (t : ℕ) → lay-interval-lts.Need-find-tip-requires (
-  find-tip-reads.Asked,
-  find-tip-reads.Learnt,
-  lay-tip-below t,
-  lay-tip.Post,
-) (lay-interval-at t) lay-interval.Post
+-- what the callees of each of the two ask and give, and its call's start
+abbrev lay-interval-claims : ℕ → lay-interval-lts.Claims
+lay-interval-claims t = (find-tip-reads.Asked, find-tip-reads.Learnt, lay-tip-below t, lay-tip.Post)
+
+abbrev lay-tip-claims : ℕ → lay-tip-lts.Claims
+lay-tip-claims t = (own-runs-reads.Asked, own-runs-reads.Learnt, lay-interval-below t, lay-interval.Post)
+
+module _ (t : ℕ) where
+  abbrev interval : lay-interval-lts.After-slice-known (lay-interval-claims t) (lay-interval-at t) lay-interval.Post
+      → lay-interval-lts.Start (lay-interval-claims t) (lay-interval-at t) lay-interval.Post
+  interval c = c .before .before .before
+
+  abbrev own : lay-tip-lts.After-lay-interval-arg (lay-tip-claims t) (lay-tip-at t) lay-tip.Post
+      → lay-tip-lts.After-own-runs (lay-tip-claims t) (lay-tip-at t) lay-tip.Post
+  own c = c .before .before .before
+
+  abbrev tip : lay-tip-lts.After-own-runs-arg (lay-tip-claims t) (lay-tip-at t) lay-tip.Post
+      → lay-tip-lts.Start (lay-tip-claims t) (lay-tip-at t) lay-tip.Post
+  tip c = c .before .before .before .before
+
+lay-interval-find-tip-requires : (t : ℕ) → lay-interval-lts.Need-find-tip-requires (lay-interval-claims t) (lay-interval-at t) lay-interval.Post
 lay-interval-find-tip-requires t c κs =
-    let p = c .before .before .before .before .pre .1 in
-    (p .0, p .1, c .if1 .taken)
+    let p = interval t (c .before) .pre .1 in
+    (p .filled, p .inside, c .if1 .taken)
 
-lay-interval-lay-tip-requires : (t : ℕ) → lay-interval-lts.Need-lay-tip-requires (
-  find-tip-reads.Asked,
-  find-tip-reads.Learnt,
-  lay-tip-below t,
-  lay-tip.Post,
-) (lay-interval-at t) lay-interval.Post
+lay-interval-lay-tip-requires : (t : ℕ) → lay-interval-lts.Need-lay-tip-requires (lay-interval-claims t) (lay-interval-at t) lay-interval.Post
 lay-interval-lay-tip-requires t c κs =
-    let a = c .before .before .before .before .before .before .args in
-    let p = c .before .before .before .before .before .before .pre in
+    let s = interval t (c .before .before .before) in
+    let a = s .args in
+    let found = c .before .find-tip .ensures in
     let l = pick-lt (onHead (a .mounted)) (a .m) (a .sums .now) (a .table .now) (a .a) (a .w) (omega arith) in
-    (omega (arith, p .0), (p .1 .0, p .1 .1, omega (arith, c .before .find-tip .ensures, l), c .before .find-tip .ensures, p .1 .2))
+    (omega (arith, s .pre .0), (s .pre .1, omega (arith, found, l), found))
 
-lay-interval-same-length : (t : ℕ) → lay-interval-lts.Need-same-length (
-  find-tip-reads.Asked,
-  find-tip-reads.Learnt,
-  lay-tip-below t,
-  lay-tip.Post,
-) (lay-interval-at t) lay-interval.Post
+lay-interval-same-length : (t : ℕ) → lay-interval-lts.Need-same-length (lay-interval-claims t) (lay-interval-at t) lay-interval.Post
 lay-interval-same-length t c = c .before .before .lay-tip .kept .1 .1 .1 .1 .1 .1 .1 .0
 
-lay-interval-returns : (t : ℕ) → lay-interval-lts.Need-returns (
-  find-tip-reads.Asked,
-  find-tip-reads.Learnt,
-  lay-tip-below t,
-  lay-tip.Post,
-) (lay-interval-at t) lay-interval.Post
+lay-interval-returns : (t : ℕ) → lay-interval-lts.Need-returns (lay-interval-claims t) (lay-interval-at t) lay-interval.Post
 lay-interval-returns t c = c .before .before .lay-tip .ensures
 
-lay-interval-returns-2 : (t : ℕ) → lay-interval-lts.Need-returns-2 (
-  find-tip-reads.Asked,
-  find-tip-reads.Learnt,
-  lay-tip-below t,
-  lay-tip.Post,
-) (lay-interval-at t) lay-interval.Post
+lay-interval-returns-2 : (t : ℕ) → lay-interval-lts.Need-returns-2 (lay-interval-claims t) (lay-interval-at t) lay-interval.Post
 lay-interval-returns-2 t c =
-    let a = c .before .before .before .before .args in
+    let a = interval t (c .before) .args in
     let e : a .w ≡ 0 = omega arith in
     rw e (laid-none (pickBy (onHead (a .mounted)) (a .m) (a .sums .now) (a .table .now)) (a .a) (a .owner .now))
 
-lay-tip-own-runs-requires : (t : ℕ) → lay-tip-lts.Need-own-runs-requires (
-  own-runs-reads.Asked,
-  own-runs-reads.Learnt,
-  lay-interval-below t,
-  lay-interval.Post,
-) (lay-tip-at t) lay-tip.Post
+lay-tip-own-runs-requires : (t : ℕ) → lay-tip-lts.Need-own-runs-requires (lay-tip-claims t) (lay-tip-at t) lay-tip.Post
 lay-tip-own-runs-requires t c κs =
-    let p = c .before .before .before .before .pre .1 in
-    let r = p .0 .1 in
-    (p .2, omega (arith, r .good .most), p .4)
+    let (p, inside, _) = tip t c .pre .1 in
+    (inside, omega (arith, p .filled .1 .good .most, p .inside), p .places)
 
-lay-tip-lay-interval-requires : (t : ℕ) → lay-tip-lts.Need-lay-interval-requires (
-  own-runs-reads.Asked,
-  own-runs-reads.Learnt,
-  lay-interval-below t,
-  lay-interval.Post,
-) (lay-tip-at t) lay-tip.Post
+lay-tip-lay-interval-requires : (t : ℕ) → lay-tip-lts.Need-lay-interval-requires (lay-tip-claims t) (lay-tip-at t) lay-tip.Post
 lay-tip-lay-interval-requires t c κs =
-    let p = c .before .before .before .before .before .before .before .before .pre in
-    (omega (arith, p .0), (p .1 .0, omega arith, c .before .before .before .own-runs .kept .1 .1 .1 .0 ∙ p .1 .4))
+    let o = own t c in
+    let (e, (p, inside, _)) = tip t (o .before) .pre in
+    let size = o .own-runs .kept .1 .1 .1 .0 ∙ p .places in
+    (omega (arith, e), record { filled = p .filled; inside = omega (arith, p .inside); places = size })
 
-lay-tip-add-lay-interval : (t : ℕ) → lay-tip-lts.Need-add-lay-interval (
-  own-runs-reads.Asked,
-  own-runs-reads.Learnt,
-  lay-interval-below t,
-  lay-interval.Post,
-) (lay-tip-at t) lay-tip.Post
+lay-tip-add-lay-interval : (t : ℕ) → lay-tip-lts.Need-add-lay-interval (lay-tip-claims t) (lay-tip-at t) lay-tip.Post
 lay-tip-add-lay-interval t c = omega arith
 
-lay-tip-add-lay-interval-2 : (t : ℕ) → lay-tip-lts.Need-add-lay-interval-2 (
-  own-runs-reads.Asked,
-  own-runs-reads.Learnt,
-  lay-interval-below t,
-  lay-interval.Post,
-) (lay-tip-at t) lay-tip.Post
+lay-tip-add-lay-interval-2 : (t : ℕ) → lay-tip-lts.Need-add-lay-interval-2 (lay-tip-claims t) (lay-tip-at t) lay-tip.Post
 lay-tip-add-lay-interval-2 t c = omega arith
 
-lay-tip-add-lay-interval-3 : (t : ℕ) → lay-tip-lts.Need-add-lay-interval-3 (
-  own-runs-reads.Asked,
-  own-runs-reads.Learnt,
-  lay-interval-below t,
-  lay-interval.Post,
-) (lay-tip-at t) lay-tip.Post
+lay-tip-add-lay-interval-3 : (t : ℕ) → lay-tip-lts.Need-add-lay-interval-3 (lay-tip-claims t) (lay-tip-at t) lay-tip.Post
 lay-tip-add-lay-interval-3 t c = omega arith
 
-lay-tip-sub-lay-interval : (t : ℕ) → lay-tip-lts.Need-sub-lay-interval (
-  own-runs-reads.Asked,
-  own-runs-reads.Learnt,
-  lay-interval-below t,
-  lay-interval.Post,
-) (lay-tip-at t) lay-tip.Post
+lay-tip-sub-lay-interval : (t : ℕ) → lay-tip-lts.Need-sub-lay-interval (lay-tip-claims t) (lay-tip-at t) lay-tip.Post
 lay-tip-sub-lay-interval t c = omega arith
 
-lay-tip-lay-interval-requires-2 : (t : ℕ) → lay-tip-lts.Need-lay-interval-requires-2 (
-  own-runs-reads.Asked,
-  own-runs-reads.Learnt,
-  lay-interval-below t,
-  lay-interval.Post,
-) (lay-tip-at t) lay-tip.Post
+lay-tip-lay-interval-requires-2 : (t : ℕ) → lay-tip-lts.Need-lay-interval-requires-2 (lay-tip-claims t) (lay-tip-at t) lay-tip.Post
 lay-tip-lay-interval-requires-2 t c κs =
     let first = c .before .before .before in
-    let own = first .before .before .before .before in
-    let p = own .before .before .before .before .before .pre in
-    let size = first .lay-interval .kept .1 .1 .1 .1 .1 .1 .0 ∙ own .own-runs .kept .1 .1 .1 .0 ∙ p .1 .4 in
-    (omega (arith, p .0), (p .1 .0, omega (arith, p .1), size))
+    let o = own t (first .before) in
+    let (e, (p, inside, _)) = tip t (o .before) .pre in
+    let size = first .lay-interval .kept .1 .1 .1 .1 .1 .1 .0 ∙ o .own-runs .kept .1 .1 .1 .0 ∙ p .places in
+    (omega (arith, e), record { filled = p .filled; inside = omega (arith, p .inside); places = size })
 
-lay-tip-same-length : (t : ℕ) → lay-tip-lts.Need-same-length (
-  own-runs-reads.Asked,
-  own-runs-reads.Learnt,
-  lay-interval-below t,
-  lay-interval.Post,
-) (lay-tip-at t) lay-tip.Post
+lay-tip-same-length : (t : ℕ) → lay-tip-lts.Need-same-length (lay-tip-claims t) (lay-tip-at t) lay-tip.Post
 lay-tip-same-length t c =
     let second = c .before .before in
     let first = second .before .before .before .before in
-    let own = first .before .before .before .before in
-    second .lay-interval2 .kept .1 .1 .1 .1 .1 .1 .0 ∙ first .lay-interval .kept .1 .1 .1 .1 .1 .1 .0 ∙ own .own-runs .kept .1 .1 .1 .0
+    let o = own t (first .before) in
+    second .lay-interval2 .kept .1 .1 .1 .1 .1 .1 .0 ∙ first .lay-interval .kept .1 .1 .1 .1 .1 .1 .0 ∙ o .own-runs .kept .1 .1 .1 .0
 
-lay-tip-returns : (t : ℕ) → lay-tip-lts.Need-returns (
-  own-runs-reads.Asked,
-  own-runs-reads.Learnt,
-  lay-interval-below t,
-  lay-interval.Post,
-) (lay-tip-at t) lay-tip.Post
+lay-tip-returns : (t : ℕ) → lay-tip-lts.Need-returns (lay-tip-claims t) (lay-tip-at t) lay-tip.Post
 lay-tip-returns t c =
     let second = c .before .before in
     let first = second .before .before .before .before in
-    let own = first .before .before .before .before in
-    let s = own .before .before .before .before .before in
+    let o = first .before .before .before .before in
+    let s = o .before .before .before .before .before in
     let a = s .args in
     let pick = pickBy (onHead (a .mounted)) (a .m) (a .sums .now) (a .table .now) in
     let under = pick-lt (onHead (a .mounted)) (a .m) (a .sums .now) (a .table .now) in
-    rw (second .lay-interval2 .ensures, first .lay-interval .ensures, own .own-runs .ensures, s .pre .1 .3)
+    rw (second .lay-interval2 .ensures, first .lay-interval .ensures, o .own-runs .ensures, s .pre .1 .2)
     (laid-step pick under (a .a) (a .w) (a .owner .now) (omega arith))
 
 pub +lay-interval+lay-tip-spec : {M : Type 1} → statement M
-+lay-interval+lay-tip-spec = close μ-lay-interval μ-lay-tip (λ t. lay-interval-lts.spec (
-  find-tip-reads.Asked,
-  find-tip-reads.Learnt,
-  lay-tip-below t,
-  lay-tip.Post,
-)
++lay-interval+lay-tip-spec = close μ-lay-interval μ-lay-tip (λ t. lay-interval-lts.spec (lay-interval-claims t)
     (lay-interval-at t)
     lay-interval.Post
     (lay-interval-find-tip-requires t)
@@ -202,7 +149,7 @@ pub +lay-interval+lay-tip-spec : {M : Type 1} → statement M
     (lay-interval-returns t)
     (lay-interval-returns-2 t))
     λ t. lay-tip-lts.spec
-    (own-runs-reads.Asked, own-runs-reads.Learnt, lay-interval-below t, lay-interval.Post)
+    (lay-tip-claims t)
     (lay-tip-at t)
     lay-tip.Post
     (lay-tip-own-runs-requires t)

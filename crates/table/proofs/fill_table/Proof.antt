@@ -13,16 +13,19 @@ Inv-loop m sums table₀ b₀ table b = (b ≤ m) × ColumnsBy m sums table b
 abbrev μ-loop : tie.MeasureT-loop
 μ-loop m sums table₀ b₀ table b = m - b
 
--- the call's start, from the loop
+-- the call's start, from the cleared list, and from the loop
+abbrev cleared : tie.After-slice-known2 Inv-loop μ-loop → tie.Start Inv-loop μ-loop
+cleared c = c .before .before .before .before .before .before
+
 abbrev start : tie.At-loop Inv-loop μ-loop → tie.Start Inv-loop μ-loop
-start c = c .before .before .before .before .before .before .before
+start c = cleared (c .before)
 
 clear-requires : tie.Need-clear-requires Inv-loop μ-loop
 clear-requires c κs = search needs
 
 loop-holds : tie.Need-loop-holds Inv-loop μ-loop
 loop-holds c =
-    let s = c .before .before .before .before .before .before in
+    let s = cleared c in
     (search needs, λ lines k. rw (c .before .before .clear .ensures) (columns-first (s .args .table .now) (s .pre .1)))
 
 fill-column-requires : tie.Need-fill-column-requires Inv-loop μ-loop

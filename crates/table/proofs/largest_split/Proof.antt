@@ -16,7 +16,10 @@ Inv-loop first base allows sums lefts rights best₀ i₀ best i =
 abbrev μ-loop : tie.MeasureT-loop
 μ-loop first base allows sums lefts rights best₀ i₀ best i = length allows - i
 
--- the call's start, from the loop
+-- the loop, from the split of a tip, and the call's start, from the loop
+abbrev tested : tie.After-shared-slice-known8 Inv-loop μ-loop → tie.In-loop Inv-loop μ-loop
+tested c = c .before .before .before .before
+
 abbrev start : tie.At-loop Inv-loop μ-loop → tie.Start Inv-loop μ-loop
 start c = c .before .before .before .before .before
 
@@ -50,7 +53,7 @@ shared-slice-read-split-of-4 c = search needs
 
 split-of-requires : tie.Need-split-of-requires Inv-loop μ-loop
 split-of-requires c κs =
-    let t = c .before .before .before .before in
+    let t = tested c in
     start (t .before) .pre .1 .small (t .before .loop .i) (t .loop-test .taken)
 
 larger-requires : tie.Need-larger-requires Inv-loop μ-loop
@@ -64,7 +67,7 @@ loop-less c = search needs
 
 loop-again : tie.Need-loop-again Inv-loop μ-loop
 loop-again c =
-    let b = c .before .before .before .before .before .before .before in
+    let b = tested (c .before .before) .before in
     let args = start b .args in
     let f = splitAt (args .base) (args .allows .now) (args .sums .now) (args .lefts .now) (args .rights .now) in
     let split = c .before .split-of .ensures in
