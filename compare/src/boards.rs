@@ -133,7 +133,7 @@ pub enum Size {
 /// A seeded board of this size.
 pub fn seeded_board(random: &mut Random, size: Size) -> Board {
     let (rack, count) = match size {
-        Size::Small => (random.from_to(1, 6), random.from_to(0, 8)),
+        Size::Small => (random.from_to(1, 6), random.from_to(0, 10)),
         Size::Middle => {
             let any = random.from_to(1, 64);
             (random.one_of(&[1, 2, 8, 63, 64, any, any, any]), random.from_to(0, 48))

@@ -7,6 +7,8 @@ use crate::random::Random;
 
 /// The kinds of damage.
 pub const KINDS: usize = 24;
+/// Those with too many placements, which need 9 lines at least.
+pub const TOO_MANY_PLACEMENTS: [usize; 2] = [19, 20];
 
 /// The version that a file of 8 bytes at least names, the first where it names none.
 fn version_of(file: &[u8]) -> Version {

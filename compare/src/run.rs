@@ -10,7 +10,7 @@ use second::{number_of_plans, pairs_in, read, try_every_plan, Board, Version, MO
 
 use crate::boards::{every_board, fixed_boards, is_counted, seeded_board, seeded_file, single, Size};
 use crate::check::{call_library, compare, Call, Caller, Difference, Outcome};
-use crate::damage::{damage, damaged, first_to_pass, quantities_in, KINDS};
+use crate::damage::{damage, damaged, first_to_pass, quantities_in, KINDS, TOO_MANY_PLACEMENTS};
 use crate::random::Random;
 use crate::tally::{Event, Tally, SHORT_REPORT};
 
@@ -29,6 +29,9 @@ const EVERY_BOARD_UP_TO: [(usize, &[u8], usize); 9] = [
     (2, &[1, 2, 3], 2),
     (3, &[1, 3], 2),
 ];
+
+/// Among so many fixed files each pair of kinds of damage has its turn once.
+const TURNS: usize = 5;
 
 pub struct Run {
     /// What is compared with the second implementation.
@@ -80,7 +83,7 @@ impl Run {
             let in_second = board.file_in(Version::Two);
             let files = if is_counted(&board) { vec![in_second] } else { vec![board.file(), in_second] };
             for file in files {
-                self.fixed_file(&board, &file, &|kind, other| (kind + other) % 5 == turn % 5)?;
+                self.fixed_file(&board, &file, turn)?;
                 turn += 1;
             }
         }
@@ -98,7 +101,7 @@ impl Run {
     pub fn one_file(&mut self, file: &[u8]) -> Result<(), Difference> {
         let job = read(file);
         if job.number == 0 {
-            self.fixed_file(&job.board, file, &|_, _| true)
+            (0..TURNS).try_for_each(|turn| self.fixed_file(&job.board, file, turn))
         } else {
             for _ in 0..100 {
                 self.damaged_file(file, 0, 1)?;
@@ -107,28 +110,24 @@ impl Run {
         }
     }
 
-    /// A good file with every buffer length, and damaged in the kinds and pairs of kinds asked for.
-    fn fixed_file(
-        &mut self,
-        board: &Board,
-        file: &[u8],
-        is_asked: &dyn Fn(usize, usize) -> bool,
-    ) -> Result<(), Difference> {
+    /// A good file with every buffer length, cut, and damaged in the pairs of kinds whose turn it is.
+    fn fixed_file(&mut self, board: &Board, file: &[u8], turn: usize) -> Result<(), Difference> {
         self.good_file(board, file)?;
         self.each_length(board, file)?;
         self.try_plans(board, file)?;
+        let is_short = file.len() < 100;
         // Every cut of a short file, and some of a long one.
-        for length in (0..file.len()).filter(|length| file.len() < 100 || length % 197 < 3) {
+        for length in (0..file.len()).filter(|length| is_short || length % 197 < 3) {
             self.damaged_file(&file[..length], board.count, board.rack)?;
         }
-        // Two kinds of damage together on a short file, to see the order of refusals, and each kind alone on a long one.
+        // Two kinds of damage together on a short file, to see the order of refusals, and one alone on a long one.
         for kind in 0..KINDS {
-            for other in
-                (0..KINDS).filter(|&other| if file.len() < 100 { is_asked(kind, other) } else { other % 12 == 0 })
-            {
+            let in_turn = (0..KINDS).filter(|other| (kind + other) % TURNS == turn % TURNS);
+            let others = if is_short { in_turn.collect() } else { vec![kind; 2] };
+            for other in others {
                 let mut copy = file.to_vec();
                 damage(&mut self.random, &mut copy, kind);
-                if other != kind && file.len() < 100 {
+                if other != kind {
                     damage(&mut self.random, &mut copy, other);
                 }
                 self.damaged_file(&copy, board.count, board.rack)?;
@@ -189,6 +188,12 @@ impl Run {
         }
         for _ in 0..2 {
             let copy = damaged(&mut self.random, &file);
+            self.damaged_file(&copy, board.count, board.rack)?;
+        }
+        if board.count >= 9 {
+            let kind = self.random.one_of(&TOO_MANY_PLACEMENTS);
+            let mut copy = board.file_in(Version::Two);
+            damage(&mut self.random, &mut copy, kind);
             self.damaged_file(&copy, board.count, board.rack)?;
         }
         Ok(())

@@ -93,14 +93,7 @@ fn unsound_boards() -> Vec<(Board, u32, usize)> {
         (with_sets(&passing, &[(4, 0)]), 27, 4),
         (Board { count: 10, ..with_quantities(&passing, &[(9, 1)]) }, 27, 8),
         (with_quantities(&passing, &[(9, 1)]), 27, 8),
-        (
-            with_quantities(
-                &full,
-                &[4; 512].iter().enumerate().map(|(at, &q)| (at, q + u8::from(at == 0))).collect::<Vec<_>>(),
-            ),
-            27,
-            511,
-        ),
+        (with_quantities(&Board { quantities: [4; 512], ..full }, &[(0, 5)]), 27, 511),
     ]
 }
 
