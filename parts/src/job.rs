@@ -26,12 +26,12 @@ impl Job {
         if answer.number != second::refusal::NONE {
             return Err(Refusal { number: answer.number, line: answer.place });
         }
-        Ok(Job { rack: answer.board.rack, sets: answer.board.lines().to_vec() })
+        Ok(Job { rack: answer.board.rack, sets: answer.board.lines().map(|line| line.set).collect() })
     }
 
     /// The bytes of the file; every line has a tip, and no tip outside the rack.
     pub fn write(&self) -> Vec<u8> {
-        Board::of_lines(self.rack, &self.sets).file()
+        Board::of_sets(self.rack, &self.sets).file()
     }
 
     /// The text of a parts list, each part named by its line number.

@@ -1,4 +1,3 @@
 pub mod Signed
 pub mod ReadLines
 pub mod KeptFile
-pub mod AsBoard

@@ -4,13 +4,13 @@ use mathlib.Core.Path.{_≡_, refl, ap, _∙_}
 use mathlib.Core.List.{List}
 use lib.ListN.{length, getD, take}
 use lib.Seq.{take-all}
 use Rattle.placements.specs.Repeated.{total}
 use Rattle.placements.proofs.Loops.{total-more}
 use Rattle.placements.proofs.Totals.{total-take-le}
 use Rattle.model.specs.Limits.{mostPlacements}
 use borrow.Author.Needs.{needs}
-use Rattle.sound.proofs.total.Statement.{statement}
-use Rattle.sound.proofs.total.Tie as tie
+use Rattle.placements.proofs.total.Statement.{statement}
+use Rattle.placements.proofs.total.Tie as tie
 
 abbrev Inv-loop : tie.InvT-loop
 Inv-loop quantities sum₀ i₀ sum i = (i ≤ length quantities) × (sum ≡ total (take i quantities))
