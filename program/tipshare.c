@@ -22,7 +22,7 @@ static const char help[] =
     "tipshare --version      print the version\n"
     "\n"
     "The job file is read from standard input; the program parts makes one from a list (parts make LIST).\n"
-    "It has up to 512 lines, each for one placement (version 1) or with a quantity (version 2), 2048 placements at most.\n"
+    "It has up to 512 lines, each for one placement (version 1) or with its quantity (version 2), up to 2048 in all.\n"
     "What is printed:\n"
     "  lines N rack M        how many lines the file has, and how many tips the rack\n"
     "  off K tips T..        the least number of placements off the tip used most, and the tips that reach it\n"

@@ -11,8 +11,8 @@
 #include "tipshare.h"
 
 /*
- * Writes a job file to file, and gives its length. Without quantities (NULL) it is of version 1, and takes 8 + 8 * lines
- * bytes; with one for each line it is of version 2, and takes 8 + 9 * lines.
+ * Writes a job file to file, and gives its length: of version 1 without quantities (NULL), 8 + 8 * lines bytes; of
+ * version 2 with one for each line, 8 + 9 * lines bytes.
  */
 static size_t job_file(uint8_t *file, unsigned rack, unsigned lines, const uint64_t *sets, const uint8_t *quantities)
 {

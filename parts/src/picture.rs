@@ -77,6 +77,13 @@ impl Text {
         format!(r#"<text x="{x}" y="{y}" font-size="{size}" text-anchor="{anchor}""#)
             + &format!(r#" fill="{colour}" font-weight="{weight}">{words}</text>"#)
     }
+
+    /// A number, made smaller where it is wider than a cell: a digit is about 5/9 as wide as the size of its text.
+    fn in_cell(&self, x: usize, y: usize, number: usize) -> String {
+        let digits = number.to_string();
+        let size = self.size.min(CELL * 9 / 5 / digits.len());
+        Text { size, ..*self }.at(x, y, &digits)
+    }
 }
 
 fn escaped(words: &str) -> String {
@@ -130,8 +137,8 @@ fn panel(kind: Kind, left: usize, plans: &Plans, plan: Option<&Plan>) -> Vec<Str
             drawn.push(nothing.at(x, bottom + 27, "–"));
             drawn.push(nothing.at(x, bottom + 50, "–"));
         } else {
-            drawn.push(number.at(x, bottom + 27, &count.to_string()));
-            drawn.push(Text { colour, ..strong }.at(x, bottom + 50, &(count * (count - 1) / 2).to_string()));
+            drawn.push(number.in_cell(x, bottom + 27, count));
+            drawn.push(Text { colour, ..strong }.in_cell(x, bottom + 50, count * (count - 1) / 2));
         }
     }
     drawn

@@ -55,6 +55,18 @@ fn quantities_stand_behind_the_names_and_placements_below() {
 }
 
 #[test]
+fn large_numbers_are_as_wide_as_their_cell() {
+    let drawn = picture(&("rack 2\nB x140 : 1\n".to_string() + &"x255 : 0\n".repeat(7)));
+    // 140 and 1785 placements and 9730 pairs at full size, 1592220 pairs in smaller letters.
+    for (number, size) in [("140", 15), ("1785", 15), ("9730", 15), ("1592220", 9)] {
+        let words = format!(" font-size=\"{size}\" text-anchor=\"middle\"");
+        let lines: Vec<&str> = drawn.lines().filter(|line| line.ends_with(&format!(">{number}</text>"))).collect();
+        assert_eq!(lines.len(), 2, "{number}");
+        assert!(lines.iter().all(|line| line.contains(&words)), "{lines:?}");
+    }
+}
+
+#[test]
 fn list_without_a_best_plan_has_the_quick_one_alone() {
     let picture = picture("rack 3\nA : 1\nB : 0 2\n");
     assert_eq!(count(&picture, "best:</tspan> none</text>"), 1);
