@@ -47,7 +47,7 @@ pub fn state_refusal<'a>(
     stage_refusal(asked, stage)
 }
 
-// The lines are as many as the first `count` quantities; their total is worked out last, where nothing is refused before.
+// The lines' quantities are the first `count`; their total is worked out last, where nothing else is refused.
 pub fn add_refusal(
     earlier: Refusal,
     rack: usize,
@@ -69,7 +69,7 @@ pub fn add_refusal(
     if number != 0 {
         return refusal::refuse(number);
     }
-    let placements = sound::total(&quantities[..count]);
+    let placements = placements::total(&quantities[..count]);
     refusal::refuse_when(model::MOST_PLACEMENTS < placements + quantity as usize, 30)
 }
 

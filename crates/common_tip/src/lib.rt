@@ -12,26 +12,6 @@ ghost use Rattle.model.specs.Limits.{mostPlacements};
 ghost use Rattle.counts.specs.Counts.{Countable};
 ghost use Rattle.common_tip.specs.Common.{marginBy, leastCount, narrowBy, keptBy, keptLines};
 
-fn wide(quantity: u8) -> usize
-    ensures { λ r. ⌜ r ≡ quantity ⌝ }
-{
-    quantity as usize
-}
-
-// The number of placements.
-fn total_of(quantities: &[u8]) -> usize
-    requires { ⌜ total (now quantities) ≤ mostPlacements ⌝ }
-    ensures { λ r. ⌜ r ≡ total (now (quantities .entry)) ⌝ }
-{
-    let mut sum = 0;
-    let mut i = 0;
-    while i < quantities.len() {
-        sum += wide(quantities[i]);
-        i += 1;
-    }
-    sum
-}
-
 // The most placements that allow one tip, how many do not allow it, and the set W of the tips that as many allow.
 pub struct Common {
     pub top: usize,
@@ -51,7 +31,7 @@ pub fn common_tip(rack: usize, lines: &[u64], quantities: &[u8]) -> Common
     let top = busiest.top as usize;
     Common {
         top,
-        off: total_of(quantities) - top,
+        off: placements::total(quantities) - top,
         tips: busiest.tips,
     }
 }
@@ -85,7 +65,7 @@ fn within(rack: usize, k: u16, lines: &[u64], quantities: &[u8]) -> Bound
     let mut planes = [0u64; counts::PLANES];
     counts::count_tips(lines, quantities, &mut planes);
     let busiest = counts::busiest_tips(&planes, rack);
-    let n = total_of(quantities);
+    let n = placements::total(quantities);
     Bound {
         margin: margin(busiest.top as usize, n, k),
         tips: counts::tips_with(&planes, rack, least_count(n, k)),

@@ -19,12 +19,12 @@ use Rattle.refusal.specs.declared.Refusal.{Refusal}
 use Rattle.refusal.specs.Refusal.{refuse, scan}
 use Rattle.refusal.proofs.Laws.{or-first, or-next, scan-passes, scan-at}
 use Rattle.job.specs.Job.{bytesOf, mark, headerLength, setLength, counted, lineLength, paired, lineOf, bytesOfLines, fileOf, headerOf}
-use Rattle.job.specs.Job.{writtenOf, numberAt, markIn, versionIn, rackIn, countIn, setIn, setsIn, versionOk}
+use Rattle.job.specs.Job.{writtenOf, numberAt, markIn, versionIn, rackIn, countIn, setIn, setsIn, quantitiesIn, versionOk}
 use Rattle.job.specs.Job.{startNumber, sizeNumber, headerNumber, lineNumber, lineNumbers, readRefusal}
 use Rattle.job.specs.Before.{bytesOfSets, plainFileOf, plainSetsIn, plainHeaderNumber, setNumber, plainRefusal}
 use Rattle.job.proofs.Header.{header-good}
 use Rattle.job.proofs.Lines.{length-paired}
-use Rattle.job.proofs.Reading.{length-setsIn, length-numbers, set-there, number-there, plain-total, badIn, overIn}
+use Rattle.job.proofs.Reading.{length-setsIn, length-quantitiesIn, length-numbers, set-there, number-there, plain-total, badIn, overIn}
 use Rattle.job.proofs.Reading.{within-total, read-refused, read-bad, read-within}
 use Rattle.job.proofs.Writing.{version-one}
 
@@ -43,6 +43,11 @@ unfolding fileOf plainFileOf
 written-before m {qs} ones sets e =
     ap (λ v. fileOf v m (paired sets qs)) (version-one ones)
     ∙ ap₂ (λ n b. headerOf 1 m n ++ b) (length-paired sets qs e) (lines-before sets qs e)
+
+-- a file of either version whose quantities are all 1 is written back in version 1
+pub shortened : (file : List ℕ) → All (λ q. q ≡ 1) (quantitiesIn file)
+    → writtenOf (rackIn file) (quantitiesIn file) (setsIn file) ≡ plainFileOf (rackIn file) (setsIn file)
+shortened file ones = written-before (rackIn file) ones (setsIn file) (length-quantitiesIn file ∙ sym (length-setsIn file))
 
 -- ---- reading
 

@@ -8,47 +8,55 @@ use mathlib.Core.Bool.{Bool, true, false, cond, _&&_}
 use mathlib.Core.List.{List, [], _∷_, _++_, append-assoc, append-nil}
 use lib.Bits.{bitOr, bitXor, or-add-and, xor-add-and, and-le-l, and-le-r}
 use lib.Dec.{eqb, eqb→eq}
-use lib.ListN.{length, take, drop, getD, set, length-append}
-use lib.Seq.{drop-cons, append-snoc, set-at, length-take-le}
-use borrow.Author.Tests.{eq-eqb, ne-eqb}
+use lib.ListN.{length, take, drop, set}
+use lib.Seq.{append-snoc, set-split, take-set-le, drop-at, length-take-le}
+use borrow.Author.Tests.{eq-eqb, ne-eqb, eqb-true, eqb-false}
 use Rattle.model.specs.Count.{none}
 use Rattle.model.proofs.Tests.{and-left, and-right, same-test, eqb-T}
 use Rattle.job.specs.Job.{bytesOf, headerLength, setLength, counted, lineLength, fileLength, lineOf, versionFor}
-use Rattle.job.proofs.Numbers.{length-bytesOf}
+use Rattle.job.proofs.Lines.{line, line-two}
 use Rattle.job.proofs.Writing.{version-for, version-one}
-use Rattle.job_write.specs.Written.{withLine}
 
 -- ---- a line in the output
 
--- the set in it, and the other bytes as they were
-abbrev pub withSet : ℕ → ℕ → List ℕ → List ℕ
-withSet s p out = take p out ++ bytesOf setLength s ++ drop (p + setLength) out
+module _ (v s q p : ℕ) (out : List ℕ) (small : q < 256) (room : p + lineLength v ≤ length out) where
+  -- the output with the line in it; and with its set in another output
+  abbrev withLine : List ℕ
+  withLine = take p out ++ lineOf v (line s q) ++ drop (p + lineLength v) out
 
-module _ (v s q p : ℕ) (out : List ℕ) where
-  -- without a quantity the line is its set
-  pub line-plain : (v ≡ 2 → ⊥) → withSet s p out ≡ withLine v s q p out
-  unfolding lineOf lineLength bytesOf
-  line-plain n = rw (ne-eqb v 2 n) (ap (λ b. take p out ++ b ++ drop (p + setLength) out) (sym (append-nil (bytesOf setLength s))))
+  abbrev withSet : List ℕ → List ℕ
+  withSet put = take p put ++ bytesOf setLength s ++ drop (p + setLength) put
 
-  byte-one : q < 256 → bytesOf 1 q ≡ q ∷ []
+  byte-one : bytesOf 1 q ≡ q ∷ []
   unfolding bytesOf
-  byte-one h = ap (λ x. x ∷ []) (ap (λ x. x % 256) (div-one q) ∙ mod-eq-of-lt h)
+  byte-one = ap (λ x. x ∷ []) (ap (λ x. x % 256) (div-one q) ∙ mod-eq-of-lt small)
 
-  -- with one it is its set and then its quantity
-  pub line-counted : v ≡ 2 → q < 256 → p + setLength < length out → set (withSet s p out) (p + setLength) q ≡ withLine v s q p out
+  counted-line : v ≡ 2 → withSet (set out (p + setLength) q) ≡ withLine
   unfolding lineOf lineLength
-  line-counted e h l =
+  counted-line e =
+      let at = p + setLength in
+      let l : at < length out = omega (arith, room, line-two v e) in
       let front = take p out ++ bytesOf setLength s in
-      let rest = drop (suc (p + setLength)) out in
-      let size : length front ≡ p + setLength =
-      length-append (take p out) (bytesOf setLength s) ∙ ap₂ _+_ (length-take-le p out (omega arith)) (length-bytesOf setLength s) in
-      let next : suc (p + setLength) ≡ p + (setLength + 1) = omega arith in
-      ap (λ r. set (front ++ r) (p + setLength) q) (drop-cons out (p + setLength) 0 l)
-      ∙ set-at front (getD out (p + setLength) 0) rest q (p + setLength) size
+      let rest = drop (suc at) out in
+      let next : suc at ≡ p + (setLength + 1) = omega arith in
+      let behind = ap (drop at) (set-split out at q l) ∙ drop-at (take at out) (q ∷ rest) at (length-take-le at out (omega arith)) in
+      ap₂ (λ a b. a ++ bytesOf setLength s ++ b) (take-set-le p out at q (omega arith)) behind
       ∙ sym (append-snoc front q rest)
-      ∙ ap₂ (λ b k. front ++ b ++ drop k out) (sym (byte-one h)) next
+      ∙ ap₂ (λ b k. front ++ b ++ drop k out) (sym byte-one) next
       ∙ ap (λ b. b ++ drop (p + (setLength + 1)) out) (append-assoc (take p out) (bytesOf setLength s) (bytesOf 1 q))
       ∙ rw e refl
+
+  plain-line : (v ≡ 2 → ⊥) → withSet out ≡ withLine
+  unfolding lineOf lineLength bytesOf
+  plain-line n = rw (ne-eqb v 2 n) (ap (λ b. take p out ++ b ++ drop (p + setLength) out) (sym (append-nil (bytesOf setLength s))))
+
+  -- its quantity is put where the version has quantities, then its set: the line
+  pub line-put : {put last : List ℕ} → put ≡ cond (counted v) (set out (p + setLength) q) out → last ≡ withSet put → last ≡ withLine
+  line-put e f = f ∙ ap withSet e ∙ by (counted v) refl
+    where
+      by : (b : Bool) → counted v ≡ b → withSet (cond b (set out (p + setLength) q) out) ≡ withLine
+      by true t = counted-line (eqb-true v 2 t)
+      by false t = plain-line (eqb-false v 2 t)
 
 -- ---- the version
 

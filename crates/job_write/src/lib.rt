@@ -4,9 +4,9 @@ ghost use mathlib.Core.Bool.{cond};
 ghost use mathlib.Core.List.{_++_};
 ghost use Prim.Native.Nat.{_+_, _≤_};
 ghost use lib.Dec.{eqb};
-ghost use lib.ListN.{length, take, drop};
-ghost use Rattle.job.specs.Job.{headerLength, setLength, lineLength, fileLength, bytesOf, paired, headerOf, bytesOfLines, versionFor, writtenOf};
-ghost use Rattle.job_write.specs.Written.{withLine};
+ghost use lib.ListN.{length, take, drop, set};
+ghost use Rattle.job.specs.Job.{headerLength, setLength, counted, lineLength, fileLength, bytesOf, paired, headerOf, bytesOfLines};
+ghost use Rattle.job.specs.Job.{versionFor, writtenOf};
 
 // The version that the quantities are written in. The loop has no branch: it gathers the bits in which some quantity is not 1.
 pub fn version_for(quantities: &[u8]) -> u64
@@ -55,18 +55,18 @@ fn put_set(set: u64, at: usize, out: &mut [u8])
     out[at + 7] = (set % 256) as u8;
 }
 
-// Writes one line to the bytes from `at` on: its set, and after it its quantity where the version has quantities.
-fn put_line(version: u64, quantity: u8, set: u64, at: usize, out: &mut [u8])
+// Writes the quantity after the set of the line at `at`, where the version has quantities.
+fn put_quantity(version: u64, quantity: u8, at: usize, out: &mut [u8])
     requires { ⌜ at + lineLength version ≤ length (now out) ⌝ }
-    ensures { λ _. ⌜ now (out .exit) ≡ withLine version set quantity at (now (out .entry)) ⌝ }
+    ensures { λ _. ⌜ now (out .exit) ≡ cond (counted version) (set (now (out .entry)) (at + setLength) quantity) (now (out .entry)) ⌝ }
 {
-    put_set(set, at, out);
     if version == job::COUNTED {
         out[at + job::SET] = quantity;
     }
 }
 
-// Writes the lines after the header. The version stays, and the compiler makes a loop of each.
+// Writes the lines after the header. The version stays, and the compiler makes a loop of each; a set is read after the quantity is written,
+// so that its eight bytes become one store.
 fn put_lines(version: u64, quantities: &[u8], sets: &[u64], out: &mut [u8])
     requires { ⌜ length (now quantities) ≡ length (now sets) ⌝ }
     requires { ⌜ length (now out) ≡ fileLength version (length (now sets)) ⌝ }
@@ -75,13 +75,9 @@ fn put_lines(version: u64, quantities: &[u8], sets: &[u64], out: &mut [u8])
 {
     let mut i = 0;
     while i < sets.len() {
-        put_line(
-            version,
-            quantities[i],
-            sets[i],
-            job::file_length(version, i),
-            out,
-        );
+        let at = job::file_length(version, i);
+        put_quantity(version, quantities[i], at, out);
+        put_set(sets[i], at, out);
         i += 1;
     }
 }

@@ -5,7 +5,7 @@ use native.Mathlib.Numerals.{add-one}
 use mathlib.Core.Path.{_≡_, sym, ap, _∙_}
 use mathlib.Core.Bool.{Bool, true, false, not, cond}
 use mathlib.Core.List.{List}
-use lib.Dec.{ltb, eqb}
+use lib.Dec.{ltb}
 use lib.ListN.{length, drop, getD, drop-of-length-le}
 use lib.Seq.{drop-cons}
 use borrow.Author.Tests.{eq-eqb, ne-eqb, lt-ltb, le-ltb}
@@ -14,28 +14,8 @@ use Rattle.model.specs.Plan.{isEmpty, isDomain}
 use Rattle.model.specs.Limits.{mostPlacements}
 use Rattle.model.proofs.Fails.{fails-most, fails-next, fails-end}
 use Rattle.placements.specs.Totals.{firstOver}
+use Rattle.placements.proofs.Totals.{over-next, over-end}
 use Rattle.sound.specs.Sound.{isPlaced, firstWrong, firstHeld}
-
--- ---- the total
-
-module _ (limit : ℕ) (qs : List ℕ) (i left : ℕ) where
-  -- one quantity more, by the test of what is left of the limit
-  over-next : (b : Bool) → i < length qs → ltb left (getD qs i 0) ≡ b → firstOver limit qs ≡ i + firstOver left (drop i qs)
-      → firstOver limit qs ≡ cond b i (i + 1 + firstOver (left - getD qs i 0) (drop (i + 1) qs))
-  unfolding firstOver
-  over-next b h t inv = inv ∙ ap (λ k. i + k) (rw (drop-cons qs i 0 h, t, add-one)) ∙ by b
-    where
-      by : (b : Bool) → i + cond b 0 (suc (firstOver (left - getD qs i 0) (drop (i + 1) qs)))
-          ≡ cond b i (i + 1 + firstOver (left - getD qs i 0) (drop (i + 1) qs))
-      by true = omega arith
-      by false = omega arith
-
-  -- no quantity left
-  over-end : length qs ≤ i → firstOver limit qs ≡ i + firstOver left (drop i qs) → firstOver limit qs ≡ i
-  unfolding firstOver
-  over-end h inv = omega (arith, inv, ap (firstOver left) (drop-of-length-le qs h))
-
--- ---- the lines
 
 module _ (m : ℕ) (qs lines : List ℕ) where
   -- no line before line i is wrong, and with these lines so much is left of the limit

@@ -1,12 +1,12 @@
 //! Boards that the test programs share, and how a board and an answer are printed.
 
-use second::{Answer, Board, Stage};
+use second::{Answer, Board, Stage, MOST_LINES};
 
-/// The board that open and add for each line give.
+/// The board that open and add for each line, of quantity 1, give.
 pub fn open_board(rack: usize, lines: &[u64]) -> Board {
     let mut board = Board::open(rack).board;
     for &set in lines {
-        board = board.add(set).board;
+        board = board.add(set, 1).board;
     }
     board
 }
@@ -20,11 +20,17 @@ pub fn three_lines() -> Board {
     closed_board(3, &[0b001, 0b011, 0b110])
 }
 
-/// How many of rack, stage, count and the 512 sets differ between two boards.
+/// A record made by hand, which need not be sound: a set that is not empty has quantity 1.
+pub fn record(rack: usize, stage: Stage, count: usize, sets: [u64; MOST_LINES]) -> Board {
+    Board { rack, stage, count, sets, quantities: sets.map(|set| u8::from(set != 0)) }
+}
+
+/// How many of rack, stage, count and the 512 sets, each with its quantity, differ between two boards.
 pub fn differences(a: &Board, b: &Board) -> usize {
-    let different_sets = a.sets.iter().zip(&b.sets).filter(|(a, b)| a != b).count();
+    let differs = |&place: &usize| (a.sets[place], a.quantities[place]) != (b.sets[place], b.quantities[place]);
+    let different_lines = (0..MOST_LINES).filter(differs).count();
     let fields = [a.rack != b.rack, a.stage != b.stage, a.count != b.count];
-    fields.iter().filter(|&&different| different).count() + different_sets
+    fields.iter().filter(|&&different| different).count() + different_lines
 }
 
 pub fn show_board(board: &Board) -> String {

@@ -2,7 +2,7 @@
 
 use second::{Answer, Board, CommonTip, Stage, MOST_LINES};
 
-use crate::boards::{closed_board, differences, open_board, show_answer, show_board, show_number, three_lines};
+use crate::boards::{closed_board, differences, open_board, record, show_answer, show_board, show_number, three_lines};
 use crate::junk::{self, changed, show_changed};
 
 /// An open board of rack 3 after n times add {0}.
@@ -73,22 +73,22 @@ fn b12() -> Vec<String> {
 fn b13() -> Vec<String> {
     let rack_3 = || Board::open(3).board;
     vec![
-        show_answer("B13 add {3}", rack_3().add(1 << 3)),
-        show_answer("B13 add {2}", rack_3().add(1 << 2)),
-        show_answer("B13 add {}", rack_3().add(0)),
-        show_answer("B13 add {2,63}", rack_3().add(1 << 2 | 1 << 63)),
-        show_answer("B13 rack 64 add {63}", Board::open(64).board.add(1 << 63)),
+        show_answer("B13 add {3}", rack_3().add(1 << 3, 1)),
+        show_answer("B13 add {2}", rack_3().add(1 << 2, 1)),
+        show_answer("B13 add {}", rack_3().add(0, 1)),
+        show_answer("B13 add {2,63}", rack_3().add(1 << 2 | 1 << 63, 1)),
+        show_answer("B13 rack 64 add {63}", Board::open(64).board.add(1 << 63, 1)),
     ]
 }
 
 fn b14() -> Vec<String> {
     let closed = filled(512).close().board;
     vec![
-        show_answer("B14 add the 512th", filled(511).add(1)),
-        show_answer("B14 add the 513th {0}", filled(512).add(1)),
-        show_answer("B14 add the 513th {}", filled(512).add(0)),
-        show_answer("B14 add the 513th {3}", filled(512).add(1 << 3)),
-        show_answer("B14 closed, add the 513th {}", closed.clone().add(0)),
+        show_answer("B14 add the 512th", filled(511).add(1, 1)),
+        show_answer("B14 add the 513th {0}", filled(512).add(1, 1)),
+        show_answer("B14 add the 513th {}", filled(512).add(0, 1)),
+        show_answer("B14 add the 513th {3}", filled(512).add(1 << 3, 1)),
+        show_answer("B14 closed, add the 513th {}", closed.clone().add(0, 1)),
         show_write("B14 closed", &closed, 4103),
         show_write("B14 closed", &closed, 4112),
     ]
@@ -153,7 +153,7 @@ fn seven_calls(words: &str, board: &Board) -> String {
     let (mut quick_plan, mut best_plan) = (junk::plan(), junk::plan());
     let (mut table, mut file) = (junk::table(), junk::file());
     let calls = [
-        seen("add", board, given().add(1)),
+        seen("add", board, given().add(1, 1)),
         seen("close", board, given().close()),
         seen("common tip", board, given().common_tip()),
         seen("keep", board, given().keep_within(5)),
@@ -176,8 +176,8 @@ fn seven_calls(words: &str, board: &Board) -> String {
 /// The seven calls on an open and on a closed board of these fields, which need not be sound.
 fn each_stage(words: &str, rack: usize, count: usize, sets: [u64; MOST_LINES]) -> Vec<String> {
     vec![
-        seven_calls(&format!("{words}, open"), &Board { rack, stage: Stage::Open, count, sets }),
-        seven_calls(&format!("{words}, closed"), &Board { rack, stage: Stage::Closed, count, sets }),
+        seven_calls(&format!("{words}, open"), &record(rack, Stage::Open, count, sets)),
+        seven_calls(&format!("{words}, closed"), &record(rack, Stage::Closed, count, sets)),
     ]
 }
 

@@ -1,6 +1,6 @@
 use Prim.Native.Nat.{_+_, _≤_}
 use native.Mathlib.Omega.{arith}
-use mathlib.Core.Path.{_≡_, refl, sym, ap, _∙_}
+use mathlib.Core.Path.{refl, sym, ap, _∙_}
 use lib.Dec.{ltb}
 use lib.ListN.{length, take}
 use lib.Seq.{length-take-le}

@@ -32,14 +32,14 @@ busiest-tips-requires c κs = search needs
 cast-top : tie.Need-cast-top
 cast-top c = search needs
 
-total-of-requires : tie.Need-total-of-requires
-total-of-requires c κs = search needs
+total-requires : tie.Need-total-requires
+total-requires c κs = search needs
 
 sub-t13 : tie.Need-sub-t13
 sub-t13 c =
     let b = c .before .before in
     let s = start b in
-    omega (arith, c .total-of .ensures, top-is b, top-total (s .args .rack) (s .pre .1))
+    omega (arith, c .total .ensures, top-is b, top-total (s .args .rack) (s .pre .1))
 
 returns : tie.Need-returns
 returns c =
@@ -47,7 +47,7 @@ returns c =
     let s = start b in
     let counted = b .before .before .before .count-tips .ensures in
     let tips = b .busiest-tips .ensures .1 ∙ tips-W counted (s .args .rack) (top-is b) in
-    (top-is b, (ap (λ n. n - b .busiest-tips .result .top) (c .total-of .ensures), tips))
+    (top-is b, (ap (λ n. n - b .busiest-tips .result .top) (c .total .ensures), tips))
 
 pub common-tip-spec : {M : Type 1} → statement M
 common-tip-spec =
@@ -58,6 +58,6 @@ common-tip-spec =
     slice-aggregate-busiest-tips
     busiest-tips-requires
     cast-top
-    total-of-requires
+    total-requires
     sub-t13
     returns)

@@ -32,8 +32,8 @@ slice-aggregate-busiest-tips c = search needs
 busiest-tips-requires : tie.Need-busiest-tips-requires
 busiest-tips-requires c κs = search needs
 
-total-of-requires : tie.Need-total-of-requires
-total-of-requires c κs = search needs
+total-requires : tie.Need-total-requires
+total-requires c κs = search needs
 
 cast-margin : tie.Need-cast-margin
 cast-margin c = search needs
@@ -42,7 +42,7 @@ margin-requires : tie.Need-margin-requires
 margin-requires c κs =
     let b = c .before .before in
     let s = start b in
-    let n = c .before .total-of .ensures in
+    let n = c .before .total .ensures in
     (omega (arith, top-is b, top-total (s .args .rack) (s .pre .1)), omega (arith, n, s .pre .1 .few))
 
 slice-aggregate-tips-with : tie.Need-slice-aggregate-tips-with
@@ -57,7 +57,7 @@ tips-with-requires c κs =
     let m = c .before .before in
     let b = m .before .before .before in
     let s = start b in
-    let n = m .before .before .total-of .ensures in
+    let n = m .before .before .total .ensures in
     (b .before .before .before .count-tips .ensures .size, s .pre .0, omega (arith, c .least-count .ensures, n, s .pre .1 .few))
 
 returns : tie.Need-returns
@@ -69,7 +69,7 @@ returns c =
     let lines = s .args .lines .now in
     let k = s .args .k in
     let counted = b .before .before .before .count-tips .ensures in
-    let all = m .before .before .total-of .ensures ∙ sym (length-repeated qs lines (s .pre .1 .same)) in
+    let all = m .before .before .total .ensures ∙ sym (length-repeated qs lines (s .pre .1 .same)) in
     let e = m .margin .ensures ∙ ap₂ (λ t x. marginBy t x k) (top-is b) all ∙ margin-by (s .args .rack) (repeated qs lines) k in (
       toZ-ofZ w32 (m .margin .result) (rw e (margin-small (s .args .rack) k (s .pre .1) (s .fits .k .fits))) ∙ e,
       c .tips-with .ensures ∙ least-common (s .args .rack) k counted (c .before .least-count .ensures ∙ ap (λ x. leastCount x k) all),
@@ -83,7 +83,7 @@ within-spec =
     count-tips-requires
     slice-aggregate-busiest-tips
     busiest-tips-requires
-    total-of-requires
+    total-requires
     cast-margin
     margin-requires
     slice-aggregate-tips-with

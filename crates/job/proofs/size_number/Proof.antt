@@ -1,3 +1,4 @@
+use Prim.Native.Nat.{_<_}
 use mathlib.Core.Path.{_≡_, sym, ap₂, _∙_}
 use native.Mathlib.Omega.{arith}
 use mathlib.Core.Bool.{false}
@@ -15,7 +16,9 @@ count-in-requires c κs = search needs
 
 returns : tie.Need-returns
 unfolding sizeNumber
-returns c = rw (lt-ltb _ _ (rw (c .before .count-in .ensures) at (c .if1 .taken)))
+returns c =
+    let many : mostLines < countIn (c .before .before .before .args .file .now) = omega (arith, c .before .count-in .ensures, c .if1 .taken) in
+    rw (lt-ltb _ _ many)
 
 version-in-requires : tie.Need-version-in-requires
 version-in-requires c κs = search needs
