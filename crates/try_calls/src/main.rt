@@ -11,6 +11,7 @@ use try_lib::differences;
 use try_lib::junk_file;
 use try_lib::junk_plan;
 use try_lib::junk_table;
+use try_lib::ones;
 use try_lib::show;
 use try_lib::show_answer;
 use try_lib::show_board;
@@ -85,13 +86,13 @@ fn b12() {
 
 fn b13() {
     let board = Board::open(3).board;
-    show_answer(b"B13 add {3}", board.add(8));
-    show_answer(b"B13 add {2}", board.add(4));
-    show_answer(b"B13 add {}", board.add(0));
-    show_answer(b"B13 add {2,63}", board.add(9223372036854775812));
+    show_answer(b"B13 add {3}", board.add(8, 1));
+    show_answer(b"B13 add {2}", board.add(4, 1));
+    show_answer(b"B13 add {}", board.add(0, 1));
+    show_answer(b"B13 add {2,63}", board.add(9223372036854775812, 1));
     show_answer(
         b"B13 rack 64 add {63}",
-        Board::open(64).board.add(9223372036854775808),
+        Board::open(64).board.add(9223372036854775808, 1),
     );
 }
 
@@ -99,7 +100,7 @@ fn b13() {
 fn filled(n: usize) -> Board {
     let mut board = Board::open(3).board;
     for _ in 0..n {
-        board = board.add(1).board;
+        board = board.add(1, 1).board;
     }
     board
 }
@@ -107,12 +108,12 @@ fn filled(n: usize) -> Board {
 fn b14() {
     let nearly = filled(511);
     let full = filled(512);
-    show_answer(b"B14 add the 512th", nearly.add(1));
-    show_answer(b"B14 add the 513th {0}", full.add(1));
-    show_answer(b"B14 add the 513th {}", full.add(0));
-    show_answer(b"B14 add the 513th {3}", full.add(8));
+    show_answer(b"B14 add the 512th", nearly.add(1, 1));
+    show_answer(b"B14 add the 513th {0}", full.add(1, 1));
+    show_answer(b"B14 add the 513th {}", full.add(0, 1));
+    show_answer(b"B14 add the 513th {3}", full.add(8, 1));
     let closed = full.close().board;
-    show_answer(b"B14 closed, add the 513th {}", closed.add(0));
+    show_answer(b"B14 closed, add the 513th {}", closed.add(0, 1));
     show_write(b"B14 closed", closed, 4103);
     show_write(b"B14 closed", closed, 4112);
 }
@@ -171,7 +172,7 @@ fn both(a: Seen, b: Seen) -> Seen {
 
 // The numbers of the seven calls on a board, and over all of them what was told and changed.
 fn each_call(board: Board) {
-    let add = seen_answer(board, board.add(1));
+    let add = seen_answer(board, board.add(1, 1));
     let close = seen_answer(board, board.close());
     let common = seen_common(board);
     let keep = seen_keep(board);
@@ -197,7 +198,8 @@ fn each_call(board: Board) {
     );
 }
 
-fn each_stage(words: &[u8], rack: usize, count: usize, sets: [u64; 512]) {
+// Both stages of a record.
+fn each_record(words: &[u8], rack: usize, count: usize, sets: [u64; 512], quantities: [u8; 512]) {
     text(words);
     text(b", open:");
     each_call(Board {
@@ -205,6 +207,7 @@ fn each_stage(words: &[u8], rack: usize, count: usize, sets: [u64; 512]) {
         stage: Stage::Open,
         count,
         sets,
+        quantities,
     });
     text(words);
     text(b", closed:");
@@ -213,16 +216,24 @@ fn each_stage(words: &[u8], rack: usize, count: usize, sets: [u64; 512]) {
         stage: Stage::Closed,
         count,
         sets,
+        quantities,
     });
+}
+
+// The same with each line of quantity 1.
+fn each_stage(words: &[u8], rack: usize, count: usize, sets: [u64; 512]) {
+    each_record(words, rack, count, sets, ones(count));
 }
 
 fn opened(board: Board) -> Board {
     let sets = board.sets;
+    let quantities = board.quantities;
     Board {
         rack: board.rack,
         stage: Stage::Open,
         count: board.count,
         sets,
+        quantities,
     }
 }
 

@@ -1,13 +1,13 @@
 use borrow.Author.Needs.{needs}
 use Prim.Native.Nat.{_≤_, _-_}
-use Rattle.try_lib.proofs.closed_board.Statement.{statement}
-use Rattle.try_lib.proofs.closed_board.Tie as tie
+use Rattle.try_lib.proofs.placed_board.Statement.{statement}
+use Rattle.try_lib.proofs.placed_board.Tie as tie
 
 abbrev Inv-loop : tie.InvT-loop
-Inv-loop rack n lines board₀ i₀ board i = i ≤ n
+Inv-loop rack n lines quantities board₀ i₀ board i = i ≤ n
 
 abbrev μ-loop : tie.MeasureT-loop
-μ-loop rack n lines board₀ i₀ board i = n - i
+μ-loop rack n lines quantities board₀ i₀ board i = n - i
 
 open-requires : tie.Need-open-requires Inv-loop μ-loop
 open-requires c κs = search needs
@@ -20,6 +20,9 @@ mul-add c = search needs
 
 array-read-add : tie.Need-array-read-add Inv-loop μ-loop
 array-read-add c = search needs
+
+array-read-add-2 : tie.Need-array-read-add-2 Inv-loop μ-loop
+array-read-add-2 c = search needs
 
 add-requires : tie.Need-add-requires Inv-loop μ-loop
 add-requires c κs = search needs
@@ -39,8 +42,8 @@ close-requires c κs = search needs
 returns : tie.Need-returns Inv-loop μ-loop
 returns c = search needs
 
-pub closed-board-spec : {M : Type 1} → statement M
-closed-board-spec =
+pub placed-board-spec : {M : Type 1} → statement M
+placed-board-spec =
     tie.close
     (tie.spec
     Inv-loop
@@ -49,6 +52,7 @@ closed-board-spec =
     loop-holds
     mul-add
     array-read-add
+    array-read-add-2
     add-requires
     add-i
     loop-less
