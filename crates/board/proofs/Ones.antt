@@ -1,12 +1,12 @@
 -- Boards whose lines all have quantity 1 keep every answer of the base: each is given by the definitions over the lines alone.
 use Prim.Native.Nat.{ℕ, _+_, _*_, _-_}
-use mathlib.Core.Path.{_≡_, refl, sym, ap, ap₂, _∙_}
+use mathlib.Core.Path.{_≡_, refl, sym, ap, _∙_}
 use mathlib.Core.Bool.{Bool, true, false, not, cond}
 use mathlib.Core.List.{List, _++_}
 use native.Mathlib.Omega.{arith}
-use lib.Dec.{eqb, ltb}
+use lib.Dec.{eqb}
 use lib.IntN.{pos}
-use lib.ListN.{length, take, drop, length-take}
+use lib.ListN.{length, drop, length-take}
 use borrow.Author.Tests.{eqb-true, le-ltb}
 use Rattle.model.specs.Count.{All}
 use Rattle.model.specs.Plan.{isEmpty, inRack, pairs}

@@ -3,7 +3,7 @@ use mathlib.Core.Path.{refl}
 use mathlib.Core.List.{zipWith}
 use lib.Count.{leadingZeros, trailingZeros, ones, onesIn}
 use Rattle.model.specs.Count.{All, none, more, count, select, each, firstFail, every, listOf, largest, lowestAt}
-use Rattle.model.specs.Plan.{Valid, empty, line, has, occ, uses, pairs, choose2, inRack, isDomain, rackOk}
+use Rattle.model.specs.Plan.{empty, line, has, occ, uses, pairs, choose2, inRack, isDomain, rackOk}
 use Rattle.model.specs.Choice.{choice, from}
 use Rattle.model.specs.CommonTip.{setOf, top, W, margin, covers, narrowed}
 use Rattle.model.specs.Greedy.{busiest, rounds, first, quickTip}
