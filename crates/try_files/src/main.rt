@@ -53,6 +53,7 @@ fn bytes() {
     show_byte(2, 0);
     show_byte(3, 1);
     show_byte(4, 2);
+    show_byte(4, 3);
     show_byte(5, 0);
     show_byte(5, 65);
     show_byte(6, 3);

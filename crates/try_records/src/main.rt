@@ -10,6 +10,7 @@ use try_lib::differences;
 use try_lib::junk_file;
 use try_lib::junk_plan;
 use try_lib::junk_table;
+use try_lib::ones;
 use try_lib::only;
 use try_lib::show;
 use try_lib::size;
@@ -36,7 +37,7 @@ fn longest_file() -> [u8; 4104] {
 }
 
 // Both stages of a record.
-fn each_stage(words: &[u8], rack: usize, count: usize, sets: [u64; 512]) {
+fn each_record(words: &[u8], rack: usize, count: usize, sets: [u64; 512], quantities: [u8; 512]) {
     text(words);
     show(b"rack # lines #, open\n", &[rack as u64, count as u64]);
     each_call(Board {
@@ -44,6 +45,7 @@ fn each_stage(words: &[u8], rack: usize, count: usize, sets: [u64; 512]) {
         stage: Stage::Open,
         count,
         sets,
+        quantities,
     });
     text(words);
     show(b"rack # lines #, closed\n", &[rack as u64, count as u64]);
@@ -52,7 +54,13 @@ fn each_stage(words: &[u8], rack: usize, count: usize, sets: [u64; 512]) {
         stage: Stage::Closed,
         count,
         sets,
+        quantities,
     });
+}
+
+// The same with each line of quantity 1.
+fn each_stage(words: &[u8], rack: usize, count: usize, sets: [u64; 512]) {
+    each_record(words, rack, count, sets, ones(count));
 }
 
 // In 64 bits the square of 2^32 is 0, and 8 + 8·2^63 is 8.
@@ -129,7 +137,7 @@ fn set_of(lines: Lines, line: u64) -> u64 {
 fn board_of(lines: Lines) -> Board {
     let mut board = Board::open(64).board;
     for i in 0..512 {
-        board = board.add(set_of(lines, i)).board;
+        board = board.add(set_of(lines, i), 1).board;
     }
     board.close().board
 }
@@ -309,7 +317,7 @@ fn show_read(board: Board) {
 
 // The seven calls, with buffers longer than any call needs.
 fn each_call(board: Board) {
-    show_answer(b"add {0}", board, board.add(1));
+    show_answer(b"add {0}", board, board.add(1, 1));
     show_answer(b"close", board, board.close());
     show_common(board);
     show_keep(board, 5);

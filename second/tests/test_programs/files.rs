@@ -26,7 +26,7 @@ fn lengths() -> Vec<String> {
 
 /// One byte changed: in the mark, version, rack size and number of lines, then in the sets.
 fn one_byte() -> Vec<String> {
-    let head = [(0, 0), (1, 0), (2, 0), (3, 1), (4, 2), (5, 0), (5, 65), (6, 3), (6, 2), (7, 4)];
+    let head = [(0, 0), (1, 0), (2, 0), (3, 1), (4, 2), (4, 3), (5, 0), (5, 65), (6, 3), (6, 2), (7, 4)];
     let sets = [(23, 0), (23, 8), (24, 128), (31, 0)];
     let show = |&(place, byte)| show_read(&format!("read, byte {place} is {byte}"), LENGTH, &[(place, byte)]);
     head.iter().chain(&sets).map(show).collect()

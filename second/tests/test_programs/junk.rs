@@ -25,7 +25,7 @@ pub fn table() -> [u32; 4100] {
     [Junk::JUNK; 4100]
 }
 
-/// Eight bytes more than the job file of 512 lines.
+/// Eight bytes more than the job file of 512 lines of quantity 1.
 pub fn file() -> [u8; 4112] {
     [Junk::JUNK; 4112]
 }

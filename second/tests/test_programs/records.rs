@@ -1,8 +1,8 @@
 //! The lines about records that are not sound, and about boards of 512 lines over 64 tips.
 
-use second::{Answer, Board, Stage, LONGEST_FILE, MOST_LINES, MOST_TIPS};
+use second::{Answer, Board, Stage, Version, MOST_LINES, MOST_TIPS};
 
-use crate::boards::{closed_board, differences, show_number, three_lines};
+use crate::boards::{closed_board, differences, ones, show_number, three_lines, with};
 use crate::junk::{self, changed, Junk};
 
 /// A prime: a set with one tip more or less has another remainder.
@@ -81,7 +81,7 @@ fn show_write(board: &Board, room: usize) -> String {
         show_number(&answer),
         differences(board, &answer.board),
         answer.value,
-        show_changed(&file, LONGEST_FILE)
+        show_changed(&file, Version::One.length_of(MOST_LINES))
     )
 }
 
@@ -92,7 +92,7 @@ fn show_answer(words: &str, board: &Board, answer: Answer<()>) -> String {
 /// The seven calls, with buffers longer than any call needs.
 fn each_call(board: &Board) -> Vec<String> {
     vec![
-        show_answer("add {0}", board, board.clone().add(1)),
+        show_answer("add {0}", board, board.clone().add(1, 1)),
         show_answer("close", board, board.clone().close()),
         show_common(board),
         show_keep(board, 5),
@@ -103,13 +103,24 @@ fn each_call(board: &Board) -> Vec<String> {
 }
 
 /// Both stages of a record.
-fn each_stage(words: &str, rack: usize, count: usize, sets: [u64; MOST_LINES]) -> Vec<String> {
+fn each_record(
+    words: &str,
+    rack: usize,
+    count: usize,
+    sets: [u64; MOST_LINES],
+    quantities: [u8; MOST_LINES],
+) -> Vec<String> {
     let mut printed = Vec::new();
     for (name, stage) in [("open", Stage::Open), ("closed", Stage::Closed)] {
         printed.push(format!("{words}rack {rack} lines {count}, {name}"));
-        printed.extend(each_call(&Board { rack, stage, count, sets }));
+        printed.extend(each_call(&Board { rack, stage, count, sets, quantities }));
     }
     printed
+}
+
+/// The same with each line of quantity 1.
+fn each_stage(words: &str, rack: usize, count: usize, sets: [u64; MOST_LINES]) -> Vec<String> {
+    each_record(words, rack, count, sets, ones(count))
 }
 
 /// Rack size and number of lines out of range, one of them or both; all sets are {0}.
@@ -131,13 +142,6 @@ fn out_of_range() -> Vec<String> {
 
 /// A bad line, a set left after the lines, and several faults at once: in the board of three lines, and at the ends of 512 sets {0}.
 fn wrong_sets() -> Vec<String> {
-    let with = |sets: [u64; MOST_LINES], changes: &[(usize, u64)]| {
-        let mut sets = sets;
-        for &(place, set) in changes {
-            sets[place] = set;
-        }
-        sets
-    };
     let three = three_lines().sets;
     let full = [1; MOST_LINES];
     let both = with(three, &[(1, 0), (3, 1)]);

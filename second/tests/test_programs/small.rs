@@ -3,7 +3,7 @@
 use second::Board;
 
 use crate::boards::closed_board;
-use crate::every_plan::{all_sets, check, every_board};
+use crate::every_plan::{all_sets, check, every_board, single};
 use crate::junk;
 
 /// Of some boards, the calls of keep and those that it and best sharing refuse; every other call is made once on each board.
@@ -42,7 +42,7 @@ fn is_best_refused(board: &Board) -> bool {
 
 /// The calls on one board: keep for each k from 0 to the number of lines and one more.
 fn tally(board: &Board) -> Tally {
-    assert_eq!(closed_board(board.rack, board.lines()), *board);
+    assert_eq!(closed_board(board.rack, &board.sets[..board.count]), *board);
     check(board);
     let bounds = 0..board.count as u16 + 2;
     let is_keep_refused = |k: &u16| board.clone().keep_within(*k).number == 26;
@@ -57,7 +57,7 @@ fn tally(board: &Board) -> Tally {
 /// Every board of so many lines.
 fn tally_all(rack: usize, lines: usize) -> Tally {
     let mut sum = Tally::default();
-    every_board(rack, &all_sets(rack), lines, &mut |board| sum = sum.and(tally(board)));
+    every_board(rack, &single(&all_sets(rack)), lines, &mut |board| sum = sum.and(tally(board)));
     sum
 }
 

@@ -4,10 +4,10 @@ use Rattle.try_calls.proofs.filled.Statement.{statement}
 use Rattle.try_calls.proofs.filled.Tie as tie
 
 abbrev Inv-loop : tie.InvT-loop
-Inv-loop n board₀ counter₀ board counter = counter ≤ n
+Inv-loop n quantity board₀ counter₀ board counter = counter ≤ n
 
 abbrev μ-loop : tie.MeasureT-loop
-μ-loop n board₀ counter₀ board counter = n - counter
+μ-loop n quantity board₀ counter₀ board counter = n - counter
 
 open-requires : tie.Need-open-requires Inv-loop μ-loop
 open-requires c κs = search needs
