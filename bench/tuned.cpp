@@ -67,7 +67,7 @@ struct Planes {
     void count(const uint64_t *sets, Single, size_t number, size_t placements)
     {
         used = planes_for(placements);
-        Two sum[kPlanes] = {};
+        Two sum[kPlanesOfSingle] = {};
         for (size_t done = 0; done < number; done += kBlock) {
             add_block(sum, used, reinterpret_cast<const uint8_t *>(sets + done));
         }

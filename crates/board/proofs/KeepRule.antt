@@ -9,7 +9,6 @@ use lib.ListN.{length, drop, length-append, length-drop}
 use lib.Seq.{take-at, drop-at}
 use mir.Syntax.{w32}
 use mir.Val.{toZ, ofZ}
-use Rattle.model.specs.Limits.{mostLines}
 use Rattle.model.specs.CommonTip.{margin}
 use Rattle.placements.specs.Repeated.{repeated}
 use Rattle.placements.specs.Good.{GoodLines}

@@ -1,14 +1,16 @@
 -- Boards whose lines all have quantity 1 keep every answer of the base: each is given by the definitions over the lines alone.
-use Prim.Native.Nat.{ℕ, _*_, _-_}
-use mathlib.Core.Path.{_≡_, refl, sym, ap, ap₂, _∙_}
-use mathlib.Core.Bool.{Bool, true, false, cond}
+use Prim.Native.Nat.{ℕ, _+_, _*_, _-_}
+use mathlib.Core.Path.{_≡_, refl, sym, ap, _∙_}
+use mathlib.Core.Bool.{Bool, true, false, not, cond}
 use mathlib.Core.List.{List, _++_}
 use native.Mathlib.Omega.{arith}
+use lib.Dec.{eqb}
 use lib.IntN.{pos}
-use lib.ListN.{length, take, drop, length-take}
-use borrow.Author.Tests.{eqb-true}
+use lib.ListN.{length, drop, length-take}
+use borrow.Author.Tests.{eqb-true, le-ltb}
 use Rattle.model.specs.Count.{All}
-use Rattle.model.specs.Plan.{pairs}
+use Rattle.model.specs.Plan.{isEmpty, inRack, pairs}
+use Rattle.model.specs.Limits.{mostLines, mostPlacements}
 use Rattle.model.specs.Choice.{bare}
 use Rattle.model.specs.CommonTip.{top, W, margin, prune}
 use Rattle.model.specs.Greedy.{quickPlan}
@@ -20,28 +22,37 @@ use Rattle.placements.proofs.Repeated.{length-repeated, repeated-ones}
 use Rattle.placements.proofs.Plans.{quick-repeated, quick-ones, best-ones}
 use Rattle.placements.proofs.Ones.{prune-ones}
 use Rattle.refusal.specs.declared.Refusal.{Refusal}
-use Rattle.refusal.specs.Refusal.{accepts, told, lentBy}
-use Rattle.job.specs.Job.{fileLength}
+use Rattle.refusal.specs.Refusal.{none, refuse, accepts, orElse, when, told, lentBy}
+use Rattle.refusal.proofs.Laws.{or-same}
+use Rattle.job.specs.Job.{fileLength, lineNumber}
 use Rattle.job.specs.Before.{plainFileOf}
 use Rattle.job.proofs.Writing.{version-one}
 use Rattle.job.proofs.Before.{written-before}
-use Rattle.call_refusals.specs.declared.Stage.the-variants.{Closed}
-use Rattle.call_refusals.specs.Calls.{keepRefusal, planRefusal, bestRefusal, writeRefusal}
+use Rattle.call_refusals.specs.declared.Stage.the-variants.{Open, Closed}
+use Rattle.call_refusals.specs.Calls.{addRefusal, keepRefusal, planRefusal, bestRefusal, writeRefusal}
 use Rattle.call_refusals.proofs.Calls.{keep-none}
 use Rattle.line_calls.specs.Lines
 use Rattle.line_calls.specs.Lines.{planAnswer}
 use Rattle.line_calls.proofs.KeepWithin.{not-negative}
 use Rattle.board.specs.declared.Board.{Board}
+use Rattle.board.specs.declared.Answer.{Answer}
 use Rattle.board.specs.declared.Common.{Common}
 use Rattle.board.specs.declared.Kept.{Kept}
 use Rattle.board.specs.declared.Written.{Written}
-use Rattle.board.specs.Board.{linesOf, quantitiesOf, stateRefusal}
+use Rattle.board.specs.Board.{linesOf, quantitiesOf, stateRefusal, answer, withLine, addOf}
 use Rattle.board.specs.Common.{commonOf, keepOf}
 use Rattle.board.specs.Sharing.{shared, quickOf, quickBuffer, bestOf, bestBuffer, bestTable}
 use Rattle.board.specs.JobFile.{writeOf, writeBuffer}
-use Rattle.board.proofs.Sets.{Full, same-size}
+use Rattle.board.proofs.Sets.{Full, same-size, ready, lines-count}
 
 -- ---- the answers of the base for the sets of the lines, after the state's refusal
+
+-- a full board, then an empty set, then a tip outside the rack
+abbrev pub addedBefore : Board → Refusal → ℕ → Answer
+addedBefore b r s =
+    let line : ℕ = cond (isEmpty s) 2 (cond (not (inRack (b .rack) s)) 3 0) in
+    let d = orElse r (orElse (when (eqb (b .count) mostLines) 24) (refuse line)) in
+    cond (accepts d) (answer (withLine b s 1) none) (answer b d)
 
 abbrev pub commonBefore : Board → Refusal → ℕ → List ℕ → Common
 commonBefore b r m lines =
@@ -61,8 +72,9 @@ writtenBefore b r lines room =
     let d = writeRefusal r 1 (length lines) room in
     record { board = b; number = d .number; place = d .place; bytes = told d (fileLength 1 (length lines)) }
 
--- each call answers and leaves what it did for lines without quantities
+-- each call answers and leaves what it did for lines without quantities; a line is added with quantity 1
 pub record AsBefore (b : Board) (r : Refusal) (m : ℕ) (lines : List ℕ) : Type 0 where
+  pub add : (s : ℕ) → addOf b s 1 ≡ addedBefore b (stateRefusal Open b) s
   pub common-tip : commonOf b ≡ commonBefore b r m lines
   pub keep : (k : ℕ) → keepOf b k ≡ keptBefore b r m lines k
   pub quick : (room : ℕ) → quickOf b room ≡ shared b (planAnswer (planRefusal r (length lines) room) (pairs (quickPlan bare m lines)))
@@ -85,6 +97,15 @@ lent-same d n {new} {new'} old h = by (accepts d) refl
     by true e = ap (λ l. l ++ drop n old) (h (eqb-true (d .number) 0 e))
     by false e = refl
 
+-- nothing follows the last refusal
+or-last : (n : ℕ) → orElse (refuse n) none ≡ refuse n
+unfolding orElse
+or-last n = by (eqb n 0) refl
+  where
+    by : (t : Bool) → eqb n 0 ≡ t → cond t none (refuse n) ≡ refuse n
+    by true e = ap refuse (sym (eqb-true n 0 e))
+    by false e = refl
+
 module _ (b : Board) (full : Full b) (ones : All (λ q. q ≡ 1) (quantitiesOf b)) where
   abbrev m : ℕ
   m = b .rack
@@ -104,6 +125,17 @@ module _ (b : Board) (full : Full b) (ones : All (λ q. q ≡ 1) (quantitiesOf b
 
   all : total qs ≡ length lines
   all = sym (length-repeated qs lines same) ∙ ap length placements
+
+  -- with one line more a board that is not full has at most 512 placements
+  add-before : (s : ℕ) → addOf b s 1 ≡ addedBefore b (stateRefusal Open b) s
+  unfolding addOf addRefusal lineNumber
+  add-before s =
+      let r = stateRefusal Open b in
+      let n = lineNumber m s 1 in
+      ap (λ d. cond (accepts d) (answer (withLine b s 1) none) (answer b d)) (or-same r (λ z.
+      let known = ready Open b full refl z in
+      let few = le-ltb mostPlacements (total qs + 1) (omega (arith, all, lines-count Open b full known, known .sound .count-most)) in
+      ap (orElse (when (eqb (b .count) mostLines) 24)) (ap (λ t. orElse (refuse n) (when t 30)) few ∙ or-last n)))
 
   quick-same : quickPlanQ bare m qs lines ≡ quickPlan bare m lines
   quick-same = quick-ones bare m ones lines same
@@ -130,6 +162,7 @@ module _ (b : Board) (full : Full b) (ones : All (λ q. q ≡ 1) (quantitiesOf b
   unfolding commonOf quickOf quickBuffer bestOf bestBuffer bestTable writeOf writeBuffer Lines.commonOf Lines.quickOf Lines.quickBuffer
       Lines.bestOf Lines.bestBuffer Lines.bestTable Lines.writeOf Lines.writeBuffer
   ones-as-before = record {
+    add = add-before;
     common-tip = rw (placements, all) refl;
     keep = keep-before;
     quick = λ room. rw quick-pairs refl;

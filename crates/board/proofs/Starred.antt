@@ -3,7 +3,7 @@ use mathlib.Core.Path.{refl}
 use mathlib.Core.List.{zipWith}
 use lib.Count.{leadingZeros, trailingZeros, ones, onesIn}
 use Rattle.model.specs.Count.{All, none, more, count, select, each, firstFail, every, listOf, largest, lowestAt}
-use Rattle.model.specs.Plan.{Valid, empty, line, has, occ, uses, pairs, choose2, inRack, isDomain, rackOk}
+use Rattle.model.specs.Plan.{empty, line, has, occ, uses, pairs, choose2, inRack, isDomain, rackOk}
 use Rattle.model.specs.Choice.{choice, from}
 use Rattle.model.specs.CommonTip.{setOf, top, W, margin, covers, narrowed}
 use Rattle.model.specs.Greedy.{busiest, rounds, first, quickTip}
@@ -27,6 +27,7 @@ use Rattle.board.specs.Rows.{B15-rack-0, B15-rack-65, B16-count-513, B16
 use Rattle.board.specs.Rows.{B18-last, B18-both, B19-21, B19-27, B19-27-open, B19-27-closed, B19-28-closed}
 use Rattle.board.specs.Rows.{B20-quick, B20-best, B21-common, B21-keep-0, B21-keep-1, B21-keep-2, B21-keep-3, B21-keep-4, B22-quick, B23-quick}
 use Rattle.board.specs.Rows.{B23-best, B24-none, B24-bad-set, B24-last, B24-over, B25-none, B25-over, B25-first, B26-next, B26-after-set}
+use Rattle.board.specs.Rows.{B27-common, B27-best}
 
 pub starred : All Gives rows
 unfolding run addOf closeOf commonOf keepOf quickOf quickBuffer bestOf bestBuffer bestTable Lines.commonOf Lines.keepOf Lines.keptSets
@@ -82,7 +83,9 @@ starred =
     (more {x = B25-over} refl
     (more {x = B25-first} refl
     (more {x = B26-next} refl
-    (more {x = B26-after-set} refl none))))))))))))))))))))))))))))))))))))))))))))))
+    (more {x = B26-after-set} refl
+    (more {x = B27-common} refl
+    (more {x = B27-best} refl none))))))))))))))))))))))))))))))))))))))))))))))))
 
 pub half-reached : HalfReached
 unfolding has pairs uses count

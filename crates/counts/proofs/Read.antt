@@ -87,7 +87,8 @@ module _ (f g : ℕ → ℕ) (p m : ℕ) (e : (t : ℕ) → g t ≡ digit p t + 
         let same = eqb→eq (f t) n (and-left (eqb (f t) n) (has p t) y) in
         let one = has-one-digit p t (and-right (eqb (f t) n) (has p t) y) in
         let u = lowestAt g m in
-        omega (arith, e t, same, one, largest-ge g m t l, largest-attained g m (omega arith), e u, digit-le p u, largest-ge f m u (lowest-lt g m (omega arith)))
+        let most = largest-ge f m u (lowest-lt g m (omega arith)) in
+        omega (arith, e t, same, one, largest-ge g m t l, largest-attained g m (omega arith), e u, digit-le p u, most)
 
     pub tips-odd : bitAnd (tipsAt f (largest f m) m) p ≡ tipsAt g (2 * largest f m + 1) m
     tips-odd =
@@ -95,10 +96,14 @@ module _ (f g : ℕ → ℕ) (p m : ℕ) (e : (t : ℕ) → g t ≡ digit p t + 
         higher
         ∙ setOf-cong _ _ m (λ t l.
         same-test (eqb (f t) n && has p t) (eqb (g t) (2 * n + 1))
-        (λ y. eqb-T (g t) (2 * n + 1) (omega (arith, e t, eqb→eq (f t) n (and-left (eqb (f t) n) (has p t) y), has-one-digit p t (and-right (eqb (f t) n) (has p t) y))))
+        (λ y.
+        let same = eqb→eq (f t) n (and-left (eqb (f t) n) (has p t) y) in
+        let one = has-one-digit p t (and-right (eqb (f t) n) (has p t) y) in
+        eqb-T (g t) (2 * n + 1) (omega (arith, e t, same, one)))
         (λ y.
         let q = eqb→eq (g t) (2 * n + 1) y in
-        and-in (eqb (f t) n) (has p t) (eqb-T (f t) n (omega (arith, e t, q, digit-le p t))) (one-digit-has p t (omega (arith, e t, q, digit-le p t)))))
+        let same = eqb-T (f t) n (omega (arith, e t, q, digit-le p t)) in
+        and-in (eqb (f t) n) (has p t) same (one-digit-has p t (omega (arith, e t, q, digit-le p t)))))
 
   -- none has it: the same tips
   module _ (none : bitAnd (tipsAt f (largest f m) m) p ≡ 0) where
@@ -120,7 +125,8 @@ module _ (f g : ℕ → ℕ) (p m : ℕ) (e : (t : ℕ) → g t ≡ digit p t + 
             let u = lowestAt g m in
             let v = lowestAt f m in
             let l = lowest-lt g m (omega arith) in
-            let ge : 2 * largest f m ≤ largest g m = omega (arith, e v, largest-attained f m (omega arith), largest-ge g m v (lowest-lt f m (omega arith))) in
+            let at = largest-ge g m v (lowest-lt f m (omega arith)) in
+            let ge : 2 * largest f m ≤ largest g m = omega (arith, e v, largest-attained f m (omega arith), at) in
             ⊎-elim
             (λ h. omega (arith, largest-attained g m (omega arith), e u, digit-none u l (omega (arith, largest-ge f m u l)), largest-ge f m u l))
             (λ h. omega (arith, largest-attained g m (omega arith), e u, digit-le p u))
@@ -151,7 +157,8 @@ unfolding largest
 largest-zero zero = refl
 largest-zero (suc m) = omega (arith, largest-zero m)
 
-pub countAt-drop : (planes : List ℕ) (k t : ℕ) → k < length planes → countAt (drop k planes) t ≡ digit (getD planes k 0) t + 2 * countAt (drop (suc k) planes) t
+pub countAt-drop : (planes : List ℕ) (k t : ℕ) → k < length planes
+    → countAt (drop k planes) t ≡ digit (getD planes k 0) t + 2 * countAt (drop (suc k) planes) t
 unfolding countAt
 countAt-drop planes k t h = ap (λ l. countAt l t) (drop-cons planes k 0 h)
 
@@ -210,7 +217,9 @@ module _ (planes : List ℕ) (m : ℕ) where
   pub top-lt : {j tips top : ℕ} → length planes ≡ planeCount → TopFrom planes m j tips top → top < 2 ^ planeCount
   top-lt {j} {tips} {top} size r =
       let few : length (drop j planes) ≤ planeCount = rw length-drop (omega arith) in
-      rw (r .top-is) (largest-lt (countAt (drop j planes)) m (2 ^ planeCount) (pow-pos planeCount) (λ t. lt-of-lt-of-le (countAt-lt (drop j planes) t) (pow-mono few)))
+      rw (r .top-is) (
+      largest-lt (countAt (drop j planes)) m (2 ^ planeCount) (pow-pos planeCount)
+      (λ t. lt-of-lt-of-le (countAt-lt (drop j planes) t) (pow-mono few)))
 
 -- ---- all planes
 
@@ -222,7 +231,8 @@ module _ (f : ℕ → ℕ) (m n : ℕ) where
   pub busy-none : n ≡ 0 → busyTips f n m ≡ 0
   unfolding busy
   busy-none z =
-      setOf-cong busy (λ t. false) m (λ t l. ⊎-elim (λ h. rw (le-ltb 0 (f t) h)) (λ h. rw (lt-ltb 0 (f t) h, ne-eqb (f t) n (λ q. omega arith))) (le-or-lt (f t) 0))
+      setOf-cong busy (λ t. false) m (λ t l.
+      ⊎-elim (λ h. rw (le-ltb 0 (f t) h)) (λ h. rw (lt-ltb 0 (f t) h, ne-eqb (f t) n (λ q. omega arith))) (le-or-lt (f t) 0))
       ∙ setOf-none m
 
   pub busy-some : (n ≡ 0 → ⊥) → busyTips f n m ≡ tipsAt f n m

@@ -1,7 +1,7 @@
 -- Keep within k on a file: the kept lines are written, and what is written reads back as the pruned lines of the same rack with the same quantities.
 use Prim.Native.Nat.{ℕ}
 use mathlib.Core.Path.{_≡_, refl, sym, ap, ap₂, _∙_}
-use mathlib.Core.Logic.{_↔_}
+use mathlib.Core.Logic.{_↔_, ⊎-elim}
 use mathlib.Core.Bool.{Bool, true, false, cond}
 use mathlib.Core.List.{List, _++_}
 use native.Mathlib.Omega.{arith}
@@ -13,13 +13,15 @@ use borrow.Author.Tests.{eqb-true}
 use Rattle.model.specs.CommonTip.{margin}
 use Rattle.placements.specs.Repeated.{repeated}
 use Rattle.placements.specs.Good.{GoodLines}
-use Rattle.placements.specs.Keep.{pruneQ, ExactQ}
+use Rattle.placements.specs.Keep.{pruneQ}
 use Rattle.refusal.specs.declared.Refusal.{Refusal}
 use Rattle.refusal.specs.Refusal.{none, accepts, orElse, when, Given}
 use Rattle.refusal.proofs.Laws.{accepted}
-use Rattle.job.specs.Job.{Bytes, fileLength, versionFor, writtenOf, rackIn, setsIn, quantitiesIn, readRefusal, ReadsAs}
+use Rattle.job.specs.Job.{Bytes, fileLength, paired, bytesOfLines, fileOf, versionFor, writtenOf}
+use Rattle.job.specs.Job.{versionIn, rackIn, setsIn, quantitiesIn, readRefusal, InShorterForm, ReadsAs}
+use Rattle.job.proofs.Header.{version-back}
 use Rattle.job.proofs.Reading.{bytes-quantities, read-good}
-use Rattle.job.proofs.Writing.{length-fileOf, written-back}
+use Rattle.job.proofs.Writing.{version-for, length-fileOf, written-back}
 use Rattle.call_refusals.specs.Calls.{keepRefusal, writeRefusal}
 use Rattle.call_refusals.proofs.Calls.{keep-none, write-none}
 use Rattle.line_calls.specs.declared.KeepAnswer.{KeepAnswer}
@@ -123,6 +125,14 @@ same-26 earlier v n room = by (accepts earlier) (ltb room (fileLength v n)) refl
     by true false e = (λ h. absurd (omega (arith, h)), λ h. absurd (omega (arith, h, eqb-true (earlier .number) 0 e)))
     by false short e = (λ h. h, λ h. h)
 
+-- what is written has the version for its quantities
+written-version : (m : ℕ) (qs sets : List ℕ) → versionIn (writtenOf m qs sets) ≡ versionFor qs
+unfolding fileOf
+written-version m qs sets =
+    let v = versionFor qs in
+    let lines = paired sets qs in
+    version-back v m (length lines) (bytesOfLines v lines) (⊎-elim (λ e. omega (arith, e)) (λ e. omega (arith, e)) (version-for qs))
+
 module _ (file : List ℕ) (k : ℕ) (out : List ℕ) where
   abbrev m : ℕ
   m = rackIn file
@@ -173,9 +183,13 @@ module _ (file : List ℕ) (k : ℕ) (out : List ℕ) where
     reads : (z : o .refusal .number ≡ 0) → ReadsAs m qs pruned (take (o .second) (keepFileIn file k out))
     reads z = rw (written (decided-by z)) (written-back m qs pruned (good-kept (decided-by z)) (bytes-quantities file bytes))
 
+    shorter : (z : o .refusal .number ≡ 0) → InShorterForm (take (o .second) (keepFileIn file k out))
+    shorter z = rw (reads z .quantities-are, written (decided-by z)) (written-version m qs pruned)
+
     pub keep-rule : KeepRuleOf file k (keepFileIn file k out) o
     keep-rule = record {
       is-read = λ z. reads z .accepted;
+      shorter-form = shorter;
       same-rack = λ z. reads z .rack-is;
       same-quantities = λ z. reads z .quantities-are;
       exact = λ z. rw (reads z .sets-are) (keep-exact (readRefusal file) k (read-good file) (kept-through (decided-by z)));

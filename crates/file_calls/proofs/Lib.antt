@@ -1,3 +1,4 @@
 pub mod Signed
 pub mod ReadLines
 pub mod KeptFile
+pub mod AsBoard

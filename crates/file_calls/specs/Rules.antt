@@ -6,7 +6,7 @@ use mathlib.Core.List.{List}
 use lib.ListN.{take}
 use Rattle.placements.specs.Keep.{ExactQ}
 use Rattle.refusal.specs.Refusal.{none}
-use Rattle.job.specs.Job.{rackIn, setsIn, quantitiesIn, readRefusal}
+use Rattle.job.specs.Job.{rackIn, setsIn, quantitiesIn, readRefusal, InShorterForm}
 use Rattle.line_calls.specs.Rules.{CommonRule, NoneWithin, HalfRule, BestRule}
 use Rattle.file_calls.specs.declared.Outcome.{Outcome}
 
@@ -22,10 +22,11 @@ HalfRuleOf file plan o = HalfRule (quantitiesIn file) (setsIn file) plan (o .ref
 abbrev pub BestRuleOf : List ℕ → List ℕ → Outcome → Type 0
 BestRuleOf file plan o = BestRule (quantitiesIn file) (setsIn file) plan (o .refusal .number) (o .first)
 
--- demand 2, of the bytes in the output: it is a job file that is read, of the same rack and the same quantities, in which a tip stays on a line
--- exactly when some valid plan within k uses it there; and a file that reading accepts gives 26 exactly when no valid plan is within k
+-- demand 2, of the bytes in the output: it is a job file that is read, in the shorter form, with the same rack and quantities, in which a tip stays
+-- on a line exactly when some valid plan within k uses it there; and a file that reading accepts gives 26 exactly when no valid plan is within k
 pub record KeepRuleOf (file : List ℕ) (k : ℕ) (out : List ℕ) (o : Outcome) : Type 0 where
   pub is-read : o .refusal .number ≡ 0 → readRefusal (take (o .second) out) ≡ none
+  pub shorter-form : o .refusal .number ≡ 0 → InShorterForm (take (o .second) out)
   pub same-rack : o .refusal .number ≡ 0 → rackIn (take (o .second) out) ≡ rackIn file
   pub same-quantities : o .refusal .number ≡ 0 → quantitiesIn (take (o .second) out) ≡ quantitiesIn file
   pub exact : o .refusal .number ≡ 0 → ExactQ (rackIn file) (quantitiesIn file) (setsIn file) k (setsIn (take (o .second) out))

@@ -30,7 +30,8 @@ module _ (earlier : Refusal) (m : ℕ) (qs lines old : List ℕ) where
   write-stopped f = refused-by (or-first {d = earlier} refl _ f) f
 
   -- the decision by a version and a count that are those of the lines
-  module _ {v n : ℕ} {d : Refusal} (by-count : d ≡ writeRefusal earlier v n (length old)) (version : v ≡ versionFor qs) (size : n ≡ length lines) where
+  module _ {v n : ℕ} {d : Refusal} (by-count : d ≡ writeRefusal earlier v n (length old))
+      (version : v ≡ versionFor qs) (size : n ≡ length lines) where
     e : d ≡ decision
     e = rw (version, size) at by-count
 

@@ -62,7 +62,8 @@ module _ (earlier : Refusal) (m : ℕ) (qs lines old : List ℕ) {n : ℕ} {d : 
   )
 
   pub quick-accepted : d .number ≡ 0 → n ≡ length lines → GoodLines m qs lines → {x : ℕ} {out : List ℕ}
-      → x ≡ pairs (repeated qs (quickPlanQ bare m qs lines)) → out ≡ quickPlanQ bare m qs lines → Quick (record { refusal = d; pairs = x }) (out ++ drop n old)
+      → x ≡ pairs (repeated qs (quickPlanQ bare m qs lines)) → out ≡ quickPlanQ bare m qs lines
+      → Quick (record { refusal = d; pairs = x }) (out ++ drop n old)
   unfolding quickOf quickBuffer
   quick-accepted z s good {x} {out} q o = (
     plan-accepted e z (pairs (repeated qs (quickPlanQ bare m qs lines))) q,
@@ -77,7 +78,8 @@ module _ (earlier : Refusal) (m : ℕ) (qs lines old : List ℕ) {n : ℕ} {d : 
 
 -- ---- best sharing
 
-module _ (earlier : Refusal) (m : ℕ) (qs lines old cells : List ℕ) {d : Refusal} (e : d ≡ bestRefusal earlier m lines (length old) (length cells)) where
+module _ (earlier : Refusal) (m : ℕ) (qs lines old cells : List ℕ) {d : Refusal}
+    (e : d ≡ bestRefusal earlier m lines (length old) (length cells)) where
   -- the lines are runs where best sharing is not refused
   pub best-runs : d .number ≡ 0 → All (λ s. T (isRun s)) lines
   best-runs z = best-none earlier m lines (length old) (length cells) (number-of e z) .runs

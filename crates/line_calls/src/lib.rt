@@ -101,7 +101,8 @@ pub fn quick(
     plan: &mut [u8],
 ) -> PlanAnswer
     requires { ⌜ Given earlier rack count (now quantities) (now sets) ⌝ }
-    ensures answer { λ r. ⌜ r ≡ quickOf earlier rack (take count (now (quantities .entry))) (take count (now (sets .entry))) (length (now (plan .entry))) ⌝ }
+    ensures answer { λ r. ⌜ r ≡ quickOf earlier rack (take count (now (quantities .entry))) (take count (now (sets .entry)))
+        (length (now (plan .entry))) ⌝ }
     ensures plan { λ _. ⌜ now (plan .exit)
         ≡ quickBuffer earlier rack (take count (now (quantities .entry))) (take count (now (sets .entry))) (now (plan .entry)) ⌝ }
     ensures rule { λ r. ⌜ HalfRule (take count (now (quantities .entry))) (take count (now (sets .entry)))
@@ -164,7 +165,8 @@ pub fn write<'a>(
     out: &mut [u8],
 ) -> FileAnswer
     requires { ⌜ Given earlier rack count (now quantities) (now sets) ⌝ }
-    ensures answer { λ r. ⌜ r ≡ writeOf earlier (take count (now (quantities .entry))) (take count (now (sets .entry))) (length (now (out .entry))) ⌝ }
+    ensures answer { λ r. ⌜ r ≡ writeOf earlier (take count (now (quantities .entry))) (take count (now (sets .entry)))
+        (length (now (out .entry))) ⌝ }
     ensures buffer { λ _. ⌜ now (out .exit)
         ≡ writeBuffer earlier rack (take count (now (quantities .entry))) (take count (now (sets .entry))) (now (out .entry)) ⌝ }
 {

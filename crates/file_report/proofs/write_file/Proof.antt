@@ -49,7 +49,9 @@ plan-buffer-requires-2 c κs = search needs
 abbrev read : tie.Else1 → tie.After-read-lines
 read d = d .before .before .before .before .before
 
-given : (d : tie.Else1) → let r = read d .read-lines in Given (r .result .refusal) (r .result .rack) (r .result .count) (r .last .1 .1 .0) (r .last .1 .0)
+given : (d : tie.Else1)
+    → let r = read d .read-lines in
+    Given (r .result .refusal) (r .result .rack) (r .result .count) (r .last .1 .1 .0) (r .last .1 .0)
 given d = let (_, (_, (_, g))) = read d .read-lines .ensures in g
 
 good : (d : tie.Else1) → let r = read d .read-lines in

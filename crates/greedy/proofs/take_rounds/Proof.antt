@@ -37,7 +37,8 @@ done c = c .before .before .before .before .before .before .before .before .befo
 begun : (c : tie.After-busiest-tips Inv-loop μ-loop)
     → let s = called (looped c) .args in
     let l = looped c .loop in
-    Begun (onHead (s .mounted)) (s .rack) (s .quantities .now) (s .left .now) (l .left) (l .plan) (l .counts) (l .shared) (c .busiest-tips .result .top)
+    let top = c .busiest-tips .result .top in
+    Begun (onHead (s .mounted)) (s .rack) (s .quantities .now) (s .left .now) (l .left) (l .plan) (l .counts) (l .shared) top
 begun c =
     let l = looped c in
     record { state = l .loop .inv .state; good = called l .pre .shareable .good; is-most = c .busiest-tips .ensures .0 }
