@@ -241,6 +241,11 @@ pub fn junk_file() -> [u8; 4112] {
     [JUNK; 4112]
 }
 
+// Eight bytes more than the job file of 512 lines with quantities.
+pub fn junk_long_file() -> [u8; 4624] {
+    [JUNK; 4624]
+}
+
 fn wide(x: u8) -> u64 {
     x as u64
 }

@@ -30,6 +30,11 @@ pub fn file() -> [u8; 4112] {
     [Junk::JUNK; 4112]
 }
 
+/// Eight bytes more than the job file of 512 lines with quantities.
+pub fn long_file() -> [u8; 4624] {
+    [Junk::JUNK; 4624]
+}
+
 pub fn changed<T: Junk>(buffer: &[T]) -> usize {
     buffer.iter().filter(|&&value| value != T::JUNK).count()
 }
