@@ -9,6 +9,7 @@ use try_lib::changed_bytes;
 use try_lib::changed_places;
 use try_lib::closed_board;
 use try_lib::differences;
+use try_lib::filled;
 use try_lib::junk_file;
 use try_lib::junk_plan;
 use try_lib::junk_table;
@@ -98,15 +99,6 @@ fn b13() {
         b"B13 rack 64 add {63}",
         Board::open(64).board.add(9223372036854775808, 1),
     );
-}
-
-// An open board of rack 3 after n times adding so many of {0}.
-fn filled(n: usize, quantity: u8) -> Board {
-    let mut board = Board::open(3).board;
-    for _ in 0..n {
-        board = board.add(1, quantity).board;
-    }
-    board
 }
 
 fn b14() {

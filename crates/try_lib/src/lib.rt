@@ -282,6 +282,15 @@ pub fn three_lines() -> Board {
     closed_board(3, [1, 3, 6, 0, 0, 0, 0, 0], 3)
 }
 
+// An open board of rack 3 after n times adding so many of {0}.
+pub fn filled(n: usize, quantity: u8) -> Board {
+    let mut board = Board::open(3).board;
+    for _ in 0..n {
+        board = board.add(1, quantity).board;
+    }
+    board
+}
+
 pub fn show_board(board: Board) {
     let stage = board.stage;
     let rack = board.rack as u64;

@@ -1,4 +1,4 @@
-// Small boards solved by trying every plan, compared with what common tip, keep, quick and best sharing answer.
+// Small boards solved by trying every plan by lines, counted in placements, compared with what common tip, keep, quick and best sharing answer.
 // A tally is the boards and those made wrong, and for common tip, keep, quick and best the calls, for keep and best the
 // refusals, and the facts that do not hold.
 use board::Board;
@@ -254,8 +254,8 @@ fn try_board(small: Small) -> [u64; 12]
     )
 }
 
-// Every board of n lines over the rack: `boards` of them, with the lines' sets without the empty one as their digits.
-fn try_boards(rack: u64, n: usize, boards: u64, plans: u64) -> [u64; 12]
+// Every board of n lines over the rack with these quantities: `boards` of them, with the lines' sets without the empty one as their digits.
+fn try_boards(rack: u64, n: usize, boards: u64, plans: u64, quantities: [u8; 8]) -> [u64; 12]
     requires { ⌜ n ≤ 8 ⌝ }
 {
     let sets = std::num::wrapping_sub_u64(only(rack), 1);
@@ -269,7 +269,7 @@ fn try_boards(rack: u64, n: usize, boards: u64, plans: u64) -> [u64; 12]
                 n,
                 plans,
                 lines,
-                quantities: [1; 8],
+                quantities,
             }),
         );
         tally = more;
@@ -287,13 +287,70 @@ fn show_tally(tally: [u64; 12]) {
 fn try_all(rack: u64, n: usize, boards: u64, plans: u64, total: [u64; 12]) -> [u64; 12]
     requires { ⌜ n ≤ 8 ⌝ }
 {
-    let tally = try_boards(rack, n, boards, plans);
+    let tally = try_boards(rack, n, boards, plans, [1; 8]);
     show(b"rack # lines # plans #", &[rack, n as u64, plans]);
     show_tally(tally);
     added(total, tally)
 }
 
-fn main() {
+fn byte(x: u64) -> u8 {
+    if x < 256 { x as u8 } else { 255 }
+}
+
+// The quantities of the code: 1, 2 or 3 of each line.
+fn quantities_of(code: u64) -> [u8; 8] {
+    let values = digits(code, 3, 1);
+    let mut quantities = [0u8; 8];
+    for i in 0..8 {
+        quantities[i] = byte(values[i]);
+    }
+    quantities
+}
+
+// Every board of n lines, each with every quantity from 1 to 3: `counts` ways.
+fn try_placed(
+    rack: u64,
+    n: usize,
+    boards: u64,
+    counts: u64,
+    plans: u64,
+    total: [u64; 12],
+) -> [u64; 12]
+    requires { ⌜ n ≤ 8 ⌝ }
+{
+    let mut tally = [0u64; 12];
+    for code in 0..counts {
+        let more = added(
+            tally,
+            try_boards(rack, n, boards, plans, quantities_of(code)),
+        );
+        tally = more;
+    }
+    show(
+        b"rack # lines # plans # quantities 1 to 3",
+        &[rack, n as u64, plans],
+    );
+    show_tally(tally);
+    added(total, tally)
+}
+
+fn by_placements() {
+    let total = try_placed(1, 1, 1, 3, 1, [0; 12]);
+    let total = try_placed(1, 2, 1, 3 * 3, 1, total);
+    let total = try_placed(2, 1, 3, 3, 2, total);
+    let total = try_placed(2, 2, 3 * 3, 3 * 3, 2 * 2, total);
+    let total = try_placed(2, 3, 3 * 3 * 3, 3 * 3 * 3, 2 * 2 * 2, total);
+    let total = try_placed(2, 4, 3 * 3 * 3 * 3, 3 * 3 * 3 * 3, 2 * 2 * 2 * 2, total);
+    let total = try_placed(3, 1, 7, 3, 3, total);
+    let total = try_placed(3, 2, 7 * 7, 3 * 3, 3 * 3, total);
+    let total = try_placed(3, 3, 7 * 7 * 7, 3 * 3 * 3, 3 * 3 * 3, total);
+    let total = try_placed(4, 1, 15, 3, 4, total);
+    let total = try_placed(4, 2, 15 * 15, 3 * 3, 4 * 4, total);
+    text(b"all quantities 1 to 3");
+    show_tally(total);
+}
+
+fn by_lines() {
     let total = try_all(1, 0, 1, 1, [0; 12]);
     let total = try_all(1, 1, 1, 1, total);
     let total = try_all(1, 2, 1, 1, total);
@@ -313,4 +370,9 @@ fn main() {
     let total = try_all(4, 3, 15 * 15 * 15, 4 * 4 * 4, total);
     text(b"all");
     show_tally(total);
+}
+
+fn main() {
+    by_lines();
+    by_placements();
 }

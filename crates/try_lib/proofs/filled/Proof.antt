@@ -1,7 +1,7 @@
 use borrow.Author.Needs.{needs}
 use Prim.Native.Nat.{_≤_, _-_}
-use Rattle.try_calls.proofs.filled.Statement.{statement}
-use Rattle.try_calls.proofs.filled.Tie as tie
+use Rattle.try_lib.proofs.filled.Statement.{statement}
+use Rattle.try_lib.proofs.filled.Tie as tie
 
 abbrev Inv-loop : tie.InvT-loop
 Inv-loop n quantity board₀ counter₀ board counter = counter ≤ n
