@@ -1,7 +1,8 @@
 /*
  * Tip sharing by hand in plain C++, with the steps meant for the proved library: counts are made tip by tip and taken
- * down as lines are planned; best sharing counts lines by lowest and highest tip, sums the counts in two directions
+ * down as lines are planned; best sharing counts placements by lowest and highest tip, sums the counts in two directions
  * and has m^3/6 steps. The contiguous inner loops are written so that the compiler puts them into vector instructions.
+ * A board whose quantities are all 1 has code of its own wherever a quantity counts.
  */
 #include "libraries.h"
 
@@ -12,62 +13,73 @@ namespace {
 using namespace job;
 
 /*
- * The number of lines that allow each tip, held so that the largest of these numbers names the busiest tip and, on a
- * tie, the lowest: 64 for each line, plus 63 less the tip. 512 lines would pass 16 bits, so they start from the least.
+ * The number of placements that allow each tip, held so that the largest of these numbers names the busiest tip and, on
+ * a tie, the lowest: 64 for each placement, plus 63 less the tip. 16 bits do for 512 placements, which start from the
+ * least number, and 32 bits for all.
  */
-struct Occurrences {
-    static constexpr int kLeast = -32768;
-    alignas(16) int16_t of[kMostTips];
+template <typename Number> struct Counts {
+    static constexpr int kLeast = sizeof(Number) == 2 ? -32768 : 0;
+    alignas(16) Number of[kMostTips];
 
     void clear()
     {
         for (size_t tip = 0; tip < kMostTips; tip++) {
-            of[tip] = static_cast<int16_t>(kLeast + 63 - static_cast<int>(tip));
+            of[tip] = static_cast<Number>(kLeast + 63 - static_cast<int>(tip));
         }
     }
 
-    void put(size_t tip) { of[tip] = static_cast<int16_t>(of[tip] + 64); }
+    void put(size_t tip, uint8_t quantity) { of[tip] = static_cast<Number>(of[tip] + 64 * quantity); }
 
-    void take(size_t tip) { of[tip] = static_cast<int16_t>(of[tip] - 64); }
+    void take(size_t tip, uint8_t quantity) { of[tip] = static_cast<Number>(of[tip] - 64 * quantity); }
 
-    /* The busiest tip and its lines as one number: lines * 64 + 63 - tip. */
+    /* The busiest tip and its placements as one number: placements * 64 + 63 - tip. */
     unsigned busiest() const
     {
-        int16_t largest = of[0];
+        Number largest = of[0];
         for (size_t tip = 0; tip < kMostTips; tip++) {
             largest = of[tip] > largest ? of[tip] : largest;
         }
         return static_cast<unsigned>(largest - kLeast);
     }
 
-    /* The tips with as many lines as this, which is above 0. */
-    uint64_t tips_with(unsigned lines) const
+    /* The tips with as many placements as this or more, which is above 0. */
+    uint64_t tips_with(unsigned placements) const
     {
         uint64_t tips = 0;
         for (size_t tip = 0; tip < kMostTips; tip++) {
-            tips |= uint64_t{static_cast<unsigned>(of[tip] - kLeast) >> 6 == lines} << tip;
+            tips |= uint64_t{static_cast<unsigned>(of[tip] - kLeast) >> 6 >= placements} << tip;
         }
         return tips;
     }
 };
+
+/* The counts that do for such quantities. */
+template <typename Quantities> struct CountsOf {
+    using Type = Counts<int32_t>;
+};
+template <> struct CountsOf<Single> {
+    using Type = Counts<int16_t>;
+};
+template <typename Quantities> using Occurrences = typename CountsOf<Quantities>::Type;
 
 struct Common {
     uint32_t top;
     uint64_t tips;
 };
 
-Common common_tip(const Occurrences &occurrences)
+template <typename Number> Common common_tip(const Counts<Number> &occurrences)
 {
     const unsigned top = occurrences.busiest() >> 6;
     return {top, top == 0 ? 0 : occurrences.tips_with(top)};
 }
 
-void count_all(const uint64_t *sets, size_t count, Occurrences &occurrences)
+template <typename Quantities>
+void count_all(const uint64_t *sets, Quantities quantities, size_t count, Occurrences<Quantities> &occurrences)
 {
     occurrences.clear();
     for (size_t line = 0; line < count; line++) {
         for (uint64_t rest = sets[line]; rest != 0; rest &= rest - 1) {
-            occurrences.put(lowest(rest));
+            occurrences.put(lowest(rest), quantities[line]);
         }
     }
 }
@@ -78,28 +90,31 @@ struct LinesOf {
     uint64_t word[kMostTips][kWords];
 };
 
-void count_and_list(const uint64_t *sets, const Job &job, Occurrences &occurrences, LinesOf &lines_of)
+template <typename Quantities>
+void count_and_list(const uint64_t *sets, Quantities quantities, const Job &job, Occurrences<Quantities> &occurrences,
+                    LinesOf &lines_of)
 {
     occurrences.clear();
     memset(lines_of.word, 0, job.rack * sizeof lines_of.word[0]);
     for (size_t line = 0; line < job.count; line++) {
         const uint64_t bit = uint64_t{1} << line % 64;
         for (uint64_t rest = sets[line]; rest != 0; rest &= rest - 1) {
-            occurrences.put(lowest(rest));
+            occurrences.put(lowest(rest), quantities[line]);
             lines_of.word[lowest(rest)][line / 64] |= bit;
         }
     }
 }
 
 /* Quick sharing; gives the number of pairs. The occurrences are those of all lines and are used up. */
-uint32_t quick(const uint64_t *sets, const Job &job, Occurrences &occurrences, const LinesOf &lines_of,
-               uint8_t *__restrict plan)
+template <typename Quantities>
+uint32_t quick(const uint64_t *sets, Quantities quantities, const Job &job, Occurrences<Quantities> &occurrences,
+               const LinesOf &lines_of, uint8_t *__restrict plan)
 {
     const size_t words = (job.count + 63) / 64;
     uint64_t unplanned[LinesOf::kWords];
     memset(unplanned, 0xFF, sizeof unplanned);
     uint32_t pairs = 0;
-    for (size_t left = job.count; left != 0;) {
+    for (size_t left = job.total; left != 0;) {
         const unsigned busiest = occurrences.busiest();
         const unsigned tip = 63 - busiest % 64;
         pairs += pairs_on(busiest / 64);
@@ -112,7 +127,7 @@ uint32_t quick(const uint64_t *sets, const Job &job, Occurrences &occurrences, c
                 plan[line] = static_cast<uint8_t>(tip);
                 // After the last round no count is needed.
                 for (uint64_t rest = left != 0 ? sets[line] : 0; rest != 0; rest &= rest - 1) {
-                    occurrences.take(lowest(rest));
+                    occurrences.take(lowest(rest), quantities[line]);
                 }
             }
         }
@@ -131,7 +146,7 @@ struct Stretches {
     size_t rack;
     // The rack in whole steps.
     size_t width;
-    // within[a][b] is the number of lines lying within a to b.
+    // within[a][b] is four times the number of placements of the lines lying within a to b.
     alignas(16) int16_t within[kMostTips + 1][kMostTips];
     // most[a][b] is 64 times the pairs of a to b; where a is past b + 1 it is too low to be chosen.
     alignas(16) int32_t most[kMostTips + 1][kMostTips];
@@ -141,11 +156,12 @@ struct Stretches {
 
     int tip_of(int a, int b) const { return 63 - keys[a][b] % 64; }
 
-    void count(const uint64_t *sets, size_t count)
+    template <typename Quantities> void count(const uint64_t *sets, Quantities quantities, size_t count)
     {
         memset(within, 0, (rack + 1) * sizeof within[0]);
         for (size_t line = 0; line < count; line++) {
-            within[lowest(sets[line])][highest_of_run(sets[line])]++;
+            int16_t &here = within[lowest(sets[line])][highest_of_run(sets[line])];
+            here = static_cast<int16_t>(here + 4 * quantities[line]);
         }
         // First along each row, then down from row to row.
         for (size_t a = 0; a < rack; a++) {
@@ -171,23 +187,24 @@ struct Stretches {
                 row[b] = kNever;
             }
             int32_t pairs_left = 0;
-            int16_t lines_left = 0;
+            int16_t on_left = 0;
             for (size_t c = a; c < rack; c++) {
                 // A line within a to b that allows c lies neither left of c nor right of it.
                 const int32_t with_c = 64 * pairs_left + 63 - static_cast<int32_t>(c);
                 const int16_t *const all = within[a];
-                const int16_t *const lines_right = within[c + 1];
+                const int16_t *const on_right = within[c + 1];
                 const int32_t *const most_right = most[c + 1];
                 for (size_t step = c / kStep * kStep; step < width; step += kStep) {
                     for (size_t b = step; b < step + kStep; b++) {
-                        const int16_t lines = static_cast<int16_t>(all[b] - lines_left - lines_right[b]);
-                        const int16_t others = static_cast<int16_t>(32 * (lines - 1));
-                        const int32_t key = int32_t{lines} * others + with_c + most_right[b];
+                        // 4 p and 8 (p - 1), which fit 16 bits: 64 times the pairs of p placements.
+                        const int16_t placements = static_cast<int16_t>(all[b] - on_left - on_right[b]);
+                        const int16_t others = static_cast<int16_t>(2 * placements - 8);
+                        const int32_t key = int32_t{placements} * others + with_c + most_right[b];
                         row[b] = row[b] > key ? row[b] : key;
                     }
                 }
                 pairs_left = row[c] / 64;
-                lines_left = all[c];
+                on_left = all[c];
             }
             clear_below(a);
             for (size_t b = a; b < rack; b++) {
@@ -211,12 +228,13 @@ struct Stretches {
     }
 };
 
-uint32_t best(const uint64_t *sets, const Job &job, uint8_t *plan, uint32_t *table)
+uint32_t best(const Lines &lines, const Job &job, uint8_t *plan, uint32_t *table)
 {
     Stretches stretches(job.rack);
-    stretches.count(sets, job.count);
+    with_quantities(job, lines.quantities,
+                    [&](auto quantities) { stretches.count(lines.sets, quantities, job.count); });
     stretches.fill(table);
-    lay_best(sets, job.count, job.rack, [&](int a, int b) { return stretches.tip_of(a, b); }, plan);
+    lay_best(lines.sets, job.count, job.rack, [&](int a, int b) { return stretches.tip_of(a, b); }, plan);
     return table[job.rack - 1];
 }
 
@@ -235,31 +253,35 @@ uint32_t baseline_read(const uint8_t *file, size_t file_len, uint64_t *answer, s
 
 uint32_t baseline_common(const uint8_t *file, size_t file_len, uint64_t *answer, size_t answer_len)
 {
-    uint64_t sets[kMostLines];
-    const auto read = [&] { return read_sets(file, file_len, sets); };
+    Lines lines;
+    const auto read = [&] { return read_sets(file, file_len, lines); };
     return answer_with(answer, answer_len, read, [&](const Job &job) {
-        Occurrences occurrences;
-        count_all(sets, job.count, occurrences);
-        const Common common = common_tip(occurrences);
-        return answered(answer, TIPSHARE_ACCEPTED, 0, common.top, job.count - common.top, common.tips);
+        const Common common = with_quantities(job, lines.quantities, [&](auto quantities) {
+            Occurrences<decltype(quantities)> occurrences;
+            count_all(lines.sets, quantities, job.count, occurrences);
+            return common_tip(occurrences);
+        });
+        return answered(answer, TIPSHARE_ACCEPTED, 0, common.top, job.total - common.top, common.tips);
     });
 }
 
 uint32_t baseline_keep(const uint8_t *file, size_t file_len, uint16_t k, uint8_t *out, size_t out_len,
                        uint64_t *answer, size_t answer_len)
 {
-    uint64_t sets[kMostLines];
-    const auto read = [&] { return read_sets(file, file_len, sets); };
+    Lines lines;
+    const auto read = [&] { return read_sets(file, file_len, lines); };
     return answer_with(answer, answer_len, read, [&](const Job &job) {
-        Occurrences occurrences;
-        count_all(sets, job.count, occurrences);
-        const Common common = common_tip(occurrences);
-        return answer_keep(file, file_len, {k, out, out_len}, job, common.top, answer, [&](uint8_t *to) {
-            for (size_t line = 0; line < job.count; line++) {
-                const uint64_t set = sets[line];
-                const uint64_t kept = __builtin_bswap64((set & common.tips) == common.tips ? common.tips : set);
-                memcpy(to + kHead + 8 * line, &kept, sizeof kept);
-            }
+        return with_quantities(job, lines.quantities, [&](auto quantities) {
+            Occurrences<decltype(quantities)> occurrences;
+            count_all(lines.sets, quantities, job.count, occurrences);
+            const auto tips_with = [&](unsigned placements) { return occurrences.tips_with(placements); };
+            const auto strike = [&](const Kept &kept, uint8_t *to) {
+                write_lines(to, quantities, job.count, [&](size_t line) {
+                    return __builtin_bswap64(kept.of(lines.sets[line], quantities[line]));
+                });
+            };
+            const unsigned top = occurrences.busiest() >> 6;
+            return answer_keep(file, file_len, {k, out, out_len}, job, top, answer, tips_with, strike);
         });
     });
 }
@@ -267,27 +289,30 @@ uint32_t baseline_keep(const uint8_t *file, size_t file_len, uint16_t k, uint8_t
 uint32_t baseline_quick(const uint8_t *file, size_t file_len, uint8_t *plan, size_t plan_len, uint64_t *answer,
                         size_t answer_len)
 {
-    uint64_t sets[kMostLines];
-    const auto read = [&] { return read_sets(file, file_len, sets); };
+    Lines lines;
+    const auto read = [&] { return read_sets(file, file_len, lines); };
     return answer_with(answer, answer_len, read, [&](const Job &job) {
         if (plan_len < job.count) {
             return refused(answer, TIPSHARE_SHORT_PLAN);
         }
-        Occurrences occurrences;
         LinesOf lines_of;
-        count_and_list(sets, job, occurrences, lines_of);
-        return answered(answer, TIPSHARE_ACCEPTED, 0, quick(sets, job, occurrences, lines_of, plan), 0, 0);
+        const uint32_t pairs = with_quantities(job, lines.quantities, [&](auto quantities) {
+            Occurrences<decltype(quantities)> occurrences;
+            count_and_list(lines.sets, quantities, job, occurrences, lines_of);
+            return quick(lines.sets, quantities, job, occurrences, lines_of, plan);
+        });
+        return answered(answer, TIPSHARE_ACCEPTED, 0, pairs, 0, 0);
     });
 }
 
 uint32_t baseline_best(const uint8_t *file, size_t file_len, uint8_t *plan, size_t plan_len, uint32_t *table,
                        size_t table_len, uint64_t *answer, size_t answer_len)
 {
-    uint64_t sets[kMostLines];
-    const auto read = [&] { return read_sets(file, file_len, sets); };
+    Lines lines;
+    const auto read = [&] { return read_sets(file, file_len, lines); };
     return answer_with(answer, answer_len, read, [&](const Job &job) {
-        const auto pairs = [&] { return best(sets, job, plan, table); };
-        return answer_best(sets, job, plan_len, table_len, answer, pairs);
+        const auto pairs = [&] { return best(lines, job, plan, table); };
+        return answer_best(lines.sets, job, plan_len, table_len, answer, pairs);
     });
 }
 
@@ -296,26 +321,28 @@ size_t baseline_report(const uint8_t *file, size_t file_len, uint8_t *out, size_
     if (out_len < TIPSHARE_REPORT_SPACE) {
         return 0;
     }
-    uint64_t sets[kMostLines];
-    const Job job = read_sets(file, report_length(file_len), sets);
+    Lines lines;
+    const Job job = read_sets(file, report_length(file_len), lines);
     if (job.number != TIPSHARE_ACCEPTED) {
         return write_refusal(out, job.number);
     }
     uint8_t quick_plan[kMostLines];
     uint8_t best_plan[kMostLines];
     uint32_t table[TIPSHARE_MOST_PLACES];
-    Occurrences occurrences;
     LinesOf lines_of;
-    count_and_list(sets, job, occurrences, lines_of);
-    const Common common = common_tip(occurrences);
     Found found{};
-    found.off = static_cast<uint32_t>(job.count) - common.top;
-    found.common = common.tips;
-    found.quick = quick(sets, job, occurrences, lines_of, quick_plan);
+    with_quantities(job, lines.quantities, [&](auto quantities) {
+        Occurrences<decltype(quantities)> occurrences;
+        count_and_list(lines.sets, quantities, job, occurrences, lines_of);
+        const Common common = common_tip(occurrences);
+        found.off = job.total - common.top;
+        found.common = common.tips;
+        found.quick = quick(lines.sets, quantities, job, occurrences, lines_of, quick_plan);
+    });
     found.quick_plan = quick_plan;
-    found.runs = first_no_run(sets, job.count) == job.count;
+    found.runs = first_no_run(lines.sets, job.count) == job.count;
     if (found.runs) {
-        found.best = best(sets, job, best_plan, table);
+        found.best = best(lines, job, best_plan, table);
         found.best_plan = best_plan;
     }
     return write_report(out, job, found);

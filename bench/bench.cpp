@@ -10,6 +10,7 @@
 #include <vector>
 
 #include "boards.h"
+#include "job.h"
 #include "libraries.h"
 
 namespace {
@@ -83,7 +84,7 @@ uint64_t make_call(const Library &library, Call call, const File &file, Buffers 
     case Call::read: return library.read(bytes, length, lent.answer, places);
     case Call::common: return library.common(bytes, length, lent.answer, places);
     case Call::keep:
-        return library.keep(bytes, length, file.k, lent.out, TIPSHARE_LONGEST_FILE, lent.answer, places);
+        return library.keep(bytes, length, file.k, lent.out, job::kLongestFile, lent.answer, places);
     case Call::quick: return library.quick(bytes, length, lent.plan, sizeof lent.plan, lent.answer, places);
     case Call::best:
         return library.best(bytes, length, lent.plan, sizeof lent.plan, lent.table, TIPSHARE_MOST_PLACES, lent.answer,

@@ -2,6 +2,7 @@
 
 #include <algorithm>
 #include <functional>
+#include <numeric>
 #include <utility>
 
 #include "job.h"
@@ -74,24 +75,53 @@ uint64_t any_run(Random &random, size_t rack, size_t)
     return run(std::min(first, second), std::max(first, second) - std::min(first, second) + 1);
 }
 
-uint16_t least_bound(const std::vector<uint64_t> &sets)
+/* The quantities of so many lines. */
+using Quantities = std::vector<uint8_t> (*)(Random &random, size_t lines);
+
+std::vector<uint8_t> all_1(Random &, size_t lines) { return std::vector<uint8_t>(lines, 1); }
+
+/* 1 to 7 each; where they are too many placements together, some are lowered. */
+std::vector<uint8_t> from_1_to_7(Random &random, size_t lines)
 {
-    size_t top = 0;
-    for (size_t tip = 0; tip < 64; tip++) {
-        const auto has = [=](uint64_t set) { return (set >> tip & 1) == 1; };
-        top = std::max<size_t>(top, static_cast<size_t>(std::count_if(sets.begin(), sets.end(), has)));
+    std::vector<uint8_t> quantities;
+    for (size_t line = 0; line < lines; line++) {
+        quantities.push_back(static_cast<uint8_t>(random.from_to(1, 7)));
     }
-    return static_cast<uint16_t>(sets.size() - top);
+    while (std::accumulate(quantities.begin(), quantities.end(), uint32_t{0}) > job::kMostPlacements) {
+        uint8_t &any = quantities[random.from_to(0, lines - 1)];
+        any = std::max<uint8_t>(1, static_cast<uint8_t>(any - 1));
+    }
+    return quantities;
 }
 
-File file_of(const std::vector<uint64_t> &sets, size_t rack)
+uint16_t least_bound(const std::vector<uint64_t> &sets, const std::vector<uint8_t> &quantities)
 {
-    std::vector<uint8_t> bytes(TIPSHARE_LONGEST_FILE);
-    bytes.resize(job::write_file(bytes.data(), rack, sets.data(), sets.size()));
-    return {std::move(bytes), least_bound(sets)};
+    uint32_t top = 0;
+    for (size_t tip = 0; tip < 64; tip++) {
+        uint32_t placements = 0;
+        for (size_t line = 0; line < sets.size(); line++) {
+            placements += (sets[line] >> tip & 1) == 1 ? quantities[line] : 0;
+        }
+        top = std::max(top, placements);
+    }
+    return static_cast<uint16_t>(std::accumulate(quantities.begin(), quantities.end(), uint32_t{0}) - top);
 }
 
-Boards boards_of(std::string name, std::string description, size_t lines, size_t rack, const Line &line_of)
+/* A file of version 2 where there are quantities, which are then all 1 or not, else of version 1. */
+File file_of(const std::vector<uint64_t> &sets, size_t rack, Quantities quantities_of, Random &random)
+{
+    std::vector<uint8_t> bytes(job::kLongestFile);
+    const std::vector<uint8_t> quantities = (quantities_of ? quantities_of : all_1)(random, sets.size());
+    if (quantities_of) {
+        bytes.resize(job::write_file(bytes.data(), rack, sets.data(), quantities.data(), sets.size()));
+    } else {
+        bytes.resize(job::write_file(bytes.data(), rack, sets.data(), job::Single{}, sets.size()));
+    }
+    return {std::move(bytes), least_bound(sets, quantities)};
+}
+
+Boards boards_of(std::string name, std::string description, size_t lines, size_t rack, const Line &line_of,
+                 Quantities quantities_of = nullptr)
 {
     Boards boards{std::move(name), std::move(description), lines, rack, true, {}};
     for (size_t file = 0; file < kFilesEach; file++) {
@@ -104,7 +134,7 @@ Boards boards_of(std::string name, std::string description, size_t lines, size_t
             std::swap(sets[line - 1], sets[random.from_to(0, line - 1)]);
         }
         boards.runs = boards.runs && job::first_no_run(sets.data(), lines) == lines;
-        boards.files.push_back(file_of(sets, rack));
+        boards.files.push_back(file_of(sets, rack, quantities_of, random));
     }
     return boards;
 }
@@ -128,6 +158,14 @@ std::vector<Boards> main_boards()
         boards_of("small", "each tip with an even chance", 20, 8, many_tips),
         boards_of("small-runs", "runs of 1 to 4 tips", 20, 8, run_of(1, 4)),
         boards_of("no-lines", "what a call costs without any line", 0, 64, any_run),
+        boards_of("few-counted", "few-tips with quantities 1 to 7, together 2,048 at most", 512, 64, few_tips,
+                  from_1_to_7),
+        boards_of("many-counted", "many-tips with quantities 1 to 7, together 2,048 at most", 512, 64, many_tips,
+                  from_1_to_7),
+        boards_of("runs-counted", "any-runs with quantities 1 to 7, together 2,048 at most", 512, 64, any_run,
+                  from_1_to_7),
+        boards_of("small-counted", "small-runs with quantities 1 to 7", 20, 8, run_of(1, 4), from_1_to_7),
+        boards_of("runs-of-1", "any-runs in a file of version 2, every quantity 1", 512, 64, any_run, all_1),
     };
 }
 

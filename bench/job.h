@@ -1,6 +1,6 @@
 /*
- * What the hand-written implementations share: a job file read and written, answering, and the text of a report.
- * The rules are those of include/tipshare.h.
+ * What the hand-written implementations share: a job file of either version read and written, answering, and the text
+ * of a report. The rules are those of include/tipshare.h.
  */
 #pragma once
 
@@ -8,14 +8,22 @@
 #include <cstddef>
 #include <cstdint>
 #include <cstring>
+#include <type_traits>
 
 #include "tipshare.h"
 
 namespace job {
 
 constexpr size_t kHead = 8;
+constexpr size_t kSet = 8;
 constexpr size_t kMostTips = TIPSHARE_MOST_TIPS;
 constexpr size_t kMostLines = TIPSHARE_MOST_LINES;
+constexpr uint32_t kMostPlacements = 2048;
+constexpr int64_t kMostQuantity = 255;
+constexpr size_t kLongestFile = kHead + (kSet + 1) * kMostLines;
+
+constexpr uint32_t kZeroQuantity = 15;
+constexpr uint32_t kTooManyPlacements = 30;
 
 /* A job file that was accepted, or the number and the line of its refusal. */
 struct Job {
@@ -23,14 +31,28 @@ struct Job {
     uint32_t line;
     size_t rack;
     size_t count;
+    /* The bytes of a line: its set, and in version 2 its quantity. */
+    size_t step;
+    /* The placements of all lines. */
+    uint32_t total;
+
+    /* Whether every quantity is 1. */
+    bool single() const { return total == count; }
 };
 
-inline uint64_t raw_set(const uint8_t *file, size_t line)
+inline Job not_read(uint32_t number, uint32_t line = 0) { return {number, line, 0, 0, 0, 0}; }
+
+/* The length of a file with so many lines of so many bytes. */
+constexpr size_t length_of(size_t count, size_t step) { return kHead + step * count; }
+
+inline uint64_t raw_at(const uint8_t *at)
 {
     uint64_t raw;
-    memcpy(&raw, file + kHead + 8 * line, sizeof raw);
+    memcpy(&raw, at, sizeof raw);
     return raw;
 }
+
+inline void put_raw(uint8_t *at, uint64_t raw) { memcpy(at, &raw, sizeof raw); }
 
 inline unsigned lowest(uint64_t set) { return static_cast<unsigned>(__builtin_ctzll(set)); }
 
@@ -40,108 +62,186 @@ inline unsigned highest_of_run(uint64_t set) { return lowest(set) + lowest(~(set
 /* The tips that a rack of this size has not. */
 inline uint64_t outside(size_t rack) { return rack == 64 ? 0 : ~uint64_t{0} << rack; }
 
-inline uint32_t pairs_on(uint32_t lines) { return lines * (lines - 1) / 2; }
+inline uint32_t pairs_on(uint32_t placements) { return placements * (placements - 1) / 2; }
 
 /* Checks the length and the first 8 bytes. */
 inline Job read_head(const uint8_t *file, size_t length)
 {
     if (length < kHead) {
-        return {TIPSHARE_SHORT_FILE, 0, 0, 0};
+        return not_read(TIPSHARE_SHORT_FILE);
     }
     if (memcmp(file, "TIP", 3) != 0) {
-        return {TIPSHARE_WRONG_MARK, 0, 0, 0};
+        return not_read(TIPSHARE_WRONG_MARK);
     }
-    if (file[3] != 0 || file[4] != 1) {
-        return {TIPSHARE_WRONG_VERSION, 0, 0, 0};
+    const unsigned version = file[4];
+    if (file[3] != 0 || version - 1 >= 2) {
+        return not_read(TIPSHARE_WRONG_VERSION);
     }
     const size_t rack = file[5];
     if (rack - 1 >= kMostTips) {
-        return {TIPSHARE_RACK_SIZE, 0, 0, 0};
+        return not_read(TIPSHARE_RACK_SIZE);
     }
     const size_t count = size_t{file[6]} << 8 | file[7];
     if (count > kMostLines) {
-        return {TIPSHARE_FILE_LINES, 0, 0, 0};
+        return not_read(TIPSHARE_FILE_LINES);
     }
-    if (length != kHead + 8 * count) {
-        return {TIPSHARE_FILE_LENGTH, 0, 0, 0};
+    const size_t step = kSet + version - 1;
+    if (length != length_of(count, step)) {
+        return not_read(TIPSHARE_FILE_LENGTH);
     }
-    return {TIPSHARE_ACCEPTED, 0, rack, count};
+    return {TIPSHARE_ACCEPTED, 0, rack, count, step, static_cast<uint32_t>(count)};
 }
 
-/* The refusal of a file that is known to have a bad line. */
+inline uint32_t quantity_at(const uint8_t *at, const Job &job) { return job.step == kSet ? 1 : at[kSet]; }
+
+/* The refusal of a file that is known to have a bad line or too many placements. */
 [[gnu::noinline, gnu::cold]] inline Job first_bad_line(const uint8_t *file, const Job &job)
 {
     const uint64_t bad = outside(job.rack);
-    for (uint32_t line = 0;; line++) {
-        const uint64_t set = __builtin_bswap64(raw_set(file, line));
+    const uint8_t *at = file + kHead;
+    for (uint32_t line = 0; line < job.count; line++, at += job.step) {
+        const uint64_t set = __builtin_bswap64(raw_at(at));
         if (set == 0) {
-            return {TIPSHARE_EMPTY_LINE, line, 0, 0};
+            return not_read(TIPSHARE_EMPTY_LINE, line);
         }
         if (set & bad) {
-            return {TIPSHARE_TIP_OUTSIDE, line, 0, 0};
+            return not_read(TIPSHARE_TIP_OUTSIDE, line);
+        }
+        if (quantity_at(at, job) == 0) {
+            return not_read(kZeroQuantity, line);
         }
     }
+    uint32_t line = 0;
+    at = file + kHead;
+    for (uint32_t total = at[kSet]; total <= kMostPlacements; total += at[kSet]) {
+        line++;
+        at += job.step;
+    }
+    return not_read(kTooManyPlacements, line);
 }
 
-/* Reads the file and hands each set, as its bytes stand, to take. */
+/* Reads the file and hands each set, as its bytes stand, to take; in version 2 with its quantity. */
 template <typename Take>
 [[gnu::always_inline]] inline Job read_lines(const uint8_t *file, size_t length, const Take &take)
 {
-    const Job job = read_head(file, length);
+    Job job = read_head(file, length);
     if (job.number != TIPSHARE_ACCEPTED) {
         return job;
     }
     uint64_t joined = 0;
     unsigned empty = 0;
+    const uint8_t *const lines = file + kHead;
+    if (job.step == kSet) {
 #pragma GCC unroll 4
-    for (size_t line = 0; line < job.count; line++) {
-        const uint64_t raw = raw_set(file, line);
-        take(line, raw);
-        joined |= raw;
-        empty += raw < 1;
+        for (size_t line = 0; line < job.count; line++) {
+            const uint64_t raw = raw_at(lines + kSet * line);
+            take(line, raw);
+            joined |= raw;
+            empty += raw < 1;
+        }
+    } else {
+        job.total = 0;
+#pragma GCC unroll 4
+        for (size_t line = 0; line < job.count; line++) {
+            const uint8_t *const at = lines + (kSet + 1) * line;
+            const uint64_t raw = raw_at(at);
+            const uint8_t quantity = at[kSet];
+            take(line, raw, quantity);
+            joined |= raw;
+            empty += (raw < 1) + (quantity < 1);
+            job.total += quantity;
+        }
     }
-    if ((__builtin_bswap64(joined) & outside(job.rack)) != 0 || empty != 0) {
+    if ((__builtin_bswap64(joined) & outside(job.rack)) != 0 || empty != 0 || job.total > kMostPlacements) {
         return first_bad_line(file, job);
     }
     return job;
 }
 
-/* Reads the file and lays the set of each line in sets. */
-inline Job read_sets(const uint8_t *file, size_t length, uint64_t *__restrict sets)
+/* The lines of a job; where every quantity is 1 the quantities may be missing. */
+struct Lines {
+    uint64_t sets[kMostLines];
+    uint8_t quantities[kMostLines];
+};
+
+struct LaySets {
+    uint64_t *__restrict sets;
+    uint8_t *__restrict quantities;
+
+    void operator()(size_t line, uint64_t raw) const { sets[line] = __builtin_bswap64(raw); }
+
+    void operator()(size_t line, uint64_t raw, uint8_t quantity) const
+    {
+        (*this)(line, raw);
+        quantities[line] = quantity;
+    }
+};
+
+/* Reads the file and lays its lines; the quantities of version 1 are left out. */
+inline Job read_sets(const uint8_t *file, size_t length, Lines &lines)
 {
-    return read_lines(file, length, [=](size_t line, uint64_t raw) { sets[line] = __builtin_bswap64(raw); });
+    return read_lines(file, length, LaySets{lines.sets, lines.quantities});
 }
 
-/* Reads the file and keeps no set. */
+/* Reads the file and keeps no line. */
 inline Job read_only(const uint8_t *file, size_t length)
 {
-    return read_lines(file, length, [](size_t, uint64_t) {});
+    return read_lines(file, length, [](auto...) {});
 }
 
-/* Writes the job file of these sets, which takes kHead + 8 * count bytes, and gives its length. */
-inline size_t write_file(uint8_t *out, size_t rack, const uint64_t *sets, size_t count)
+/* Quantities that are all 1. */
+struct Single {
+    constexpr uint8_t operator[](size_t) const { return 1; }
+};
+
+/* Does the work with the quantities of a job; those that are all 1 need not be looked at. */
+template <typename Work>
+[[gnu::always_inline]] inline auto with_quantities(const Job &job, const uint8_t *quantities, const Work &work)
 {
+    return job.single() ? work(Single{}) : work(quantities);
+}
+
+/* Writes lines of these sets, as their bytes are to stand, and gives what follows; of quantities that are all 1 nothing. */
+template <typename RawOf>
+[[gnu::always_inline]] inline uint8_t *write_lines(uint8_t *to, Single, size_t count, const RawOf &raw_of)
+{
+    for (size_t line = 0; line < count; line++) {
+        put_raw(to + kSet * line, raw_of(line));
+    }
+    return to + kSet * count;
+}
+
+template <typename RawOf>
+[[gnu::always_inline]] inline uint8_t *write_lines(uint8_t *to, const uint8_t *quantities, size_t count,
+                                                   const RawOf &raw_of)
+{
+    for (size_t line = 0; line < count; line++) {
+        put_raw(to + (kSet + 1) * line, raw_of(line));
+        to[(kSet + 1) * line + kSet] = quantities[line];
+    }
+    return to + (kSet + 1) * count;
+}
+
+/* Writes the job file of these lines, of version 1 for Single and else of version 2, and gives its length. */
+template <typename Quantities>
+size_t write_file(uint8_t *out, size_t rack, const uint64_t *sets, Quantities quantities, size_t count)
+{
+    const uint8_t version = std::is_same<Quantities, Single>::value ? 1 : 2;
     const uint8_t head[kHead] = {'T',
                                  'I',
                                  'P',
                                  0,
-                                 1,
+                                 version,
                                  static_cast<uint8_t>(rack),
                                  static_cast<uint8_t>(count >> 8),
                                  static_cast<uint8_t>(count)};
     memcpy(out, head, sizeof head);
-    for (size_t line = 0; line < count; line++) {
-        const uint64_t raw = __builtin_bswap64(sets[line]);
-        memcpy(out + kHead + 8 * line, &raw, sizeof raw);
-    }
-    return kHead + 8 * count;
+    const auto raw_of = [=](size_t line) { return __builtin_bswap64(sets[line]); };
+    return static_cast<size_t>(write_lines(out + kHead, quantities, count, raw_of) - out);
 }
 
 /* The bytes of a file that a report takes: one more than the longest good file has. */
-inline size_t report_length(size_t length)
-{
-    return length < TIPSHARE_LONGEST_FILE + 1 ? length : TIPSHARE_LONGEST_FILE + 1;
-}
+inline size_t report_length(size_t length) { return length < kLongestFile + 1 ? length : kLongestFile + 1; }
 
 inline uint32_t answered(uint64_t *answer, uint32_t number, uint64_t first, uint64_t second, uint64_t third,
                          uint64_t fourth)
@@ -180,26 +280,45 @@ struct Keep {
     size_t out_len;
 };
 
-/* Answers keep on a good file, where one tip takes top lines; strike writes the sets at margin 0. */
-template <typename Strike>
+/* Of a line that has all of these tips and more placements than the margin, only they stay. */
+struct Kept {
+    uint64_t tips;
+    int64_t margin;
+
+    uint64_t of(uint64_t set, uint8_t quantity) const
+    {
+        return margin < quantity && (set & tips) == tips ? tips : set;
+    }
+};
+
+/*
+ * Answers keep on a good file, where one tip takes top placements. tips_with(number) gives the tips that can take so
+ * many, and strike(kept, to) writes the lines: with quantities where one of them is not 1.
+ */
+template <typename TipsWith, typename Strike>
 [[gnu::always_inline]] inline uint32_t answer_keep(const uint8_t *file, size_t file_len, const Keep &keep,
                                                    const Job &job, unsigned top, uint64_t *answer,
-                                                   const Strike &strike)
+                                                   const TipsWith &tips_with, const Strike &strike)
 {
-    const int64_t margin = int64_t{top} - static_cast<int64_t>(job.count) + keep.k;
+    const int64_t needed = int64_t{job.total} - keep.k;
+    const int64_t margin = int64_t{top} - needed;
     if (margin < 0) {
         return answered(answer, TIPSHARE_NO_PLAN, 0, static_cast<uint64_t>(margin), 0, 0);
     }
-    if (keep.out_len < file_len) {
+    const size_t written = length_of(job.count, job.single() ? kSet : kSet + 1);
+    if (keep.out_len < written) {
         return refused(answer, TIPSHARE_SHORT_OUTPUT);
     }
-    if (margin > 0) {
+    // No line has more placements than a margin of this size.
+    const bool same = margin >= (job.single() ? 1 : kMostQuantity);
+    if (same && written == file_len) {
         memcpy(keep.out, file, file_len);
     } else {
         memcpy(keep.out, file, kHead);
-        strike(keep.out);
+        strike(Kept{tips_with(needed > 1 ? static_cast<unsigned>(needed) : 1), margin}, keep.out + kHead);
     }
-    return answered(answer, TIPSHARE_ACCEPTED, 0, static_cast<uint64_t>(margin), file_len, 0);
+    keep.out[4] = job.single() ? 1 : 2;
+    return answered(answer, TIPSHARE_ACCEPTED, 0, static_cast<uint64_t>(margin), written, 0);
 }
 
 /* The line that is no run, or count. Adding its lowest tip carries a run past its highest and leaves no tip behind. */

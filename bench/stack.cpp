@@ -1,6 +1,6 @@
 /*
  * The stack that each call needs: the stack below is painted, the call is made, and the deepest byte that changed is
- * looked for. The worst over seeded boards with runs and with any sets.
+ * looked for. The worst over seeded boards with runs and with any sets, with quantities and without.
  */
 #include <cstdint>
 #include <cstdio>
@@ -10,11 +10,11 @@
 
 enum { DEEP = 131072, BOARDS = 4000, PAINT = 0xA5 };
 
-static uint8_t file[TIPSHARE_LONGEST_FILE];
+static uint8_t file[job::kLongestFile];
 static size_t length;
 static uint64_t answer[TIPSHARE_ANSWER_PLACES];
 static uint8_t plan[TIPSHARE_MOST_LINES];
-static uint8_t out[TIPSHARE_LONGEST_FILE];
+static uint8_t out[job::kLongestFile];
 static uint32_t table[TIPSHARE_MOST_PLACES];
 static uint8_t text[TIPSHARE_REPORT_SPACE];
 
@@ -80,12 +80,16 @@ static void make_file(int board)
     const int tips = 1 + rand() % 64;
     const int lines = board % 3 == 0 ? TIPSHARE_MOST_LINES : rand() % (TIPSHARE_MOST_LINES + 1);
     uint64_t sets[TIPSHARE_MOST_LINES];
+    uint8_t quantities[TIPSHARE_MOST_LINES];
     for (int line = 0; line < lines; line++) {
+        // Every line can have 4 at most.
+        quantities[line] = (uint8_t)(1 + rand() % 4);
         const int low = board % 5 == 0 ? line % tips : rand() % tips;
         const int high = board % 5 == 0 ? low : low + rand() % (tips - low);
         sets[line] = board % 2 == 0 ? any_set(tips) : run_between(low, high);
     }
-    length = job::write_file(file, (size_t)tips, sets, (size_t)lines);
+    length = board % 4 < 2 ? job::write_file(file, (size_t)tips, sets, job::Single{}, (size_t)lines)
+                           : job::write_file(file, (size_t)tips, sets, (const uint8_t *)quantities, (size_t)lines);
 }
 
 int main()

@@ -3,7 +3,9 @@
  *
  * Occurrences are counted for 64 tips at once: bit t of plane i is bit i of the count of tip t. Quick sharing finds
  * the lines of a tip in the transposed board. Best sharing goes by the length of the stretch, four stretches at once.
- * Sets are used as they stand in the file: the bit of tip t there is bit t ^ 56 of a 64-bit number.
+ * Sets are used as they stand in the file: the bit of tip t there is bit t ^ 56 of a 64-bit number. Those of version 2
+ * are first packed without the quantities between them. A board whose quantities are all 1 has code of its own wherever
+ * a quantity counts.
  */
 #include "libraries.h"
 
@@ -34,42 +36,113 @@ template <typename Word> inline Word add(Word &low, Word second, Word third)
     return carry;
 }
 
-/* How many of some sets have each tip. */
+/* The lines of a file as they stand there; in version 1 without quantities. */
+struct Raw {
+    // Of version 1 a part of the file.
+    const uint8_t *sets;
+    alignas(16) uint8_t packed[kSet * kMostLines];
+    // After the last line 0 up to a whole block.
+    alignas(16) uint8_t quantities[kMostLines];
+
+    uint64_t set(size_t line) const { return raw_at(sets + kSet * line); }
+};
+
+/* How many placements of some lines have each tip. */
 struct Planes {
-    // 10 planes count to 512.
-    static constexpr size_t kPlanes = 10;
+    // 10 planes count to 512 and 12 to 2,048.
+    static constexpr size_t kPlanes = 12;
+    static constexpr size_t kPlanesOfSingle = 10;
     static constexpr size_t kBlock = 16;
     uint64_t plane[kPlanes];
     // The planes from here on are 0.
     size_t used;
 
-    /* Counts this many sets; after them zeros must follow up to a whole block. */
-    void count(const uint64_t *sets, size_t number)
+    /* The planes that a number needs; a block has 4 at least. */
+    static size_t planes_for(size_t number)
     {
-        // The planes that the number needs; a block has 4 at least.
-        used = number < kBlock / 2 ? 4 : 64 - static_cast<size_t>(__builtin_clzll(number));
-        Two sum[kPlanes] = {};
+        return number < kBlock / 2 ? 4 : 64 - static_cast<size_t>(__builtin_clzll(number));
+    }
+
+    /* Counts this many sets, one placement each; after them zeros must follow up to a whole block. */
+    void count(const uint64_t *sets, Single, size_t number, size_t placements)
+    {
+        used = planes_for(placements);
+        Two sum[kPlanesOfSingle] = {};
         for (size_t done = 0; done < number; done += kBlock) {
             add_block(sum, used, reinterpret_cast<const uint8_t *>(sets + done));
         }
         join(sum);
     }
 
-    /* Counts the sets of a file. */
-    void count_file(const uint8_t *file, size_t lines)
+    /* The same with quantities, after which zeros must follow; the sets after the number are not counted. */
+    void count(const uint64_t *sets, const uint8_t *quantities, size_t number, size_t placements)
     {
-        used = kPlanes;
-        Two sum[kPlanes] = {};
+        count_quantities(reinterpret_cast<const uint8_t *>(sets), quantities, number, placements);
+    }
+
+    /* Counts the lines of a file. */
+    void count_file(const Raw &raw, const Job &job)
+    {
+        if (job.single()) {
+            count_single(raw.sets, job.count);
+        } else {
+            count_quantities(raw.sets, raw.quantities, job.count, kMostPlacements);
+        }
+    }
+
+    void count_single(const uint8_t *sets, size_t lines)
+    {
+        used = kPlanesOfSingle;
+        Two sum[kPlanesOfSingle] = {};
         const size_t whole = lines / kBlock * kBlock;
         for (size_t done = 0; done < whole; done += kBlock) {
-            add_block(sum, kPlanes, file + kHead + 8 * done);
+            add_block(sum, kPlanesOfSingle, sets + kSet * done);
         }
         if (whole < lines) {
-            uint8_t rest[8 * kBlock] = {};
-            memcpy(rest, file + kHead + 8 * whole, 8 * (lines - whole));
-            add_block(sum, kPlanes, rest);
+            uint8_t rest[kSet * kBlock] = {};
+            memcpy(rest, sets + kSet * whole, kSet * (lines - whole));
+            add_block(sum, kPlanesOfSingle, rest);
         }
         join(sum);
+    }
+
+    /* Of each block, for each bit of the quantities, the sets of the lines that have it are added from its plane on. */
+    void count_quantities(const uint8_t *sets, const uint8_t *quantities, size_t lines, size_t placements)
+    {
+        used = planes_for(placements);
+        Two sum[kPlanes] = {};
+        const __m128i zero = _mm_setzero_si128();
+        for (size_t done = 0; done < lines; done += kBlock) {
+            const __m128i here = _mm_loadu_si128(reinterpret_cast<const __m128i *>(quantities + done));
+            __m128i bits = here;
+            for (size_t bit = 8; bit-- > 0;) {
+                // The bit is the sign of its byte.
+                const __m128i have = _mm_cmpgt_epi8(zero, bits);
+                bits = _mm_add_epi8(bits, bits);
+                if (_mm_movemask_epi8(have) != 0) {
+                    Two with_bit[kBlock / 2];
+                    choose(sets + kSet * done, have, with_bit);
+                    add_block(sum + bit, used - bit, reinterpret_cast<const uint8_t *>(with_bit));
+                }
+            }
+        }
+        join(sum);
+    }
+
+    /* The sets of a block whose byte is all ones, and no tip for the others. */
+    static void choose(const uint8_t *sets, __m128i bytes, Two *chosen)
+    {
+        for (size_t half = 0; half < 2; half++) {
+            const __m128i words = half == 0 ? _mm_unpacklo_epi8(bytes, bytes) : _mm_unpackhi_epi8(bytes, bytes);
+            for (size_t quarter = 0; quarter < 2; quarter++) {
+                const __m128i wide = quarter == 0 ? _mm_unpacklo_epi16(words, words) : _mm_unpackhi_epi16(words, words);
+                const size_t first = 4 * half + 2 * quarter;
+                const Two low = reinterpret_cast<Two>(_mm_unpacklo_epi32(wide, wide));
+                const Two high = reinterpret_cast<Two>(_mm_unpackhi_epi32(wide, wide));
+                chosen[first] = two_at(sets + 16 * first) & low;
+                chosen[first + 1] = two_at(sets + 16 * first + 16) & high;
+            }
+        }
     }
 
     [[gnu::always_inline]] static void add_block(Two *sum, size_t planes, const uint8_t *sets)
@@ -120,15 +193,69 @@ struct Planes {
         }
         return most;
     }
+
+    /* The tips whose count is at least this, which is above 0, as they stand in a file. */
+    uint64_t with_at_least(unsigned placements) const
+    {
+        // Whether the bits seen so far are above those of the number, or the same.
+        uint64_t above = 0;
+        uint64_t same = ~uint64_t{0};
+        for (size_t i = used; i-- > 0;) {
+            const uint64_t wanted = (placements >> i & 1) != 0 ? ~uint64_t{0} : 0;
+            above |= same & plane[i] & ~wanted;
+            same &= ~(plane[i] ^ wanted);
+        }
+        return above | same;
+    }
 };
 
-/* Checks a file; two lines at once. */
+struct Pack {
+    uint8_t *__restrict packed;
+    uint8_t *__restrict quantities;
+
+    void operator()(size_t, uint64_t) const {}
+
+    void operator()(size_t line, uint64_t raw, uint8_t quantity) const
+    {
+        put_raw(packed + kSet * line, raw);
+        quantities[line] = quantity;
+    }
+};
+
+Job check_single(const uint8_t *file, const Job &job);
+
+/* Checks a file and finds its lines. */
+Job read_raw(const uint8_t *file, size_t length, Raw &raw)
+{
+    const Job head = read_head(file, length);
+    if (head.number != TIPSHARE_ACCEPTED) {
+        return head;
+    }
+    if (head.step == kSet) {
+        raw.sets = file + kHead;
+        return check_single(file, head);
+    }
+    raw.sets = raw.packed;
+    const size_t whole = head.count / Planes::kBlock * Planes::kBlock;
+    if (whole < head.count) {
+        memset(raw.quantities + whole, 0, Planes::kBlock);
+    }
+    return read_lines(file, length, Pack{raw.packed, raw.quantities});
+}
+
+/* Checks a file and keeps no line. */
 Job check(const uint8_t *file, size_t length)
 {
-    const Job job = read_head(file, length);
-    if (job.number != TIPSHARE_ACCEPTED) {
-        return job;
+    const Job head = read_head(file, length);
+    if (head.number != TIPSHARE_ACCEPTED) {
+        return head;
     }
+    return head.step == kSet ? check_single(file, head) : read_only(file, length);
+}
+
+/* Checks the lines of a file of version 1; two lines at once. */
+Job check_single(const uint8_t *file, const Job &job)
+{
     const __m128i zero = _mm_setzero_si128();
     __m128i joined = zero;
     __m128i empty = zero;
@@ -146,7 +273,7 @@ Job check(const uint8_t *file, size_t length)
     uint64_t all = static_cast<uint64_t>(_mm_cvtsi128_si64(_mm_or_si128(joined, _mm_unpackhi_epi64(joined, joined))));
     bool bad = _mm_movemask_epi8(empty) != 0;
     for (; line < job.count; line++) {
-        const uint64_t raw = raw_set(file, line);
+        const uint64_t raw = raw_at(file + kHead + kSet * line);
         all |= raw;
         bad |= raw == 0;
     }
@@ -186,10 +313,10 @@ struct LinesOf {
         }
     }
 
-    void fill(const uint8_t *file, size_t lines)
+    void fill(const uint8_t *all, size_t lines)
     {
         for (size_t pair = 0; 128 * pair < lines; pair++) {
-            const uint8_t *sets = file + kHead + 8 * 128 * pair;
+            const uint8_t *sets = all + 8 * 128 * pair;
             const size_t here = lines - 128 * pair;
             uint8_t padded[8 * 128];
             if (here < 128) {
@@ -226,74 +353,98 @@ struct LinesOf {
     uint64_t word(unsigned tip, size_t word) const { return rows[word / 2][tip ^ 56][word % 2]; }
 };
 
-/* Writes each line, and only these tips of a line that has all of them; two lines at once. */
-void strike(const uint8_t *__restrict file, size_t count, uint64_t tips, uint8_t *__restrict out)
+/* Writes each set, and only these tips of one that has all of them; two lines at once. */
+void strike(const uint8_t *__restrict from, size_t count, uint64_t tips, uint8_t *__restrict to)
 {
     const __m128i all = _mm_set1_epi64x(static_cast<long long>(tips));
     size_t line = 0;
     for (; line + 2 <= count; line += 2) {
-        const size_t at = kHead + 8 * line;
-        const __m128i sets = _mm_loadu_si128(reinterpret_cast<const __m128i *>(file + at));
+        const __m128i sets = _mm_loadu_si128(reinterpret_cast<const __m128i *>(from + kSet * line));
         const __m128i halves = _mm_cmpeq_epi32(_mm_and_si128(sets, all), all);
         const __m128i has_all = _mm_and_si128(halves, _mm_shuffle_epi32(halves, 0xB1));
         // A line that has them all keeps what it shares with them, any other line everything.
         const __m128i kept = _mm_andnot_si128(_mm_andnot_si128(all, has_all), sets);
-        _mm_storeu_si128(reinterpret_cast<__m128i *>(out + at), kept);
+        _mm_storeu_si128(reinterpret_cast<__m128i *>(to + kSet * line), kept);
     }
     if (line < count) {
-        const uint64_t set = raw_set(file, line);
-        const uint64_t kept = (set & tips) == tips ? tips : set;
-        memcpy(out + kHead + 8 * line, &kept, sizeof kept);
+        const uint64_t set = raw_at(from + kSet * line);
+        put_raw(to + kSet * line, (set & tips) == tips ? tips : set);
     }
 }
 
 /* The lines of a tip among at most 64. */
-uint64_t lines_by_looking(const uint8_t *file, size_t count, unsigned tip)
+uint64_t lines_by_looking(const Raw &raw, size_t count, unsigned tip)
 {
     uint64_t lines = 0;
     for (size_t line = 0; line < count; line++) {
-        lines |= (raw_set(file, line) >> (tip ^ 56) & 1) << line;
+        lines |= (raw.set(line) >> (tip ^ 56) & 1) << line;
     }
     return lines;
 }
 
+/* The lines planned in a round, with room for the zeros behind them. */
+struct Taken {
+    alignas(16) uint64_t sets[kMostLines + Planes::kBlock];
+    uint8_t of[kMostLines + Planes::kBlock];
+    size_t number;
+
+    void put(uint64_t set, Single, size_t) { sets[number++] = set; }
+
+    void put(uint64_t set, const uint8_t *quantities, size_t line)
+    {
+        of[number] = quantities[line];
+        sets[number++] = set;
+    }
+
+    Single end(Single)
+    {
+        memset(sets + number, 0, kSet * Planes::kBlock);
+        return {};
+    }
+
+    const uint8_t *end(const uint8_t *)
+    {
+        memset(of + number, 0, Planes::kBlock);
+        return of;
+    }
+};
+
 /* Quick sharing; gives the number of pairs. The planes are those of all lines and are used up. */
-uint32_t quick(const uint8_t *file, const Job &job, Planes &planes, uint8_t *__restrict plan)
+template <typename Quantities>
+uint32_t quick(const Raw &raw, Quantities quantities, const Job &job, Planes &planes, uint8_t *__restrict plan)
 {
     // Fewer lines than this are looked through in each round.
     constexpr size_t kManyLines = 48;
     LinesOf lines_of;
     if (job.count >= kManyLines) {
-        lines_of.fill(file, job.count);
+        lines_of.fill(raw.sets, job.count);
     }
     const size_t words = (job.count + 63) / 64;
     uint64_t unplanned[kMostLines / 64];
     memset(unplanned, 0xFF, sizeof unplanned);
-    // The sets planned in a round, with room for the zeros behind them.
-    alignas(16) uint64_t taken[kMostLines + Planes::kBlock];
+    Taken taken;
     uint32_t pairs = 0;
-    for (size_t left = job.count; left != 0;) {
+    for (size_t left = job.total; left != 0;) {
         uint64_t tips;
         const unsigned most = planes.largest(tips);
         const unsigned tip = lowest(__builtin_bswap64(tips));
         pairs += pairs_on(most);
         left -= most;
-        size_t number = 0;
+        taken.number = 0;
         for (size_t word = 0; word < words; word++) {
             const bool many = job.count >= kManyLines;
-            uint64_t lines = many ? lines_of.word(tip, word) : lines_by_looking(file, job.count, tip);
+            uint64_t lines = many ? lines_of.word(tip, word) : lines_by_looking(raw, job.count, tip);
             lines &= unplanned[word];
             unplanned[word] ^= lines;
             for (; lines != 0; lines &= lines - 1) {
                 const size_t line = 64 * word + lowest(lines);
                 plan[line] = static_cast<uint8_t>(tip);
-                taken[number++] = raw_set(file, line);
+                taken.put(raw.set(line), quantities, line);
             }
         }
         if (left != 0) {
-            memset(taken + number, 0, 8 * Planes::kBlock);
             Planes gone;
-            gone.count(taken, number);
+            gone.count(taken.sets, taken.end(quantities), taken.number, most);
             // No count of a later round is above that of this one.
             planes.used = gone.used;
             planes.take(gone);
@@ -305,27 +456,38 @@ uint32_t quick(const uint8_t *file, const Job &job, Planes &planes, uint8_t *__r
 /*
  * The table of best sharing by length of the stretch and its first tip. A stretch of some length has left of its tip a
  * stretch of d tips and right of it one of length - 1 - d, and of the lines within it those that are in neither allow
- * the tip. All numbers stay below 2^24, where a float is exact, and the largest of two floats is one instruction.
- *
- * A stretch and its tip are one number, 128 * pairs + 63 - d, so that the largest is the lowest tip with the most
- * pairs. With lines held eight times, (8 p - 4)^2 is 128 * p (p - 1) / 2 + 16.
+ * the tip. Pairs are held eight times and placements two times, for (2 p - 1)^2 is 8 * p (p - 1) / 2 + 1. All numbers
+ * stay below 2^24, where a float is exact, and the largest of two floats is one instruction. The tip of a stretch is
+ * looked for only where the plan needs it.
  */
 struct Stretches {
     static constexpr size_t kStarts = 72;
     typedef float Row[kStarts];
 
     size_t rack;
-    // For each length: 8 * lines within; 128 * pairs; the same with what it adds as the left stretch; the whole number.
+    // For each length: 2 * placements within; 8 * pairs; the same less 1, what it adds as the left stretch.
     alignas(16) Row within[kMostTips + 1];
     alignas(16) Row right[kMostTips + 1];
     alignas(16) Row left[kMostTips + 1];
-    alignas(16) Row keys[kMostTips + 1];
 
     explicit Stretches(size_t rack) : rack(rack) {}
 
-    int tip_of(int a, int b) const { return a + 63 - static_cast<int>(keys[b - a + 1][a]) % 128; }
+    /* The lowest tip with the most pairs. */
+    int tip_of(int a, int b) const
+    {
+        const int length = b - a + 1;
+        const float most = right[length][a];
+        int d = 0;
+        for (;; d++) {
+            const float *const right_of_tip = within[length - 1 - d] + a + d + 1;
+            const float in_neither = within[length][a] - 1 - within[d][a] - *right_of_tip;
+            if (in_neither * in_neither + left[d][a] + right[length - 1 - d][a + d + 1] == most) {
+                return a + d;
+            }
+        }
+    }
 
-    void count(const uint64_t *sets, size_t count)
+    template <typename Quantities> void count(const uint64_t *sets, Quantities quantities, size_t count)
     {
         // Four stretches at a time reach past the last one.
         for (size_t length = 0; length <= rack; length++) {
@@ -335,19 +497,18 @@ struct Stretches {
         }
         for (size_t line = 0; line < count; line++) {
             const unsigned first = lowest(sets[line]);
-            within[highest_of_run(sets[line]) - first + 1][first] += 8;
+            within[highest_of_run(sets[line]) - first + 1][first] += static_cast<float>(2 * quantities[line]);
         }
     }
 
     void fill()
     {
         for (size_t a = 0; a < kStarts; a++) {
-            left[0][a] = 63 - 16;
+            left[0][a] = -1;
             right[0][a] = 0;
         }
         for (size_t length = 1; length <= rack; length++) {
-            const __m128 as_left = _mm_set1_ps(63 - 16 - static_cast<float>(length));
-            const __m128i index = _mm_set1_epi32(127);
+            const __m128 one = _mm_set1_ps(1);
             size_t a = 0;
             for (; a <= rack - length; a += 4) {
                 __m128 lines = _mm_load_ps(within[length] + a);
@@ -357,11 +518,9 @@ struct Stretches {
                     lines = _mm_add_ps(lines, _mm_sub_ps(either, _mm_loadu_ps(within[length - 2] + a + 1)));
                     _mm_store_ps(within[length] + a, lines);
                 }
-                const __m128 key = largest(length, a, _mm_sub_ps(lines, _mm_set1_ps(4)));
-                const __m128 most = _mm_cvtepi32_ps(_mm_andnot_si128(index, _mm_cvttps_epi32(key)));
-                _mm_store_ps(keys[length] + a, key);
+                const __m128 most = largest(length, a, _mm_sub_ps(lines, one));
                 _mm_store_ps(right[length] + a, most);
-                _mm_store_ps(left[length] + a, _mm_add_ps(most, as_left));
+                _mm_store_ps(left[length] + a, _mm_sub_ps(most, one));
             }
             _mm_store_ps(right[length] + a, _mm_setzero_ps());
         }
@@ -394,7 +553,7 @@ struct Stretches {
             memset(table, 0, a * sizeof *table);
             const float *most = right[1] + a;
             for (size_t b = a; b < rack; b++) {
-                table[b] = static_cast<uint32_t>(static_cast<int32_t>(*most) / 128);
+                table[b] = static_cast<uint32_t>(*most) / 8;
                 most += kStarts;
             }
             table += rack;
@@ -403,12 +562,12 @@ struct Stretches {
 };
 
 /* Best sharing without its table; gives the number of pairs. */
-uint32_t best(const uint64_t *sets, const Job &job, Stretches &stretches, uint8_t *plan)
+uint32_t best(const uint64_t *sets, const uint8_t *quantities, const Job &job, Stretches &stretches, uint8_t *plan)
 {
-    stretches.count(sets, job.count);
+    with_quantities(job, quantities, [&](auto all) { stretches.count(sets, all, job.count); });
     stretches.fill();
     lay_best(sets, job.count, job.rack, [&](int a, int b) { return stretches.tip_of(a, b); }, plan);
-    return static_cast<uint32_t>(stretches.right[job.rack][0]) / 128;
+    return static_cast<uint32_t>(stretches.right[job.rack][0]) / 8;
 }
 
 }  // namespace
@@ -426,53 +585,68 @@ uint32_t tuned_read(const uint8_t *file, size_t file_len, uint64_t *answer, size
 
 uint32_t tuned_common(const uint8_t *file, size_t file_len, uint64_t *answer, size_t answer_len)
 {
-    const auto read = [&] { return check(file, file_len); };
+    Raw raw;
+    const auto read = [&] { return read_raw(file, file_len, raw); };
     return answer_with(answer, answer_len, read, [&](const Job &job) {
         Planes planes;
-        planes.count_file(file, job.count);
+        planes.count_file(raw, job);
         uint64_t tips;
         const unsigned top = planes.largest(tips);
-        return answered(answer, TIPSHARE_ACCEPTED, 0, top, job.count - top, top == 0 ? 0 : __builtin_bswap64(tips));
+        return answered(answer, TIPSHARE_ACCEPTED, 0, top, job.total - top, top == 0 ? 0 : __builtin_bswap64(tips));
     });
 }
 
 uint32_t tuned_keep(const uint8_t *file, size_t file_len, uint16_t k, uint8_t *out, size_t out_len,
                     uint64_t *answer, size_t answer_len)
 {
-    const auto read = [&] { return check(file, file_len); };
+    Raw raw;
+    const auto read = [&] { return read_raw(file, file_len, raw); };
     return answer_with(answer, answer_len, read, [&](const Job &job) {
         Planes planes;
-        planes.count_file(file, job.count);
+        planes.count_file(raw, job);
         uint64_t tips;
         const unsigned top = planes.largest(tips);
-        const auto strike_them = [&](uint8_t *to) { strike(file, job.count, tips, to); };
-        return answer_keep(file, file_len, {k, out, out_len}, job, top, answer, strike_them);
+        const auto tips_with = [&](unsigned placements) { return planes.with_at_least(placements); };
+        const auto strike_them = [&](const Kept &kept, uint8_t *to) {
+            if (!job.single()) {
+                write_lines(to, raw.quantities, job.count,
+                            [&](size_t line) { return kept.of(raw.set(line), raw.quantities[line]); });
+            } else if (kept.margin == 0) {
+                strike(raw.sets, job.count, kept.tips, to);
+            } else {
+                memcpy(to, raw.sets, kSet * job.count);
+            }
+        };
+        return answer_keep(file, file_len, {k, out, out_len}, job, top, answer, tips_with, strike_them);
     });
 }
 
 uint32_t tuned_quick(const uint8_t *file, size_t file_len, uint8_t *plan, size_t plan_len, uint64_t *answer,
                      size_t answer_len)
 {
-    const auto read = [&] { return check(file, file_len); };
+    Raw raw;
+    const auto read = [&] { return read_raw(file, file_len, raw); };
     return answer_with(answer, answer_len, read, [&](const Job &job) {
         if (plan_len < job.count) {
             return refused(answer, TIPSHARE_SHORT_PLAN);
         }
         Planes planes;
-        planes.count_file(file, job.count);
-        return answered(answer, TIPSHARE_ACCEPTED, 0, quick(file, job, planes, plan), 0, 0);
+        planes.count_file(raw, job);
+        const uint32_t pairs = with_quantities(
+            job, raw.quantities, [&](auto quantities) { return quick(raw, quantities, job, planes, plan); });
+        return answered(answer, TIPSHARE_ACCEPTED, 0, pairs, 0, 0);
     });
 }
 
 uint32_t tuned_best(const uint8_t *file, size_t file_len, uint8_t *plan, size_t plan_len, uint32_t *table,
                     size_t table_len, uint64_t *answer, size_t answer_len)
 {
-    uint64_t sets[kMostLines];
-    const auto read = [&] { return read_sets(file, file_len, sets); };
+    Lines lines;
+    const auto read = [&] { return read_sets(file, file_len, lines); };
     return answer_with(answer, answer_len, read, [&](const Job &job) {
-        return answer_best(sets, job, plan_len, table_len, answer, [&] {
+        return answer_best(lines.sets, job, plan_len, table_len, answer, [&] {
             Stretches stretches(job.rack);
-            const uint32_t pairs = best(sets, job, stretches, plan);
+            const uint32_t pairs = best(lines.sets, lines.quantities, job, stretches, plan);
             stretches.write(table);
             return pairs;
         });
@@ -484,26 +658,31 @@ size_t tuned_report(const uint8_t *file, size_t file_len, uint8_t *out, size_t o
     if (out_len < TIPSHARE_REPORT_SPACE) {
         return 0;
     }
-    uint64_t sets[kMostLines];
-    const Job job = read_sets(file, report_length(file_len), sets);
+    Raw raw;
+    const Job job = read_raw(file, report_length(file_len), raw);
     if (job.number != TIPSHARE_ACCEPTED) {
         return write_refusal(out, job.number);
+    }
+    uint64_t sets[kMostLines];
+    for (size_t line = 0; line < job.count; line++) {
+        sets[line] = __builtin_bswap64(raw.set(line));
     }
     uint8_t quick_plan[kMostLines];
     uint8_t best_plan[kMostLines];
     Planes planes;
-    planes.count_file(file, job.count);
+    planes.count_file(raw, job);
     uint64_t tips;
     const unsigned top = planes.largest(tips);
     Found found{};
-    found.off = static_cast<uint32_t>(job.count) - top;
+    found.off = job.total - top;
     found.common = top == 0 ? 0 : __builtin_bswap64(tips);
-    found.quick = quick(file, job, planes, quick_plan);
+    found.quick = with_quantities(
+        job, raw.quantities, [&](auto quantities) { return quick(raw, quantities, job, planes, quick_plan); });
     found.quick_plan = quick_plan;
     found.runs = first_no_run(sets, job.count) == job.count;
     if (found.runs) {
         Stretches stretches(job.rack);
-        found.best = best(sets, job, stretches, best_plan);
+        found.best = best(sets, raw.quantities, job, stretches, best_plan);
         found.best_plan = best_plan;
     }
     return write_report(out, job, found);

@@ -1,11 +1,22 @@
 /*
  * Choosing suction tips for the lines of a parts list.
  *
- * A job file holds the bytes "TIP", the version 1 (16 bits), the rack size m
- * (8 bits, 1 to 64), the number of lines n (16 bits, 0 to 512) and n sets of
- * tips (64 bits each, bit t for tip t), all big-endian: 8 + 8 * n bytes.
+ * A job file holds the bytes "TIP", the version (16 bits), the rack size m
+ * (8 bits, 1 to 64), the number of lines n (16 bits, 0 to 512) and n lines, all
+ * big-endian. In version 1 a line is a set of tips (64 bits, bit t for tip t),
+ * and stands for one placement: 8 + 8 * n bytes. In version 2 a byte follows
+ * each set, the line's quantity, 1 to 255: the line stands for so many
+ * placements, all lines for 2048 at most; 8 + 9 * n bytes. Both versions are
+ * read; version 1 is written where every quantity is 1, else version 2.
+ *
  * Tips are numbered 0 to m - 1, lines 0 to n - 1. A plan puts each line on one
- * tip of its set. A pair is two different lines on one tip.
+ * tip of its set, and with it all placements of the line. A pair is two
+ * different placements on one tip, those of one line too.
+ *
+ * For a caller who knows version 1 alone: the longest good file had 4104 bytes
+ * and has 4616; keep may write another version than it was handed; top, off, k,
+ * margin and pairs counted lines and count placements, pairs up to 2096128; 15
+ * and 30 are new. A file of version 1 gets the answers that it got before.
  *
  * Every length counts elements, not bytes. No pointer may be null, not even
  * with length 0, each is good for its length, and no two buffers of one call
@@ -23,8 +34,8 @@
  * carries its margin in answer[1].
  *
  * Where several refusals apply, the first in this order is given: 100, then
- * 6, 7, 8, 1, 9, 10, then 2 or 3 of the first bad line, then those of the call
- * in the order named with it.
+ * 6, 7, 8, 1, 9, 10, then 2, 3 or 15 of the first bad line, then 30, then those
+ * of the call in the order named with it.
  *
  *   No.  What is wrong                         What to do
  *   ---  ------------------------------------  --------------------------------
@@ -36,17 +47,21 @@
  *     5  table is shorter than m * m places    lend m * m; 4096 always do
  *     6  the file is shorter than 8 bytes      hand over the whole file
  *     7  the file does not begin with "TIP"    hand over a job file
- *     8  the version is not 1                  write the file as version 1
+ *     8  the version is neither 1 nor 2        write the file as version 1 or 2
  *     9  the file names more than 512 lines    split the parts list
  *    10  the length is not 8 + 8 * n bytes     hand over the whole file and no
- *                                              more, or correct n
- *    11  out is shorter than 8 + 8 * n bytes   lend file_len; 4104 always do
+ *        (version 1) or 8 + 9 * n (version 2)  more, or correct n
+ *    11  out is shorter than the file that is  lend file_len; 4616 always do
+ *        to be written
+ *    15  line answer[0] has quantity 0         give that line 1 to 255
  *    25  line answer[0], the first such, is    use tipshare_quick, which takes
  *        no run: it lacks a tip between its    any lines
  *        lowest and its highest
- *    26  no plan has at most k lines off its   raise k by at least -margin, the
- *        most used tip; answer[1] is the       margin being (int64_t)answer[1]
+ *    26  no plan has at most k placements off  raise k by at least -margin, the
+ *        its most used tip; answer[1] is the   margin being (int64_t)answer[1]
  *        margin, below zero
+ *    30  line answer[0], the first such,       split the parts list
+ *        brings the placements past 2048
  *   100  answer has fewer than 4 places        lend 4
  */
 #ifndef TIPSHARE_H
@@ -59,12 +74,15 @@
 extern "C" {
 #endif
 
-#define TIPSHARE_MOST_TIPS 64       /* the largest rack size */
-#define TIPSHARE_MOST_LINES 512     /* the most lines, and a plan that always does */
-#define TIPSHARE_MOST_PLACES 4096   /* a table that always does */
-#define TIPSHARE_LONGEST_FILE 4104  /* the longest good job file, in bytes */
-#define TIPSHARE_ANSWER_PLACES 4    /* the places of an answer */
-#define TIPSHARE_REPORT_SPACE 16384 /* the bytes that a report needs lent */
+#define TIPSHARE_MOST_TIPS 64         /* the largest rack size */
+#define TIPSHARE_MOST_LINES 512       /* the most lines, and a plan that always does */
+#define TIPSHARE_MOST_QUANTITY 255    /* the most placements of one line */
+#define TIPSHARE_MOST_PLACEMENTS 2048 /* the most placements of all lines together */
+#define TIPSHARE_MOST_PAIRS 2096128   /* the most pairs: all placements on one tip */
+#define TIPSHARE_MOST_PLACES 4096     /* a table that always does */
+#define TIPSHARE_LONGEST_FILE 4616    /* the longest good job file, in bytes, and an out that always does */
+#define TIPSHARE_ANSWER_PLACES 4      /* the places of an answer */
+#define TIPSHARE_REPORT_SPACE 16384   /* the bytes that a report needs lent */
 
 #define TIPSHARE_ACCEPTED 0
 #define TIPSHARE_RACK_SIZE 1
@@ -78,57 +96,65 @@ extern "C" {
 #define TIPSHARE_FILE_LINES 9
 #define TIPSHARE_FILE_LENGTH 10
 #define TIPSHARE_SHORT_OUTPUT 11
+#define TIPSHARE_ZERO_QUANTITY 15
 #define TIPSHARE_NO_RUN 25
 #define TIPSHARE_NO_PLAN 26
+#define TIPSHARE_TOO_MANY_PLACEMENTS 30
 #define TIPSHARE_SHORT_ANSWER 100
 
 /*
  * Reads a job file.
  * file: file_len bytes, any number. answer: at least 4 places.
  * Accepted: answer is 0, the rack size m, the number of lines n, 0.
- * Refused (1, 2, 3, 6 to 10): answer is the line, 0, 0, 0.
+ * Refused (1, 2, 3, 6 to 10, 15, 30): answer is the line, 0, 0, 0.
  */
 uint32_t tipshare_read(const uint8_t *file, size_t file_len,
                        uint64_t *answer, size_t answer_len);
 
 /*
- * Finds the tips that most lines can use.
+ * Finds the tips that most placements can use.
  * file: file_len bytes, any number. answer: at least 4 places.
- * Accepted: answer is 0, the most lines that one tip can take (0 without
- * lines), the least number of lines off such a tip, and the set of all such
- * tips (bit t for tip t; empty without lines).
- * Refused (1, 2, 3, 6 to 10): answer is the line, 0, 0, 0.
+ * Accepted: answer is 0, the most placements that one tip can take (0 without
+ * lines), the least number of placements off such a tip, and the set of all
+ * such tips (bit t for tip t; empty without lines).
+ * Refused (1, 2, 3, 6 to 10, 15, 30): answer is the line, 0, 0, 0.
  */
 uint32_t tipshare_common(const uint8_t *file, size_t file_len,
                          uint64_t *answer, size_t answer_len);
 
 /*
- * Takes from each line the tips that it has in no plan with at most k lines off
- * the tip used most, and writes the board that is left as a job file.
- * file: file_len bytes, any number. k: 0 to 65535. out: at least 8 + 8 * n
- * bytes. answer: at least 4 places.
- * Accepted: the first 8 + 8 * n bytes of out are the job file, the rest of out
- * is untouched; answer is 0, the margin (the most lines that one tip can take,
- * minus n, plus k), the number of bytes written, 0. Above margin 0 the job file
- * is the one handed in.
- * Refused (1, 2, 3, 6 to 10, then 26, then 11): out is untouched; answer is the
- * line, 0, 0, 0, but for 26 it is 0, the margin as a 64-bit two's complement
- * number, 0, 0.
+ * Takes from each line the tips that it has in no plan with at most k
+ * placements off the tip used most, and writes the board that is left as a job
+ * file. Its quantities are those handed in. It is of version 1 where they are
+ * all 1, whichever version was handed in, else of version 2; so it is never
+ * longer than the file handed in.
+ * file: file_len bytes, any number. k: 0 to 65535. out: at least as many bytes
+ * as are written, 8 + 8 * n in version 1 and 8 + 9 * n in version 2. answer: at
+ * least 4 places.
+ * Accepted: the first bytes of out are the job file, the rest of out is
+ * untouched; answer is 0, the margin (the most placements that one tip can
+ * take, minus all placements, plus k), the number of bytes written, 0. A line
+ * whose quantity is the margin or less loses no tip; without quantities
+ * nothing is taken above margin 0.
+ * Refused (1, 2, 3, 6 to 10, 15, 30, then 26, then 11): out is untouched;
+ * answer is the line, 0, 0, 0, but for 26 it is 0, the margin as a 64-bit two's
+ * complement number, 0, 0.
  */
 uint32_t tipshare_keep(const uint8_t *file, size_t file_len, uint16_t k,
                        uint8_t *out, size_t out_len,
                        uint64_t *answer, size_t answer_len);
 
 /*
- * Plans by rounds: each round takes the tip that most unplanned lines allow,
- * the lowest number on a tie, and plans all of those lines on it. The plan has
- * at least half as many pairs as any other.
+ * Plans by rounds: each round takes the tip that most unplanned placements
+ * allow, the lowest number on a tie, and plans all of their lines on it. The
+ * plan has at least half as many pairs as any other.
  * file: file_len bytes, any number. plan: at least n bytes. answer: at least 4
  * places.
  * Accepted: plan[i] is the tip of line i, for i below n, the rest of plan is
- * untouched; answer is 0, the number of pairs in the plan, 0, 0.
- * Refused (1, 2, 3, 6 to 10, then 4): plan is untouched; answer is the line, 0,
- * 0, 0.
+ * untouched; answer is 0, the number of pairs in the plan (2096128 at most), 0,
+ * 0.
+ * Refused (1, 2, 3, 6 to 10, 15, 30, then 4): plan is untouched; answer is the
+ * line, 0, 0, 0.
  */
 uint32_t tipshare_quick(const uint8_t *file, size_t file_len,
                         uint8_t *plan, size_t plan_len,
@@ -140,11 +166,12 @@ uint32_t tipshare_quick(const uint8_t *file, size_t file_len,
  * file: file_len bytes, any number. plan: at least n bytes. table: at least
  * m * m places. answer: at least 4 places.
  * Accepted: plan[i] is the tip of line i, for i below n; table[a * m + b] is
- * the most pairs among the lines that lie within the tips a to b, for a up to
- * b, and 0 for a above b; the rest of plan and table is untouched; answer is 0,
- * the number of pairs in the plan, 0, 0.
- * Refused (1, 2, 3, 6 to 10, then 4, 5, 25): plan and table are untouched;
- * answer is the line, 0, 0, 0.
+ * the most pairs among the placements of the lines that lie within the tips a
+ * to b, for a up to b, and 0 for a above b; the rest of plan and table is
+ * untouched; answer is 0, the number of pairs in the plan (2096128 at most), 0,
+ * 0.
+ * Refused (1, 2, 3, 6 to 10, 15, 30, then 4, 5, 25): plan and table are
+ * untouched; answer is the line, 0, 0, 0.
  */
 uint32_t tipshare_best(const uint8_t *file, size_t file_len,
                        uint8_t *plan, size_t plan_len,
@@ -153,7 +180,7 @@ uint32_t tipshare_best(const uint8_t *file, size_t file_len,
 
 /*
  * Writes the text that the program tipshare prints for the file.
- * file: file_len bytes, any number; past 4105 only the first 4105 count, as
+ * file: file_len bytes, any number; past 4617 only the first 4617 count, as
  * the program takes no more. out: at least 16384 bytes.
  * Writes the text to the beginning of out, with no zero byte after it, and
  * returns its length, never 0; the rest of out is untouched. A refused file

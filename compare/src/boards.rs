@@ -1,6 +1,6 @@
-//! Boards to compare on: every small one, and seeded ones of many shapes.
+//! Boards to compare on: every small one, and seeded ones of many shapes, with quantities and without.
 
-use second::Board;
+use second::{Board, Line, Version, MOST_PLACEMENTS};
 
 use crate::random::Random;
 
@@ -9,55 +9,114 @@ fn run(first: usize, last: usize) -> u64 {
     u64::MAX >> (63 - (last - first)) << first
 }
 
+/// The closed board of these lines, set and quantity.
+fn counted(rack: usize, lines: &[(u64, u8)]) -> Board {
+    let lines: Vec<Line> = lines.iter().map(|&(set, quantity)| Line { set, quantity }).collect();
+    Board::of_lines(rack, &lines)
+}
+
+/// Whether some quantity is not 1.
+pub fn is_counted(board: &Board) -> bool {
+    board.version() == Version::Two
+}
+
+/// The board with quantity 1 for every line.
+pub fn single(board: &Board) -> Board {
+    Board::of_sets(board.rack, &board.sets[..board.count])
+}
+
 /// Boards that are always compared: those of the rules, and the ends of each range.
 pub fn fixed_boards() -> Vec<Board> {
+    [fixed_single_boards(), fixed_counted_boards()].concat()
+}
+
+fn fixed_single_boards() -> Vec<Board> {
     let all = u64::MAX;
     let mut boards = vec![
-        Board::of_lines(3, &[0b001, 0b110]),
-        Board::of_lines(9, &[0x00E, 0x0F8, 0x1FF, 0x060]),
-        Board::of_lines(3, &[0b010, 0b100, 0b011, 0b101]),
-        Board::of_lines(3, &[0b001, 0b100, 0b011, 0b110]),
-        Board::of_lines(3, &[0b001, 0b001, 0b011, 0b011, 0b011, 0b110, 0b110, 0b110, 0b100, 0b100]),
-        Board::of_lines(3, &[0b011, 0b110, 0b100]),
-        Board::of_lines(3, &[0b110]),
+        Board::of_sets(3, &[0b001, 0b110]),
+        Board::of_sets(9, &[0x00E, 0x0F8, 0x1FF, 0x060]),
+        Board::of_sets(3, &[0b010, 0b100, 0b011, 0b101]),
+        Board::of_sets(3, &[0b001, 0b100, 0b011, 0b110]),
+        Board::of_sets(3, &[0b001, 0b001, 0b011, 0b011, 0b011, 0b110, 0b110, 0b110, 0b100, 0b100]),
+        Board::of_sets(3, &[0b011, 0b110, 0b100]),
+        Board::of_sets(3, &[0b110]),
         // Two lines that are no runs, and tip 63 struck at margin 0.
-        Board::of_lines(4, &[0b0101, 0b0010, 0b1010]),
-        Board::of_lines(64, &[0b11 << 62, 1 << 62, all]),
-        Board::of_lines(1, &[]),
-        Board::of_lines(1, &[1]),
-        Board::of_lines(64, &[]),
-        Board::of_lines(64, &[all]),
-        Board::of_lines(64, &[1 << 63]),
-        Board::of_lines(64, &[1 << 63 | 1]),
-        Board::of_lines(1, &[1; 512]),
-        Board::of_lines(64, &[all; 512]),
-        Board::of_lines(64, &[1 << 63; 512]),
+        Board::of_sets(4, &[0b0101, 0b0010, 0b1010]),
+        Board::of_sets(64, &[0b11 << 62, 1 << 62, all]),
+        Board::of_sets(1, &[]),
+        Board::of_sets(1, &[1]),
+        Board::of_sets(64, &[]),
+        Board::of_sets(64, &[all]),
+        Board::of_sets(64, &[1 << 63]),
+        Board::of_sets(64, &[1 << 63 | 1]),
+        Board::of_sets(1, &[1; 512]),
+        Board::of_sets(64, &[all; 512]),
+        Board::of_sets(64, &[1 << 63; 512]),
     ];
     // Only the last line loses tips, or is no run.
     for last_line in [all, 0b101] {
         let mut lines = [run(20, 40); 512];
         lines[511] = last_line;
-        boards.push(Board::of_lines(64, &lines));
+        boards.push(Board::of_sets(64, &lines));
     }
     // Every tip equally often, so that each round is a tie, once with runs and once without.
     let singles: Vec<u64> = (0..512).map(|line| 1 << (line % 64)).collect();
     let alternating: Vec<u64> = (0..512).map(|line| 0x5555_5555_5555_5555_u64.rotate_left(line % 64)).collect();
-    boards.push(Board::of_lines(64, &singles));
-    boards.push(Board::of_lines(64, &alternating));
+    boards.push(Board::of_sets(64, &singles));
+    boards.push(Board::of_sets(64, &alternating));
     boards
 }
 
-/// Hands on every board of a rack with this many lines.
-pub fn every_board<E>(rack: usize, lines: usize, hand_on: &mut dyn FnMut(Board) -> Result<(), E>) -> Result<(), E> {
-    let last = (1 << rack) - 1;
-    let mut sets = vec![1; lines];
+fn fixed_counted_boards() -> Vec<Board> {
+    let all = u64::MAX;
+    let mut boards = vec![
+        // By lines quick begins with tip 0, by placements with tip 1.
+        counted(2, &[(0b01, 1), (0b01, 1), (0b10, 3), (0b11, 1)]),
+        // The same in its second round.
+        counted(3, &[(0b001, 9), (0b010, 1), (0b010, 1), (0b100, 3), (0b110, 1)]),
+        // Keep strikes up to margin 2; in the next it keeps more than the common tip and spares the last line.
+        counted(2, &[(0b01, 5), (0b11, 3), (0b10, 1)]),
+        counted(3, &[(0b111, 4), (0b001, 3), (0b010, 2), (0b111, 1)]),
+        // By lines best takes another plan.
+        counted(3, &[(0b001, 1), (0b011, 2), (0b110, 2), (0b100, 3)]),
+        counted(3, &[(0b001, 1), (0b011, 4), (0b110, 4), (0b100, 1)]),
+        counted(1, &[(1, 255)]),
+        counted(64, &[(all, 255), (1 << 63, 2)]),
+        // A quantity with the highest bit, and those beside it.
+        counted(4, &[(0b0101, 128), (0b0110, 127), (0b1010, 129)]),
+        // The first version is written where every quantity is 1, whichever line has another.
+        counted(64, &[[(all, 1); 511].as_slice(), &[(all, 2)]].concat()),
+        counted(64, &[&[(all, 3)], [(1 << 63, 1); 511].as_slice()].concat()),
+        // As many placements as there may be.
+        counted(1, &[(1, 4); 512]),
+        counted(64, &[(1 << 63, 4); 512]),
+        counted(2, &[&[(0b01, 255)], [(0b11, 255); 7].as_slice(), &[(0b10, 8)]].concat()),
+        counted(8, &[[(0b0110_0000, 255); 8].as_slice(), &[(0b1000_0000, 1); 8]].concat()),
+    ];
+    let mixed: Vec<(u64, u8)> =
+        (0..512).map(|line| (run(line % 40, line % 40 + line % 23), 1 + line as u8 % 7)).collect();
+    boards.push(counted(64, &mixed));
+    boards
+}
+
+/// Hands on every board of a rack with this many lines and these quantities.
+pub fn every_board<E>(
+    rack: usize,
+    quantities: &[u8],
+    lines: usize,
+    hand_on: &mut dyn FnMut(Board) -> Result<(), E>,
+) -> Result<(), E> {
+    let choices: Vec<Line> =
+        (1..1 << rack).flat_map(|set| quantities.iter().map(move |&quantity| Line { set, quantity })).collect();
+    let mut chosen = vec![0; lines];
     loop {
-        hand_on(Board::of_lines(rack, &sets))?;
-        let Some(line) = sets.iter().position(|&set| set < last) else {
+        let board: Vec<Line> = chosen.iter().map(|&choice| choices[choice]).collect();
+        hand_on(Board::of_lines(rack, &board))?;
+        let Some(line) = chosen.iter().position(|&choice| choice + 1 < choices.len()) else {
             return Ok(());
         };
-        sets[..line].fill(1);
-        sets[line] += 1;
+        chosen[..line].fill(0);
+        chosen[line] += 1;
     }
 }
 
@@ -74,7 +133,7 @@ pub enum Size {
 /// A seeded board of this size.
 pub fn seeded_board(random: &mut Random, size: Size) -> Board {
     let (rack, count) = match size {
-        Size::Small => (random.from_to(1, 6), random.from_to(0, 8)),
+        Size::Small => (random.from_to(1, 6), random.from_to(0, 10)),
         Size::Middle => {
             let any = random.from_to(1, 64);
             (random.one_of(&[1, 2, 8, 63, 64, any, any, any]), random.from_to(0, 48))
@@ -86,11 +145,54 @@ pub fn seeded_board(random: &mut Random, size: Size) -> Board {
             (random.one_of(&[1, 64, any, any]), random.one_of(&[0, 511, 512, 512, lines, lines, lines]))
         }
     };
-    Board::of_lines(rack, &seeded_lines(random, rack, count))
+    let sets = seeded_sets(random, rack, count);
+    let quantities = seeded_quantities(random, count);
+    let lines: Vec<Line> = sets.into_iter().zip(quantities).map(|(set, quantity)| Line { set, quantity }).collect();
+    Board::of_lines(rack, &lines)
 }
 
-/// Lines of one seeded shape: with few or many ties, with or without runs.
-fn seeded_lines(random: &mut Random, rack: usize, count: usize) -> Vec<u64> {
+/// A job file of the board: in the version that it is written in, and where it can be the first, sometimes the second.
+pub fn seeded_file(random: &mut Random, board: &Board) -> Vec<u8> {
+    if random.once_in(4) {
+        board.file_in(Version::Two)
+    } else {
+        board.file()
+    }
+}
+
+/// Quantities of one seeded shape, together at most as many placements as there may be.
+fn seeded_quantities(random: &mut Random, count: usize) -> Vec<u8> {
+    let mut quantities = vec![1_u8; count];
+    let shape = random.below(9);
+    for quantity in &mut quantities {
+        *quantity = match shape {
+            0..=2 => 1,
+            3 => random.from_to(1, 2) as u8,
+            4 => random.from_to(1, 3) as u8,
+            5 => random.from_to(1, 7) as u8,
+            6 => random.one_of(&[1, 1, 1, 2, 127, 128, 255]),
+            _ => random.from_to(1, 255) as u8,
+        };
+    }
+    // One line alone has another quantity.
+    if shape == 2 && count > 0 && random.once_in(3) {
+        quantities[random.below(count)] = random.from_to(2, 255) as u8;
+    }
+    // Each line keeps 1 at least; the others get what room there is, from any line on.
+    let mut room = MOST_PLACEMENTS - count;
+    let first = if count > 0 { random.below(count) } else { 0 };
+    for turn in 0..count {
+        let quantity = &mut quantities[(first + turn) % count];
+        let wanted = if shape == 8 { 255 } else { *quantity };
+        let more = room.min(usize::from(wanted - 1));
+        *quantity = 1 + more as u8;
+        room -= more;
+    }
+    quantities
+}
+
+/// Sets of one seeded shape: with few or many ties, with or without runs.
+fn seeded_sets(random: &mut Random, rack: usize, count: usize) -> Vec<u64> {
     let mut lines = Vec::with_capacity(count);
     let shape = random.below(12);
     let density = random.from_to(1, 7);
@@ -170,20 +272,37 @@ mod tests {
                 assert!(board.is_sound());
                 assert_eq!(board, seeded_board(&mut Random::new(seed), size));
                 assert_eq!(second::read(&board.file()).board, board);
+                assert_eq!(second::read(&seeded_file(&mut Random::new(seed), &board)).board, board);
             }
+        }
+    }
+
+    #[test]
+    fn seeded_quantities_are_of_every_kind() {
+        let all: Vec<Vec<u8>> = (0..400).map(|seed| seeded_quantities(&mut Random::new(seed), 12)).collect();
+        let total = |quantities: &Vec<u8>| quantities.iter().map(|&quantity| usize::from(quantity)).sum::<usize>();
+        assert!(all.iter().all(|quantities| total(quantities) <= MOST_PLACEMENTS));
+        for count in [12, 13, 24, MOST_PLACEMENTS] {
+            assert!(all.iter().any(|quantities| total(quantities) == count), "{count}");
+        }
+        for quantity in [1, 2, 127, 128, 255] {
+            assert!(all.iter().any(|quantities| quantities.contains(&quantity)), "{quantity}");
         }
     }
 
     #[test]
     fn every_board_is_handed_on_once() {
         let mut seen = Vec::new();
-        every_board::<()>(2, 3, &mut |board| {
-            assert!(board.is_sound() && !seen.contains(&board.sets));
-            seen.push(board.sets);
-            Ok(())
-        })
-        .unwrap();
-        assert_eq!(seen.len(), 27);
+        for (quantities, boards) in [(&[1][..], 27), (&[1, 2, 5], 729)] {
+            every_board::<()>(2, quantities, 3, &mut |board| {
+                assert!(board.is_sound() && !seen.contains(&board));
+                seen.push(board);
+                Ok(())
+            })
+            .unwrap();
+            assert_eq!(seen.len(), boards);
+            seen.clear();
+        }
     }
 
     #[test]

@@ -3,18 +3,22 @@
 //! Every one is the linked library with another file, bound or buffer lent to it, or with something changed in what it
 //! wrote, so that nothing is worked out a third time.
 
-use second::file::{at_line, length_of, AT_COUNT, AT_RACK, AT_VERSION, HEAD, MARK};
+use second::file::{AT_COUNT, AT_RACK, AT_VERSION, HEAD, MARK};
 use second::interface::{ANSWER_PLACES, REPORT_SPACE};
-use second::Board;
+use second::{Board, Line, Version, LONGEST_FILE, MOST_PLACEMENTS};
 
+use crate::boards::{is_counted, single};
 use crate::check::{call_library, Buffers, Call, Caller, Lent};
+use crate::damage::{first_to_pass, quantities_in};
 
 /// What is wrong, and the call that is wrong in this way.
 pub type Mistake = (&'static str, Caller);
 
 /// Everything that the comparison is tried with.
 pub fn mistakes() -> impl Iterator<Item = &'static Mistake> {
-    [OF_READING, OF_COMMON, OF_KEEP, OF_QUICK, OF_BEST, OF_ANSWERS, OF_REPORTS].into_iter().flatten()
+    let of_calls = [OF_READING, OF_COMMON, OF_KEEP, OF_QUICK, OF_BEST, OF_ANSWERS, OF_REPORTS];
+    let of_quantities = [OF_READING_QUANTITIES, OF_COUNTING_PLACEMENTS, OF_KEEPING_PLACEMENTS, OF_VERSIONS];
+    of_calls.into_iter().chain(of_quantities).flatten()
 }
 
 const OF_READING: &[Mistake] = &[
@@ -46,14 +50,14 @@ const OF_READING: &[Mistake] = &[
     ("bytes after the last line are accepted", |call, lent| {
         on_file(call, lent, |file| {
             if let Some(head) = head_of(file) {
-                let length = length_of(head.count);
+                let length = head.form().length_of(head.count);
                 file.truncate(length);
             }
         })
     }),
     ("the version is looked at before the mark", |call, lent| {
         on_head(call, lent, |head| {
-            if head.version != 1 {
+            if !matches!(head.version, 1 | 2) {
                 head.bytes[..3].copy_from_slice(&MARK)
             }
         })
@@ -82,10 +86,10 @@ const OF_READING: &[Mistake] = &[
     ("sets are read little-endian", |call, lent| on_sets(call, lent, |_, set| set.swap_bytes())),
     ("the last bad line is named", |call, lent| {
         let returned = call_library(call, lent);
-        if let (2 | 3, Some(head)) = (refusal(call, returned), head_of(lent.file.inside())) {
+        if let (2 | 3 | 15, Some(head)) = (refusal(call, returned), head_of(lent.file.inside())) {
             let is_bad = |&line: &usize| {
-                let set = set_in(head.bytes, line);
-                set == 0 || head.rack < 64 && set >> head.rack != 0
+                let Line { set, quantity } = line_in(head.form(), head.bytes, line);
+                set == 0 || head.rack < 64 && set >> head.rack != 0 || quantity == 0
             };
             let last = (0..head.count).rev().find(is_bad).expect("a bad line");
             lent.answer.inside()[0] = last as u64;
@@ -94,9 +98,9 @@ const OF_READING: &[Mistake] = &[
     }),
     ("empty lines are looked for before tips outside the rack", |call, lent| {
         let file = lent.file.inside();
-        let has_empty = head_of(file).is_some_and(|head| {
-            head.bytes.len() == length_of(head.count) && (0..head.count).any(|line| set_in(head.bytes, line) == 0)
-        });
+        let has_empty = head_of(file)
+            .filter(Head::fits)
+            .is_some_and(|head| (0..head.count).any(|line| line_in(head.form(), head.bytes, line).set == 0));
         on_sets(call, lent, |_, set| if has_empty && set != 0 { 1 } else { set })
     }),
     ("tips outside the rack are accepted", |call, lent| {
@@ -162,7 +166,8 @@ const OF_KEEP: &[Mistake] = &[
     ("tip 63 is never struck", |call, lent| on_kept(call, lent, |_, kept, given| kept | given & 1 << 63)),
     ("the output is looked at before the margin", |call, lent| {
         let returned = call_library(call, lent);
-        if refusal(call, returned) == 26 && lent.bytes.length < lent.file.length {
+        let written = board_of(lent).map_or(0, |board| board.file().len());
+        if refusal(call, returned) == 26 && lent.bytes.length < written {
             lent.answer.inside()[1] = 0;
             return 11;
         }
@@ -170,7 +175,7 @@ const OF_KEEP: &[Mistake] = &[
     }),
     ("refusal 11 carries the margin", |call, lent| match *call {
         Call::Keep { k, .. } => at_refusal(call, lent, &[11], |lent| {
-            let kept = library::keep(lent.file.inside(), k, &mut [0; second::LONGEST_FILE]);
+            let kept = library::keep(lent.file.inside(), k, &mut [0; LONGEST_FILE]);
             lent.answer.inside()[1] = kept.expect("the bound is met").margin as u64;
         }),
         _ => call_library(call, lent),
@@ -186,7 +191,7 @@ const OF_KEEP: &[Mistake] = &[
     }),
     ("one byte past the file is written", |call, lent| {
         on_keep(call, lent, |_, lent| {
-            let length = lent.file.length;
+            let length = lent.answer.inside()[2] as usize;
             if let Some(byte) = lent.bytes.inside().get_mut(length) {
                 *byte ^= 1;
             }
@@ -215,18 +220,17 @@ const OF_QUICK: &[Mistake] = &[
     }),
     ("planned lines are counted too", |call, lent| {
         on_quick_plan(call, lent, |board, plan| {
-            let lines_with = |tip: usize| board.lines().iter().filter(|&&set| set >> tip & 1 == 1).count();
-            for (tip_of, &set) in plan.iter_mut().zip(board.lines()) {
-                let own = (0..board.rack).rev().filter(|tip| set >> tip & 1 == 1);
-                *tip_of = own.max_by_key(|&tip| lines_with(tip)).expect("a tip") as u8;
+            for (tip_of, line) in plan.iter_mut().zip(board.lines()) {
+                let own = (0..board.rack).rev().filter(|tip| line.set >> tip & 1 == 1);
+                *tip_of = own.max_by_key(|&tip| placements_with(board, tip)).expect("a tip") as u8;
             }
         })
     }),
     ("after the first round each line takes its lowest tip", |call, lent| {
         on_quick_plan(call, lent, |board, plan| {
             let chosen = lowest(board.clone().common_tip().value.tips);
-            for (tip, &set) in plan.iter_mut().zip(board.lines()) {
-                *tip = if set >> chosen & 1 == 1 { chosen } else { lowest(set) };
+            for (tip, line) in plan.iter_mut().zip(board.lines()) {
+                *tip = if line.set >> chosen & 1 == 1 { chosen } else { lowest(line.set) };
             }
         })
     }),
@@ -272,8 +276,8 @@ const OF_BEST: &[Mistake] = &[
     ("lines that reach outside a stretch of one tip are counted in it", |call, lent| {
         on_best(call, lent, |board, lent| {
             for tip in 0..board.rack {
-                let lines = board.lines().iter().filter(|&&set| set >> tip & 1 == 1).count() as u32;
-                lent.table.inside()[tip * board.rack + tip] = lines * lines.saturating_sub(1) / 2;
+                let placements = placements_with(board, tip) as u32;
+                lent.table.inside()[tip * board.rack + tip] = placements * placements.saturating_sub(1) / 2;
             }
         })
     }),
@@ -295,7 +299,7 @@ const OF_BEST: &[Mistake] = &[
     ("the last line that is no run is named", |call, lent| {
         at_refusal(call, lent, &[25], |lent| {
             let board = board_of(lent).expect("a good file");
-            let last = board.lines().iter().rposition(|&set| !is_run(set));
+            let last = board.lines().rposition(|line| !is_run(line.set));
             lent.answer.inside()[0] = last.expect("a line that is no run") as u64;
         })
     }),
@@ -309,7 +313,7 @@ const OF_BEST: &[Mistake] = &[
     }),
     ("the runs are looked at before the table", |call, lent| {
         let returned = call_library(call, lent);
-        let no_run = |board: Board| board.lines().iter().position(|&set| !is_run(set));
+        let no_run = |board: Board| board.lines().position(|line| !is_run(line.set));
         if let (5, Some(line)) = (refusal(call, returned), board_of(lent).and_then(no_run)) {
             lent.answer.inside()[0] = line as u64;
             return 25;
@@ -450,6 +454,317 @@ const OF_REPORTS: &[Mistake] = &[
     }),
 ];
 
+const OF_READING_QUANTITIES: &[Mistake] = &[
+    ("a quantity of 0 is taken for 1", |call, lent| on_quantities(call, lent, |quantity| quantity.max(1))),
+    ("quantities have 7 bits", |call, lent| on_quantities(call, lent, |quantity| quantity & 0x7F)),
+    ("a quantity stands before its set", |call, lent| {
+        on_file(call, lent, |file| {
+            if let Some(head) = head_of(file).filter(|head| head.fits() && head.version == 2) {
+                head.bytes[HEAD..].chunks_mut(Version::Two.line()).for_each(|line| line.rotate_right(1));
+            }
+        })
+    }),
+    ("each line has the quantity of the next", |call, lent| {
+        let quantities = quantities_in(lent.file.inside());
+        on_lines(call, lent, |line, Line { set, quantity }| Line {
+            set,
+            quantity: quantities.get(line + 1).copied().unwrap_or(quantity),
+        })
+    }),
+    ("a quantity is looked at before the set of its line", |call, lent| {
+        let returned = call_library(call, lent);
+        if let (2 | 3, Some(head)) = (refusal(call, returned), head_of(lent.file.inside())) {
+            let bad = line_in(head.form(), head.bytes, lent.answer.inside()[0] as usize);
+            if bad.quantity == 0 {
+                return 15;
+            }
+        }
+        returned
+    }),
+    ("every set is looked at before the quantities", |call, lent| {
+        let file = lent.file.inside();
+        let bad_set = head_of(file).filter(Head::fits).is_some_and(|head| {
+            let sets = (0..head.count).map(|line| line_in(head.form(), head.bytes, line).set);
+            sets.into_iter().any(|set| set == 0 || head.rack < 64 && set >> head.rack != 0)
+        });
+        on_lines(call, lent, |_, Line { set, quantity }| Line {
+            set,
+            quantity: if bad_set { quantity.max(1) } else { quantity },
+        })
+    }),
+    ("the line of refusal 15 is always 0", |call, lent| {
+        at_refusal(call, lent, &[15], |lent| lent.answer.inside()[0] = 0)
+    }),
+    ("2,048 placements are refused", |call, lent| {
+        let total: usize = quantities_in(lent.file.inside()).into_iter().map(usize::from).sum();
+        let last = quantities_in(lent.file.inside()).len().saturating_sub(1);
+        on_lines(call, lent, |line, Line { set, quantity }| {
+            let more = u8::from(total == MOST_PLACEMENTS && line == last && quantity < 255);
+            Line { set, quantity: quantity + more }
+        })
+    }),
+    ("2,049 placements are accepted", |call, lent| {
+        let quantities = quantities_in(lent.file.inside());
+        let total: usize = quantities.iter().map(|&quantity| usize::from(quantity)).sum();
+        let lowered = quantities.iter().position(|&quantity| quantity > 1);
+        on_lines(call, lent, |line, Line { set, quantity }| {
+            let less = u8::from(total == MOST_PLACEMENTS + 1 && Some(line) == lowered);
+            Line { set, quantity: quantity - less }
+        })
+    }),
+    ("any number of placements is accepted", |call, lent| {
+        let passing = first_to_pass(&quantities_in(lent.file.inside())).is_some();
+        on_lines(call, lent, |_, Line { set, quantity }| Line {
+            set,
+            quantity: if passing { quantity.min(1) } else { quantity },
+        })
+    }),
+    ("too many placements are refused before a bad line behind them", |call, lent| {
+        let returned = call_library(call, lent);
+        let passing = first_to_pass(&quantities_in(lent.file.inside()));
+        match (refusal(call, returned), passing) {
+            (2 | 3 | 15, Some(line)) if (line as u64) < lent.answer.inside()[0] => {
+                lent.answer.inside()[0] = line as u64;
+                30
+            }
+            _ => returned,
+        }
+    }),
+    ("too many placements are refused before a bad line before them", |call, lent| {
+        let returned = call_library(call, lent);
+        let passing = first_to_pass(&quantities_in(lent.file.inside()));
+        match (refusal(call, returned), passing) {
+            (2 | 3 | 15, Some(line)) if (line as u64) > lent.answer.inside()[0] => {
+                lent.answer.inside()[0] = line as u64;
+                30
+            }
+            _ => returned,
+        }
+    }),
+    ("refusal 30 names the last line", |call, lent| {
+        at_refusal(call, lent, &[30], |lent| {
+            lent.answer.inside()[0] = quantities_in(lent.file.inside()).len() as u64 - 1;
+        })
+    }),
+    ("refusal 30 names no line", |call, lent| at_refusal(call, lent, &[30], |lent| lent.answer.inside()[0] = 0)),
+    ("refusal 30 names the last line that fits", |call, lent| {
+        at_refusal(call, lent, &[30], |lent| lent.answer.inside()[0] -= 1)
+    }),
+];
+
+const OF_COUNTING_PLACEMENTS: &[Mistake] = &[
+    ("top, off and W go by lines", |call, lent| on_single(call, lent, |call| matches!(call, Call::Common { .. }))),
+    ("off counts lines", |call, lent| {
+        on_common(call, lent, |board, answer| answer[2] = single(board).common_tip().value.off as u64)
+    }),
+    ("W goes by lines", |call, lent| {
+        on_common(call, lent, |board, answer| answer[3] = single(board).common_tip().value.tips)
+    }),
+    ("quick sharing goes by lines", |call, lent| on_single(call, lent, |call| matches!(call, Call::Quick { .. }))),
+    ("the rounds of quick sharing choose by lines", |call, lent| {
+        on_quick_plan(call, lent, |board, plan| {
+            if is_counted(board) {
+                single(board).quick(plan);
+            }
+        })
+    }),
+    ("the first round alone chooses by placements", |call, lent| {
+        on_quick_plan(call, lent, |board, plan| {
+            let chosen = lowest(board.clone().common_tip().value.tips);
+            let left: Vec<Line> = board.lines().filter(|line| line.set >> chosen & 1 == 0).collect();
+            let mut rest = vec![0; left.len()];
+            single(&Board::of_lines(board.rack, &left)).quick(&mut rest);
+            let mut rest = rest.into_iter();
+            for (tip, line) in plan.iter_mut().zip(board.lines()) {
+                *tip = if line.set >> chosen & 1 == 1 { chosen } else { rest.next().expect("a tip") };
+            }
+        })
+    }),
+    ("two placements of one line are no pair", |call, lent| {
+        on_quick(call, lent, |board, lent| {
+            let within = |line: Line| u64::from(line.quantity) * u64::from(line.quantity - 1) / 2;
+            lent.answer.inside()[1] -= board.lines().map(within).sum::<u64>();
+        })
+    }),
+    ("the number of pairs has 20 bits", |call, lent| {
+        on_quick(call, lent, |_, lent| lent.answer.inside()[1] &= 0xF_FFFF)
+    }),
+    ("best sharing goes by lines", |call, lent| on_single(call, lent, |call| matches!(call, Call::Best { .. }))),
+    ("the tips of best sharing are chosen by lines", |call, lent| {
+        on_best(call, lent, |board, lent| {
+            if is_counted(board) {
+                let mut table = vec![0; board.rack * board.rack];
+                library::best(&single(board).file(), &mut lent.bytes.inside()[..board.count], &mut table)
+                    .expect("a board of runs");
+            }
+        })
+    }),
+    ("the table has 20 bits", |call, lent| {
+        on_best(call, lent, |board, lent| {
+            lent.table.inside()[..board.rack * board.rack].iter_mut().for_each(|pairs| *pairs &= 0xF_FFFF);
+        })
+    }),
+    ("the report counts placements in its first line", |call, lent| {
+        on_report(call, lent, |board, text| {
+            text.replacen(&format!("lines {} ", board.count), &format!("lines {} ", board.placements().len()), 1)
+        })
+    }),
+    ("the report goes by lines", |call, lent| on_single(call, lent, |call| matches!(call, Call::Report { .. }))),
+];
+
+const OF_KEEPING_PLACEMENTS: &[Mistake] = &[
+    ("the margin counts lines", |call, lent| match *call {
+        Call::Keep { k, .. } => on_keep(call, lent, |board, lent| {
+            let common = single(board).common_tip().value;
+            lent.answer.inside()[1] = (i64::from(k) - common.off as i64) as u64;
+        }),
+        _ => call_library(call, lent),
+    }),
+    ("nothing is struck above margin 0", |call, lent| on_kept_above_0(call, lent, |given, _, _, _| given.set)),
+    ("above margin 0 tips are struck whatever the quantity", |call, lent| {
+        on_kept_above_0(
+            call,
+            lent,
+            |given, _, _, reaching| {
+                if given.set & reaching == reaching {
+                    reaching
+                } else {
+                    given.set
+                }
+            },
+        )
+    }),
+    ("a line with as many placements as the margin loses tips too", |call, lent| {
+        on_kept_above_0(call, lent, |given, kept, margin, reaching| {
+            if margin == i64::from(given.quantity) && given.set & reaching == reaching {
+                reaching
+            } else {
+                kept
+            }
+        })
+    }),
+    ("a line with one placement more than the margin loses none", |call, lent| {
+        on_kept_above_0(
+            call,
+            lent,
+            |given, kept, margin, _| {
+                if margin + 1 == i64::from(given.quantity) {
+                    given.set
+                } else {
+                    kept
+                }
+            },
+        )
+    }),
+    ("above margin 0 only common tips stay", |call, lent| {
+        let common = board_of(lent).map_or(0, |board| board.common_tip().value.tips);
+        on_kept(call, lent, |_, kept, given| if kept == given { kept } else { kept & common })
+    }),
+    ("above margin 0 a line with one of the tips that reach keeps only those", |call, lent| {
+        on_kept_above_0(call, lent, |given, kept, margin, reaching| {
+            if margin < i64::from(given.quantity) && given.set & reaching != 0 {
+                given.set & reaching
+            } else {
+                kept
+            }
+        })
+    }),
+    ("quantities are written as 1", |call, lent| {
+        on_written(call, lent, |kept| {
+            let lines: Vec<Line> = kept.lines().map(|Line { set, .. }| Line { set, quantity: 1 }).collect();
+            Board::of_lines(kept.rack, &lines).file_in(kept.version())
+        })
+    }),
+];
+
+const OF_VERSIONS: &[Mistake] = &[
+    ("version 2 is refused", |call, lent| {
+        on_head(call, lent, |head| {
+            if head.version == 2 {
+                head.put_version(3)
+            }
+        })
+    }),
+    ("version 3 is read as version 2", |call, lent| {
+        on_head(call, lent, |head| {
+            if head.version == 3 {
+                head.put_version(2)
+            }
+        })
+    }),
+    ("version 0 is read as version 1", |call, lent| {
+        on_head(call, lent, |head| {
+            if head.version == 0 {
+                head.put_version(1)
+            }
+        })
+    }),
+    ("version 2 is taken for version 1 where its length is that of version 1", |call, lent| {
+        on_head(call, lent, |head| {
+            if head.version == 2 && head.bytes.len() == Version::One.length_of(head.count) {
+                head.put_version(1)
+            }
+        })
+    }),
+    ("version 1 is taken for version 2 where its length is that of version 2", |call, lent| {
+        on_head(call, lent, |head| {
+            if head.version == 1 && head.bytes.len() == Version::Two.length_of(head.count) {
+                head.put_version(2)
+            }
+        })
+    }),
+    ("a file of version 2 is written back as version 2", |call, lent| {
+        if head_of(lent.file.inside()).is_some_and(|head| head.version == 2) {
+            on_written(call, lent, |kept| kept.file_in(Version::Two))
+        } else {
+            call_library(call, lent)
+        }
+    }),
+    ("a file of version 2 without lines is written back as version 2", |call, lent| {
+        let version = head_of(lent.file.inside()).map_or(0, |head| head.version);
+        on_written(call, lent, |kept| {
+            kept.file_in(if kept.count == 0 && version == 2 { Version::Two } else { kept.version() })
+        })
+    }),
+    ("version 2 is always written", |call, lent| on_written(call, lent, |kept| kept.file_in(Version::Two))),
+    ("the first 511 lines decide the version", |call, lent| {
+        on_written(call, lent, |kept| {
+            if kept.count == 512 && kept.quantities[..511].iter().all(|&quantity| quantity == 1) {
+                single(&kept).file()
+            } else {
+                kept.file()
+            }
+        })
+    }),
+    ("the output must be as long as the file that was read", |call, lent| match *call {
+        Call::Keep { out, .. } if out < lent.file.length => {
+            let given = lent.bytes.clone();
+            let returned = call_library(call, lent);
+            if returned == 0 {
+                lent.bytes = given;
+                lent.answer.inside()[..ANSWER_PLACES].fill(0);
+                return 11;
+            }
+            returned
+        }
+        _ => call_library(call, lent),
+    }),
+    ("an output of the length of version 1 does for version 2", |call, lent| match (call, board_of(lent)) {
+        (Call::Keep { .. }, Some(board)) => {
+            let returned = call_library(call, lent);
+            let first = single(&board).file();
+            if returned == 11 && lent.bytes.length >= first.len() {
+                lent.bytes.inside()[..first.len()].copy_from_slice(&first);
+                return 0;
+            }
+            returned
+        }
+        _ => call_library(call, lent),
+    }),
+    ("the report takes no more than the longest good file", |call, lent| on_report_of(call, lent, LONGEST_FILE)),
+    ("the report takes 4,105 bytes", |call, lent| on_report_of(call, lent, 4105)),
+];
+
 impl<T> Lent<T> {
     /// A buffer with nothing around it.
     fn of(cells: Vec<T>) -> Lent<T> {
@@ -464,6 +779,11 @@ fn refusal(call: &Call, returned: u64) -> u64 {
         Call::Report { .. } => 0,
         _ => returned,
     }
+}
+
+/// The placements of lines that have the tip.
+fn placements_with(board: &Board, tip: usize) -> usize {
+    board.placements().iter().filter(|&&set| set >> tip & 1 == 1).count()
 }
 
 /// The board of a good file.
@@ -500,6 +820,20 @@ impl Head<'_> {
     fn put_count(&mut self, count: u16) {
         self.bytes[AT_COUNT].copy_from_slice(&count.to_be_bytes());
     }
+
+    fn put_version(&mut self, version: u16) {
+        self.bytes[AT_VERSION].copy_from_slice(&version.to_be_bytes());
+    }
+
+    /// The form of the lines, that of the first version where the head names none.
+    fn form(&self) -> Version {
+        Version::of_number(self.version).unwrap_or(Version::One)
+    }
+
+    /// Whether the file is as long as its head says.
+    fn fits(&self) -> bool {
+        self.bytes.len() == self.form().length_of(self.count)
+    }
 }
 
 fn head_of(bytes: &mut [u8]) -> Option<Head<'_>> {
@@ -511,8 +845,16 @@ fn head_of(bytes: &mut [u8]) -> Option<Head<'_>> {
     Some(Head { bytes, version, rack, count })
 }
 
-fn set_in(file: &[u8], line: usize) -> u64 {
-    u64::from_be_bytes(file[at_line(line)].try_into().expect("8 bytes"))
+fn line_in(form: Version, file: &[u8], line: usize) -> Line {
+    let set = u64::from_be_bytes(file[form.at_set(line)].try_into().expect("8 bytes"));
+    Line { set, quantity: form.at_quantity(line).map_or(1, |at| file[at]) }
+}
+
+fn put_line(form: Version, file: &mut [u8], line: usize, to: Line) {
+    file[form.at_set(line)].copy_from_slice(&to.set.to_be_bytes());
+    if let Some(at) = form.at_quantity(line) {
+        file[at] = to.quantity;
+    }
 }
 
 /// The call on another file.
@@ -534,16 +876,35 @@ fn on_head(call: &Call, lent: &mut Buffers, edit: fn(&mut Head)) -> u64 {
     })
 }
 
-/// The call on a file with other sets, given line and set; only where its length fits its number of lines.
-fn on_sets(call: &Call, lent: &mut Buffers, edit: impl Fn(usize, u64) -> u64) -> u64 {
+/// The call on a file with other lines, given number and line; only where its length fits its number of lines.
+fn on_lines(call: &Call, lent: &mut Buffers, edit: impl Fn(usize, Line) -> Line) -> u64 {
     on_file(call, lent, |file| {
-        if let Some(head) = head_of(file).filter(|head| head.bytes.len() == length_of(head.count)) {
+        if let Some(head) = head_of(file).filter(Head::fits) {
+            let form = head.form();
             for line in 0..head.count {
-                let set = edit(line, set_in(head.bytes, line));
-                head.bytes[at_line(line)].copy_from_slice(&set.to_be_bytes());
+                let to = edit(line, line_in(form, head.bytes, line));
+                put_line(form, head.bytes, line, to);
             }
         }
     })
+}
+
+/// The call on a file with other sets.
+fn on_sets(call: &Call, lent: &mut Buffers, edit: impl Fn(usize, u64) -> u64) -> u64 {
+    on_lines(call, lent, |line, Line { set, quantity }| Line { set: edit(line, set), quantity })
+}
+
+/// The call on a file with other quantities.
+fn on_quantities(call: &Call, lent: &mut Buffers, edit: fn(u8) -> u8) -> u64 {
+    on_lines(call, lent, |_, Line { set, quantity }| Line { set, quantity: edit(quantity) })
+}
+
+/// The call on the same sets with quantity 1, where some quantity is another and the call is of this kind.
+fn on_single(call: &Call, lent: &mut Buffers, applies: fn(&Call) -> bool) -> u64 {
+    match board_of(lent).filter(|board| is_counted(board) && applies(call)) {
+        Some(board) => on_file(call, lent, |file| *file = single(&board).file()),
+        None => call_library(call, lent),
+    }
 }
 
 /// Best sharing on other sets.
@@ -601,7 +962,7 @@ fn on_quick_plan(call: &Call, lent: &mut Buffers, change: fn(&Board, &mut [u8]))
     on_quick(call, lent, |board, lent| {
         let plan = &mut lent.bytes.inside()[..board.count];
         change(board, plan);
-        lent.answer.inside()[1] = second::pairs_in(plan).into();
+        lent.answer.inside()[1] = second::pairs_in(&board.placed(plan)).into();
     })
 }
 
@@ -617,9 +978,43 @@ fn on_keep(call: &Call, lent: &mut Buffers, change: impl FnOnce(&Board, &mut Buf
 fn on_kept(call: &Call, lent: &mut Buffers, edit: impl Fn(usize, u64, u64) -> u64) -> u64 {
     on_keep(call, lent, |board, lent| {
         let out = lent.bytes.inside();
-        for (line, &given) in board.lines().iter().enumerate() {
-            let set = edit(line, set_in(out, line), given);
-            out[at_line(line)].copy_from_slice(&set.to_be_bytes());
+        let form = board.version();
+        for (line, given) in board.lines().enumerate() {
+            let Line { set, quantity } = line_in(form, out, line);
+            put_line(form, out, line, Line { set: edit(line, set, given.set), quantity });
+        }
+    })
+}
+
+/// Keep with other sets in the output above margin 0, given line, kept set, margin and the tips that reach within k.
+fn on_kept_above_0(call: &Call, lent: &mut Buffers, edit: fn(Line, u64, i64, u64) -> u64) -> u64 {
+    let Call::Keep { k, .. } = *call else {
+        return call_library(call, lent);
+    };
+    on_keep(call, lent, |board, lent| {
+        let margin = lent.answer.inside()[1] as i64;
+        if margin > 0 {
+            let needed = board.placements().len().saturating_sub(k.into()).max(1);
+            let reach = (0..board.rack).filter(|&tip| placements_with(board, tip) >= needed);
+            let reaching = reach.fold(0, |set, tip| set | 1 << tip);
+            let (form, out) = (board.version(), lent.bytes.inside());
+            for (line, given) in board.lines().enumerate() {
+                let kept = line_in(form, out, line).set;
+                put_line(form, out, line, Line { set: edit(given, kept, margin, reaching), ..given });
+            }
+        }
+    })
+}
+
+/// Keep with the file that another board has, given the kept board.
+fn on_written(call: &Call, lent: &mut Buffers, edit: impl FnOnce(Board) -> Vec<u8>) -> u64 {
+    on_keep(call, lent, |_, lent| {
+        let length = lent.answer.inside()[2] as usize;
+        let file = edit(second::read(&lent.bytes.inside()[..length]).board);
+        // A longer file must fit the output.
+        if file.len() <= lent.bytes.length {
+            lent.bytes.inside()[..file.len()].copy_from_slice(&file);
+            lent.answer.inside()[2] = file.len() as u64;
         }
     })
 }
@@ -678,6 +1073,14 @@ fn on_best_mirrored(call: &Call, lent: &mut Buffers, applies: fn(&Board) -> bool
         }
     }
     returned
+}
+
+/// The report of the first bytes.
+fn on_report_of(call: &Call, lent: &mut Buffers, bytes: usize) -> u64 {
+    match call {
+        Call::Report { .. } => on_file(call, lent, |file| file.truncate(bytes)),
+        _ => call_library(call, lent),
+    }
 }
 
 /// Another text for a report that is no refusal.

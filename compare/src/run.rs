@@ -1,4 +1,4 @@
-//! The whole comparison: fixed boards, every small board, then seeded ones.
+//! The whole comparison: fixed boards, every small board, then seeded ones, in files of both versions.
 
 use std::io::Write;
 use std::path::PathBuf;
@@ -6,19 +6,32 @@ use std::process::{Command, Stdio};
 use std::{fs, io, thread};
 
 use second::interface::{ANSWER_PLACES, REPORT_SPACE};
-use second::{number_of_plans, pairs_in, read, try_every_plan, Board};
+use second::{number_of_plans, pairs_in, read, try_every_plan, Board, Version, MOST_PLACEMENTS};
 
-use crate::boards::{every_board, fixed_boards, seeded_board, Size};
+use crate::boards::{every_board, fixed_boards, is_counted, seeded_board, seeded_file, single, Size};
 use crate::check::{call_library, compare, Call, Caller, Difference, Outcome};
-use crate::damage::{damage, damaged, KINDS};
+use crate::damage::{damage, damaged, first_to_pass, quantities_in, KINDS, TOO_MANY_PLACEMENTS};
 use crate::random::Random;
 use crate::tally::{Event, Tally, SHORT_REPORT};
 
 /// Boards with at most this many plans are solved by trying every plan.
 const MOST_PLANS_TRIED: u64 = 1000;
 
-/// Rack sizes with the most lines up to which every board is compared.
-const EVERY_BOARD_UP_TO: [(usize, usize); 6] = [(1, 6), (2, 5), (3, 4), (4, 3), (5, 2), (6, 2)];
+/// Rack sizes with the quantities and the most lines up to which every board is compared.
+const EVERY_BOARD_UP_TO: [(usize, &[u8], usize); 9] = [
+    (1, &[1], 6),
+    (2, &[1], 5),
+    (3, &[1], 4),
+    (4, &[1], 3),
+    (5, &[1], 2),
+    (6, &[1], 2),
+    (1, &[1, 2, 255], 3),
+    (2, &[1, 2, 3], 2),
+    (3, &[1, 3], 2),
+];
+
+/// Among so many fixed files each pair of kinds of damage has its turn once.
+const TURNS: usize = 5;
 
 pub struct Run {
     /// What is compared with the second implementation.
@@ -44,9 +57,9 @@ impl Run {
     /// Compares until enough cases are done; the fixed boards always are.
     pub fn all(&mut self) -> Result<(), Difference> {
         self.fixed_boards()?;
-        for (rack, most_lines) in EVERY_BOARD_UP_TO {
+        for (rack, quantities, most_lines) in EVERY_BOARD_UP_TO {
             for lines in 0..=most_lines {
-                every_board(rack, lines, &mut |board| {
+                every_board(rack, quantities, lines, &mut |board| {
                     if self.tally.cases < self.least_cases {
                         self.small_board(&board)?;
                     }
@@ -63,8 +76,18 @@ impl Run {
         self.seeded_boards()
     }
 
+    /// Each fixed board in each version that it can have.
     fn fixed_boards(&mut self) -> Result<(), Difference> {
-        fixed_boards().iter().try_for_each(|board| self.fixed_board(board))
+        let mut turn = 0;
+        for board in fixed_boards() {
+            let in_second = board.file_in(Version::Two);
+            let files = if is_counted(&board) { vec![in_second] } else { vec![board.file(), in_second] };
+            for file in files {
+                self.fixed_file(&board, &file, turn)?;
+                turn += 1;
+            }
+        }
+        Ok(())
     }
 
     fn seeded_boards(&mut self) -> Result<(), Difference> {
@@ -78,7 +101,7 @@ impl Run {
     pub fn one_file(&mut self, file: &[u8]) -> Result<(), Difference> {
         let job = read(file);
         if job.number == 0 {
-            self.fixed_board(&job.board)
+            (0..TURNS).try_for_each(|turn| self.fixed_file(&job.board, file, turn))
         } else {
             for _ in 0..100 {
                 self.damaged_file(file, 0, 1)?;
@@ -87,21 +110,24 @@ impl Run {
         }
     }
 
-    fn fixed_board(&mut self, board: &Board) -> Result<(), Difference> {
-        let file = board.file();
-        self.good_file(board, &file)?;
-        self.each_length(board, &file)?;
-        self.try_plans(board, &file)?;
+    /// A good file with every buffer length, cut, and damaged in the pairs of kinds whose turn it is.
+    fn fixed_file(&mut self, board: &Board, file: &[u8], turn: usize) -> Result<(), Difference> {
+        self.good_file(board, file)?;
+        self.each_length(board, file)?;
+        self.try_plans(board, file)?;
+        let is_short = file.len() < 100;
         // Every cut of a short file, and some of a long one.
-        for length in (0..file.len()).filter(|length| file.len() < 100 || length % 97 < 3) {
+        for length in (0..file.len()).filter(|length| is_short || length % 197 < 3) {
             self.damaged_file(&file[..length], board.count, board.rack)?;
         }
-        // Every two kinds of damage together on a short file, to see the order of refusals.
+        // Two kinds of damage together on a short file, to see the order of refusals, and one alone on a long one.
         for kind in 0..KINDS {
-            for other in (0..KINDS).filter(|other| file.len() < 100 || other % 4 == kind % 4) {
-                let mut copy = file.clone();
+            let in_turn = (0..KINDS).filter(|other| (kind + other) % TURNS == turn % TURNS);
+            let others = if is_short { in_turn.collect() } else { vec![kind; 2] };
+            for other in others {
+                let mut copy = file.to_vec();
                 damage(&mut self.random, &mut copy, kind);
-                if other != kind && file.len() < 100 {
+                if other != kind {
                     damage(&mut self.random, &mut copy, other);
                 }
                 self.damaged_file(&copy, board.count, board.rack)?;
@@ -113,15 +139,16 @@ impl Run {
     /// Every buffer length from 0 up to one past a short need, else those around the need.
     fn each_length(&mut self, board: &Board, file: &[u8]) -> Result<(), Difference> {
         let least_off = board.clone().common_tip().value.off;
+        let written = board.file().len();
         let lengths = |needed: usize| (0..=needed + 1).filter(move |length| needed <= 100 || *length + 2 >= needed);
         for answer in 0..=8 {
             self.case(file, Call::Read { answer })?;
             self.case(file, Call::Common { answer })?;
-            self.case(file, Call::Keep { k: least_off as u16, out: file.len(), answer })?;
+            self.case(file, Call::Keep { k: least_off as u16, out: written, answer })?;
             self.case(file, Call::Quick { plan: board.count, answer })?;
             self.case(file, Call::Best { plan: board.count, table: board.rack * board.rack, answer })?;
         }
-        for out in lengths(file.len()) {
+        for out in lengths(written) {
             for k in around(least_off) {
                 self.case(file, Call::Keep { k, out, answer: ANSWER_PLACES })?;
             }
@@ -154,7 +181,7 @@ impl Run {
             _ => Size::Small,
         };
         let board = seeded_board(&mut self.random, size);
-        let file = board.file();
+        let file = seeded_file(&mut self.random, &board);
         self.good_file(&board, &file)?;
         if self.random.once_in(4) {
             self.try_plans(&board, &file)?;
@@ -163,14 +190,21 @@ impl Run {
             let copy = damaged(&mut self.random, &file);
             self.damaged_file(&copy, board.count, board.rack)?;
         }
+        if board.count >= 9 {
+            let kind = self.random.one_of(&TOO_MANY_PLACEMENTS);
+            let mut copy = board.file_in(Version::Two);
+            damage(&mut self.random, &mut copy, kind);
+            self.damaged_file(&copy, board.count, board.rack)?;
+        }
         Ok(())
     }
 
     /// Every call on a good file, with every k around the margin and buffers around the needed lengths.
     fn good_file(&mut self, board: &Board, file: &[u8]) -> Result<(), Difference> {
         self.begin_file(file);
-        self.count_board(board);
+        self.count_board(board, file);
         let (count, places) = (board.count, board.rack * board.rack);
+        let written = board.file().len();
 
         let answer = self.answer_length();
         self.case(file, Call::Read { answer })?;
@@ -181,16 +215,20 @@ impl Run {
         let any = self.random.number() as u16;
         let mut ks = around(common.off);
         ks.extend([0, u16::MAX, count as u16, any]);
+        ks.extend(self.bounds_of_quantities(board, common.off));
         ks.sort_unstable();
         ks.dedup();
         for k in ks {
-            let out = self.length_around(file.len());
+            let out = self.length_around(written);
             let answer = self.answer_length();
             self.case(file, Call::Keep { k, out, answer })?;
+            self.count_events(&[(usize::from(k) > common.top + common.off, Event::KAbovePlacements)]);
         }
-        for k in [common.off as u16, common.off as u16 + 1] {
-            let kept = self.case(file, Call::Keep { k, out: file.len(), answer: ANSWER_PLACES })?;
-            self.count_keep(board, common.tips, k, &kept, file);
+        let mut ks = vec![common.off as u16, common.off as u16 + 1];
+        ks.extend(self.bounds_of_quantities(board, common.off));
+        for k in ks {
+            let kept = self.case(file, Call::Keep { k, out: written, answer: ANSWER_PLACES })?;
+            self.count_keep(board, common.tips, &kept, file);
         }
 
         let plan = self.length_around(count);
@@ -202,7 +240,7 @@ impl Run {
         let answer = self.answer_length();
         self.case(file, Call::Best { plan, table, answer })?;
         let best = self.case(file, Call::Best { plan: count, table: places, answer: ANSWER_PLACES })?;
-        self.count_plans(&quick, &best);
+        self.count_plans(board, &quick, &best);
 
         let any = self.random.below(100);
         let out = self.random.one_of(&[REPORT_SPACE, REPORT_SPACE, REPORT_SPACE + any, REPORT_SPACE - 1, any]);
@@ -213,6 +251,7 @@ impl Run {
     /// Every call on a file that may be damaged, with buffers for the board it came from.
     fn damaged_file(&mut self, file: &[u8], count: usize, rack: usize) -> Result<(), Difference> {
         self.begin_file(file);
+        self.count_placements(file);
         let answer = self.answer_length();
         self.case(file, Call::Read { answer })?;
         let answer = self.answer_length();
@@ -276,40 +315,93 @@ impl Run {
         self.random.one_of(&[needed, needed, needed, needed, needed + 1, needed + 9, less, any])
     }
 
-    fn count_board(&mut self, board: &Board) {
-        let several = board.clone().common_tip().value.tips.count_ones() > 1;
+    /// The bounds with which the margin is a quantity of the board or one less, for the largest and one other.
+    fn bounds_of_quantities(&mut self, board: &Board, least_off: usize) -> Vec<u16> {
+        let quantities = &board.quantities[..board.count];
+        let Some(&largest) = quantities.iter().max().filter(|&&largest| largest > 1) else {
+            return Vec::new();
+        };
+        let other = self.random.one_of(quantities);
+        let margins = [largest - 1, largest, other - 1, other];
+        margins.iter().map(|&margin| (least_off + usize::from(margin)) as u16).collect()
+    }
+
+    fn count_board(&mut self, board: &Board, file: &[u8]) {
+        let common = board.clone().common_tip().value;
+        let counted = is_counted(board);
+        let other_first_tip = || lowest(common.tips) != lowest(single(board).common_tip().value.tips);
         let events = [
             (board.rack == 1, Event::RackOf1),
             (board.rack == 64, Event::RackOf64),
             (board.count == 0, Event::NoLines),
             (board.count == 512, Event::Lines512),
-            (several, Event::SeveralCommonTips),
+            (common.tips.count_ones() > 1, Event::SeveralCommonTips),
+            (counted, Event::Counted),
+            (!counted && file.len() > Version::One.length_of(board.count), Event::SingleInVersion2),
+            (common.top + common.off == MOST_PLACEMENTS, Event::MostPlacements),
+            (board.quantities.contains(&255), Event::Quantity255),
+            (counted && other_first_tip(), Event::FirstRoundByQuantities),
         ];
         self.tally.boards += 1;
         self.count_events(&events);
     }
 
-    fn count_keep(&mut self, board: &Board, common: u64, k: u16, kept: &Outcome, file: &[u8]) {
+    fn count_keep(&mut self, board: &Board, common: u64, kept: &Outcome, file: &[u8]) {
         let margin = kept.answer[1] as i64;
-        let same = kept.bytes == file;
-        let lacks = board.sets[..board.count].iter().any(|set| set & common != 0 && set & common != common);
+        let after = read(&kept.bytes).board;
+        let same = after == *board;
+        let lacks = board.lines().any(|line| line.set & common != 0 && line.set & common != common);
+        // The lines that lose tips, before and after.
+        let pruned: Vec<(u64, u64)> = (0..board.count)
+            .map(|line| (board.sets[line], after.sets[line]))
+            .filter(|(before, after)| before != after)
+            .collect();
+        let spared =
+            |line: usize| pruned.contains(&(board.sets[line], pruned[0].1)) && board.sets[line] == after.sets[line];
+        let above = margin > 0 && !pruned.is_empty();
+        let first_version = file[4] == 2 && kept.bytes[4] == 1;
         self.count_events(&[
             (margin == 0 && !same, Event::PrunedAtMarginZero),
             (margin == 0 && same, Event::SameAtMarginZero),
             (margin == 0 && lacks, Event::LineLacksCommonTip),
             (margin > 0 && same, Event::SameAboveMarginZero),
-            (usize::from(k) > board.count, Event::KAboveLines),
+            (above, Event::PrunedAboveMarginZero),
+            (above && (0..board.count).any(spared), Event::SparedForQuantity),
+            (above && pruned.iter().any(|(_, after)| after & !common != 0), Event::KeptMoreThanCommon),
+            (first_version, Event::WrittenAsVersion1),
+            (kept.bytes[4] == 2, Event::WrittenAsVersion2),
         ]);
     }
 
-    fn count_plans(&mut self, quick: &Outcome, best: &Outcome) {
+    fn count_plans(&mut self, board: &Board, quick: &Outcome, best: &Outcome) {
         let (quick_pairs, best_pairs) = (quick.answer[1], best.answer[1]);
         let both = best.returned == 0;
+        let other_plan = || {
+            let mut plan = vec![0; board.count];
+            single(board).best(&mut plan, &mut [0; 4096]);
+            plan != best.bytes
+        };
+        // Best sharing of the second implementation takes long on large boards.
+        let is_small = board.count <= 48;
         self.count_events(&[
             (quick_pairs > 65_535, Event::PairsAbove16Bits),
+            (quick_pairs > 130_816, Event::PairsAboveThoseOfLines),
             (both && best_pairs > quick_pairs, Event::BestAboveQuick),
             (both && best_pairs == quick_pairs && best.bytes != quick.bytes, Event::BestOtherPlanSamePairs),
+            (both && is_small && is_counted(board) && other_plan(), Event::BestByQuantities),
         ]);
+    }
+
+    /// Whether a file has too many placements, and lines after those.
+    fn count_placements(&mut self, file: &[u8]) {
+        let quantities = quantities_in(file);
+        let job = read(file);
+        if let Some(line) = first_to_pass(&quantities) {
+            self.count_events(&[
+                (job.number == 30 && line + 1 < quantities.len(), Event::PassedBeforeLastLine),
+                (matches!(job.number, 2 | 3 | 15) && job.place > line, Event::BadLineAfterPassing),
+            ]);
+        }
     }
 
     fn count_events(&mut self, events: &[(bool, Event)]) {
@@ -319,6 +411,11 @@ impl Run {
             }
         }
     }
+}
+
+/// The lowest tip of the set, 64 where it has none.
+fn lowest(set: u64) -> u32 {
+    set.trailing_zeros()
 }
 
 /// The bounds around the least one that some plan meets.
@@ -339,32 +436,39 @@ fn refusal_in(report: &[u8]) -> u32 {
 fn against_every_plan(board: &Board) -> Result<(), String> {
     let tried = try_every_plan(board);
     let count = board.count;
+    let (placements, least_off) = (board.placements().len(), tried.least_off());
     let common = board.clone().common_tip().value;
-    if (common.top, common.off, common.tips) != (count - tried.least_off, tried.least_off, tried.common_tips) {
+    if (common.top, common.off, common.tips) != (placements - least_off, least_off, tried.common_tips()) {
         return Err(format!("common tip {common:?}, every plan {tried:?}"));
     }
-    for k in 0..=count {
+    // With a margin above every quantity each line can be off, so that nothing more can change.
+    let most = least_off + board.quantities.iter().map(|&quantity| usize::from(quantity)).max().unwrap_or(0);
+    for k in [0].into_iter().chain(least_off.saturating_sub(2)..=most + 1).chain([placements]) {
         let kept = board.clone().keep_within(k as u16);
-        let right = if tried.plans_within[k] == 0 {
-            kept.number == 26 && kept.board == *board
-        } else {
-            kept.number == 0 && kept.board.sets[..count] == tried.used_within[k]
+        let right = match tried.used_within(k) {
+            None => kept.number == 26 && kept.board == *board,
+            Some(used) => {
+                let mut expected = board.clone();
+                expected.sets[..count].copy_from_slice(&used);
+                kept.number == 0 && kept.board == expected
+            }
         };
-        if !right || kept.value != k as i64 - tried.least_off as i64 {
+        if !right || kept.value != k as i64 - least_off as i64 {
             return Err(format!("keep within {k}, every plan {tried:?}"));
         }
     }
     let mut plan = vec![0; count];
     let quick = board.clone().quick(&mut plan).value;
     if !is_own_plan(board, &plan)
-        || pairs_in(&plan) != quick
+        || pairs_in(&board.placed(&plan)) != quick
         || quick > tried.most_pairs
         || 2 * quick < tried.most_pairs
     {
         return Err(format!("quick {plan:?} with {quick} pairs, most {}", tried.most_pairs));
     }
     let best = board.clone().best(&mut plan, &mut [0; 4096]);
-    let right = is_own_plan(board, &plan) && pairs_in(&plan) == best.value && best.value == tried.most_pairs;
+    let pairs = pairs_in(&board.placed(&plan));
+    let right = is_own_plan(board, &plan) && pairs == best.value && best.value == tried.most_pairs;
     if best.number == 0 && !right {
         return Err(format!("best {plan:?} with {} pairs, most {}", best.value, tried.most_pairs));
     }
@@ -373,19 +477,22 @@ fn against_every_plan(board: &Board) -> Result<(), String> {
 
 /// Whether each line is on a tip of its own set.
 fn is_own_plan(board: &Board, plan: &[u8]) -> bool {
-    plan.iter().zip(&board.sets).all(|(&tip, &set)| tip < 64 && set >> tip & 1 == 1)
+    plan.iter().zip(board.lines()).all(|(&tip, line)| tip < 64 && line.set >> tip & 1 == 1)
 }
 
 /// Compares what a program prints for good and damaged files with the second implementation's report.
 pub fn compare_program(program: &str, seed: u64, files: u64) -> Result<(), Difference> {
     let mut random = Random::new(seed);
-    let fixed: Vec<Vec<u8>> = fixed_boards().iter().map(Board::file).collect();
+    let fixed_boards = fixed_boards();
+    let in_both = |board: &Board| [board.file(), board.file_in(Version::Two)];
+    let fixed: Vec<Vec<u8>> = fixed_boards.iter().flat_map(in_both).collect();
     for number in 0..files {
         let mut file = match fixed.get(number as usize) {
             Some(file) => file.clone(),
             None => {
                 let size = random.one_of(&[Size::Small, Size::Middle, Size::Long, Size::Large]);
-                seeded_board(&mut random, size).file()
+                let board = seeded_board(&mut random, size);
+                seeded_file(&mut random, &board)
             }
         };
         if number % 3 == 2 {

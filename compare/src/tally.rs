@@ -9,7 +9,7 @@ use crate::check::CALL_NAMES;
 pub const SHORT_REPORT: u32 = u32::MAX;
 
 /// The refusals of reading a file.
-const OF_READING: [u32; 8] = [1, 2, 3, 6, 7, 8, 9, 10];
+const OF_READING: [u32; 10] = [1, 2, 3, 6, 7, 8, 9, 10, 15, 30];
 
 /// Things that must occur beside the refusals.
 #[derive(Clone, Copy, PartialEq, Eq, PartialOrd, Ord, Debug)]
@@ -23,14 +23,28 @@ pub enum Event {
     SameAtMarginZero,
     LineLacksCommonTip,
     SameAboveMarginZero,
-    KAboveLines,
+    KAbovePlacements,
     BestAboveQuick,
     BestOtherPlanSamePairs,
     PairsAbove16Bits,
     EveryPlanTried,
+    Counted,
+    SingleInVersion2,
+    MostPlacements,
+    Quantity255,
+    PairsAboveThoseOfLines,
+    FirstRoundByQuantities,
+    BestByQuantities,
+    PrunedAboveMarginZero,
+    SparedForQuantity,
+    KeptMoreThanCommon,
+    WrittenAsVersion1,
+    WrittenAsVersion2,
+    PassedBeforeLastLine,
+    BadLineAfterPassing,
 }
 
-const EVENTS: [(Event, &str); 14] = [
+const EVENTS: [(Event, &str); 28] = [
     (Event::RackOf1, "boards with rack 1"),
     (Event::RackOf64, "boards with rack 64"),
     (Event::NoLines, "boards without lines"),
@@ -39,12 +53,26 @@ const EVENTS: [(Event, &str); 14] = [
     (Event::PrunedAtMarginZero, "keep at margin 0, some line loses tips"),
     (Event::SameAtMarginZero, "keep at margin 0, no line changes"),
     (Event::LineLacksCommonTip, "keep at margin 0, a line has only some common tips"),
-    (Event::SameAboveMarginZero, "keep above margin 0"),
-    (Event::KAboveLines, "keep with k above the number of lines"),
+    (Event::SameAboveMarginZero, "keep above margin 0, no line changes"),
+    (Event::KAbovePlacements, "keep with k above the number of placements"),
     (Event::BestAboveQuick, "boards where best has more pairs than quick"),
     (Event::BestOtherPlanSamePairs, "boards where best has another plan of equal pairs"),
     (Event::PairsAbove16Bits, "boards where quick has more than 65,535 pairs"),
     (Event::EveryPlanTried, "boards solved by trying every plan"),
+    (Event::Counted, "boards whose quantities are not all 1"),
+    (Event::SingleInVersion2, "boards of quantities 1 in a file of version 2"),
+    (Event::MostPlacements, "boards with 2,048 placements"),
+    (Event::Quantity255, "boards with a quantity of 255"),
+    (Event::PairsAboveThoseOfLines, "boards where quick has more than 130,816 pairs"),
+    (Event::FirstRoundByQuantities, "boards where quick begins with another tip than with quantities 1"),
+    (Event::BestByQuantities, "boards where best has another plan than with quantities 1"),
+    (Event::PrunedAboveMarginZero, "keep above margin 0, some line loses tips"),
+    (Event::SparedForQuantity, "keep above margin 0, a line with fewer placements loses none"),
+    (Event::KeptMoreThanCommon, "keep above margin 0, a line that loses tips keeps others than common ones"),
+    (Event::WrittenAsVersion1, "keep writes version 1 for a file of version 2"),
+    (Event::WrittenAsVersion2, "keep writes version 2"),
+    (Event::PassedBeforeLastLine, "files with too many placements before the last line"),
+    (Event::BadLineAfterPassing, "files with too many placements before a bad line"),
 ];
 
 /// The counts of a run.
@@ -158,8 +186,8 @@ mod tests {
     fn what_never_occurred_is_missing() {
         let mut tally = Tally::default();
         let all = tally.missing().len();
-        // 0 and reading's 8 for 6 calls, 100 for 5, the short report; keep's 11, 26, quick's 4, best's 4, 5, 25.
-        assert_eq!(all, 6 * 9 + 5 + 1 + 6 + EVENTS.len());
+        // 0 and reading's 10 for 6 calls, 100 for 5, the short report; keep's 11, 26, quick's 4, best's 4, 5, 25.
+        assert_eq!(all, 6 * 11 + 5 + 1 + 6 + EVENTS.len());
         tally.count_call(25, 4);
         tally.count_event(Event::NoLines);
         assert_eq!(tally.missing().len(), all - 2);

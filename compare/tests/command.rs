@@ -39,6 +39,10 @@ fn one_file_is_compared() {
     std::fs::write(&path, "54495000 01030002\n0000000000000001\n0000000000000006\n").expect("writing the file");
     let (output, _, status) = run(&["--hex", path.to_str().expect("a plain path")]);
     assert!(output.ends_with(" calls, no difference\n") && status == 0, "{output}");
+    // The same lines with 2 and 3 placements.
+    std::fs::write(&path, "54495000 02030002\n0000000000000001 02\n0000000000000006 03\n").expect("writing the file");
+    let (output, _, status) = run(&["--hex", path.to_str().expect("a plain path")]);
+    assert!(output.ends_with(" calls, no difference\n") && status == 0, "{output}");
     std::fs::write(&path, "5").expect("writing the file");
     assert_eq!(run(&["--hex", path.to_str().expect("a plain path")]).2, 2);
 }

@@ -1,10 +1,17 @@
-//! A short comparison.
+//! A short comparison, and the limits on both sides of it.
 
 use compare::run::Run;
 
 #[test]
+fn limits_are_the_same() {
+    let of_library = [library::ANSWER_PLACES, library::REPORT_SPACE, library::LONGEST_FILE];
+    let of_second = [second::interface::ANSWER_PLACES, second::interface::REPORT_SPACE, second::LONGEST_FILE];
+    assert_eq!(of_library, of_second);
+}
+
+#[test]
 fn short_comparison_shows_no_difference() {
-    let mut run = Run::new(2, 60_000, None);
+    let mut run = Run::new(2, 80_000, None);
     if let Err(difference) = run.all() {
         panic!("{difference}");
     }

@@ -1,5 +1,5 @@
 /*
- * Calls each function of the tip sharing library on two boards.
+ * Calls each function of the tip sharing library on three boards.
  *
  * From the root of the repository, make example builds the library and this
  * program, and runs it. A program of your own is built the same way:
@@ -10,15 +10,18 @@
 
 #include "tipshare.h"
 
-/* Writes a job file to file, which must have 8 + 8 * lines bytes, and gives its length. */
-static size_t job_file(uint8_t *file, unsigned rack, unsigned lines, const uint64_t *sets)
+/*
+ * Writes a job file to file, and gives its length: of version 1 without quantities (NULL), 8 + 8 * lines bytes; of
+ * version 2 with one for each line, 8 + 9 * lines bytes.
+ */
+static size_t job_file(uint8_t *file, unsigned rack, unsigned lines, const uint64_t *sets, const uint8_t *quantities)
 {
     size_t length = 0;
     file[length++] = 'T';
     file[length++] = 'I';
     file[length++] = 'P';
     file[length++] = 0;
-    file[length++] = 1;
+    file[length++] = quantities == NULL ? 1 : 2;
     file[length++] = (uint8_t)rack;
     file[length++] = (uint8_t)(lines >> 8);
     file[length++] = (uint8_t)lines;
@@ -26,16 +29,25 @@ static size_t job_file(uint8_t *file, unsigned rack, unsigned lines, const uint6
         for (int shift = 56; shift >= 0; shift -= 8) {
             file[length++] = (uint8_t)(sets[line] >> shift);
         }
+        if (quantities != NULL) {
+            file[length++] = quantities[line];
+        }
     }
     return length;
 }
 
-/* The set of line i in a job file. */
+/* Where a line of a job file begins, which depends on the version. */
+static const uint8_t *line_of(const uint8_t *file, size_t line)
+{
+    return file + 8 + (file[4] == 1 ? 8 : 9) * line;
+}
+
+/* The set of a line of a job file. */
 static uint64_t set_of_line(const uint8_t *file, size_t line)
 {
     uint64_t set = 0;
     for (size_t byte = 0; byte < 8; byte++) {
-        set = set << 8 | file[8 + 8 * line + byte];
+        set = set << 8 | line_of(file, line)[byte];
     }
     return set;
 }
@@ -70,23 +82,29 @@ static const char *in_words(uint32_t number)
     case TIPSHARE_SHORT_TABLE: return "the table is too short";
     case TIPSHARE_SHORT_FILE: return "the file is shorter than 8 bytes";
     case TIPSHARE_WRONG_MARK: return "the file does not begin with TIP";
-    case TIPSHARE_WRONG_VERSION: return "the version is not 1";
+    case TIPSHARE_WRONG_VERSION: return "the version is neither 1 nor 2";
     case TIPSHARE_FILE_LINES: return "the file names more than 512 lines";
-    case TIPSHARE_FILE_LENGTH: return "the length does not fit the number of lines";
+    case TIPSHARE_FILE_LENGTH: return "the length does not fit the version and the number of lines";
     case TIPSHARE_SHORT_OUTPUT: return "the output is too short";
+    case TIPSHARE_ZERO_QUANTITY: return "the line has quantity 0";
     case TIPSHARE_NO_RUN: return "the line is no run";
     case TIPSHARE_NO_PLAN: return "no plan meets the bound";
+    case TIPSHARE_TOO_MANY_PLACEMENTS: return "the line brings the placements past 2048";
     case TIPSHARE_SHORT_ANSWER: return "the answer has fewer than 4 places";
     default: return "unknown number";
     }
 }
 
-/* Prints a refusal; the line in place only matters for 2, 3 and 25. */
+/* Prints a refusal; the line in place only matters for some. */
 static void print_refusal(const char *call, uint32_t number, uint64_t place)
 {
     printf("%s: refused %" PRIu32 ", %s", call, number, in_words(number));
-    if (number == TIPSHARE_EMPTY_LINE || number == TIPSHARE_TIP_OUTSIDE || number == TIPSHARE_NO_RUN) {
-        printf(" (line %" PRIu64 ")", place);
+    switch (number) {
+    case TIPSHARE_EMPTY_LINE:
+    case TIPSHARE_TIP_OUTSIDE:
+    case TIPSHARE_ZERO_QUANTITY:
+    case TIPSHARE_NO_RUN:
+    case TIPSHARE_TOO_MANY_PLACEMENTS: printf(" (line %" PRIu64 ")", place);
     }
     printf("\n");
 }
@@ -102,12 +120,12 @@ static void print_keep(const uint8_t *file, size_t file_len, uint16_t k)
         print_refusal("keep", number, answer[0]);
     } else {
         printf("keep within %u: margin %" PRId64 ", lines", (unsigned)k, (int64_t)answer[1]);
-        size_t lines = (size_t)((answer[2] - 8) / 8);
+        size_t lines = (size_t)out[6] << 8 | out[7];
         for (size_t line = 0; line < lines; line++) {
             printf(" ");
             print_set(set_of_line(out, line));
         }
-        printf("\n");
+        printf(" in version %u\n", (unsigned)out[4]);
     }
 }
 
@@ -176,14 +194,19 @@ int main(void)
 
     printf("Two lines, {0} and {1,2}, on a rack of 3 tips\n");
     const uint64_t two_lines[2] = {1u << 0, 1u << 1 | 1u << 2};
-    print_all(file, job_file(file, 3, 2, two_lines));
+    print_all(file, job_file(file, 3, 2, two_lines, NULL));
 
     printf("\nFour lines, {1,2,3}, {3..7}, {0..8} and {5,6}, on a rack of 9 tips\n");
     const uint64_t four_lines[4] = {0x00E, 0x0F8, 0x1FF, 0x060};
-    size_t length = job_file(file, 9, 4, four_lines);
+    size_t length = job_file(file, 9, 4, four_lines, NULL);
     print_all(file, length);
 
-    printf("\nRefused calls on the four lines\n");
+    printf("\nThe four lines for 1, 2, 3 and 2 placements\n");
+    const uint8_t quantities[4] = {1, 2, 3, 2};
+    length = job_file(file, 9, 4, four_lines, quantities);
+    print_all(file, length);
+
+    printf("\nRefused calls on these\n");
     uint8_t short_plan[3];
     uint32_t number = tipshare_quick(file, length, short_plan, sizeof short_plan, answer, TIPSHARE_ANSWER_PLACES);
     print_refusal("quick", number, answer[0]);
@@ -191,7 +214,10 @@ int main(void)
     print_refusal("read", number, answer[0]);
     number = tipshare_read(file, length, answer, 3);
     print_refusal("read", number, 0);
-    file[8 + 8 * 3 + 7] = 0;
+    file[8 + 9 * 3 + 8] = 0;
+    number = tipshare_read(file, length, answer, TIPSHARE_ANSWER_PLACES);
+    print_refusal("read", number, answer[0]);
+    file[8 + 9 * 3 + 7] = 0;
     number = tipshare_read(file, length, answer, TIPSHARE_ANSWER_PLACES);
     print_refusal("read", number, answer[0]);
     return 0;

@@ -6,12 +6,14 @@ use std::fmt;
 pub const ANSWER_PLACES: usize = 4;
 /// The bytes that a report needs lent.
 pub const REPORT_SPACE: usize = 16_384;
+/// The longest good job file: an output of keep that always does.
+pub const LONGEST_FILE: usize = 4_616;
 
 /// Why a call was refused.
 #[derive(Clone, Copy, PartialEq, Eq, Debug)]
 pub struct Refusal {
     pub number: u32,
-    /// The line that it is about, for 2, 3 and 25.
+    /// The line that it is about, for 2, 3, 15, 25 and 30.
     pub line: u64,
     /// How far the bound is missed, for 26.
     pub margin: i64,
@@ -20,7 +22,7 @@ pub struct Refusal {
 impl fmt::Display for Refusal {
     fn fmt(&self, to: &mut fmt::Formatter) -> fmt::Result {
         match self.number {
-            2 | 3 | 25 => write!(to, "refused {} at line {}", self.number, self.line),
+            2 | 3 | 15 | 25 | 30 => write!(to, "refused {} at line {}", self.number, self.line),
             26 => write!(to, "refused 26 with margin {}", self.margin),
             _ => write!(to, "refused {}", self.number),
         }
@@ -29,14 +31,14 @@ impl fmt::Display for Refusal {
 
 impl std::error::Error for Refusal {}
 
-/// What a job file names.
+/// What a job file of either version names.
 #[derive(Clone, Copy, PartialEq, Eq, Debug)]
 pub struct Job {
     pub rack: u64,
     pub lines: u64,
 }
 
-/// The tips that most lines can use.
+/// The tips that most placements can use.
 #[derive(Clone, Copy, PartialEq, Eq, Debug)]
 pub struct CommonTip {
     pub top: u64,
@@ -66,24 +68,24 @@ pub fn read(file: &[u8]) -> Result<Job, Refusal> {
     Ok(Job { rack: answer[1], lines: answer[2] })
 }
 
-/// Finds the tips that most lines can use.
+/// Finds the tips that most placements can use.
 pub fn common(file: &[u8]) -> Result<CommonTip, Refusal> {
     let answer = answer_of(|answer| on_slices::common(file, answer))?;
     Ok(CommonTip { top: answer[1], off: answer[2], tips: answer[3] })
 }
 
-/// Keeps within k and writes the kept board to out.
+/// Keeps within k and writes the kept board to out, as version 1 where every quantity is 1.
 pub fn keep(file: &[u8], k: u16, out: &mut [u8]) -> Result<Kept, Refusal> {
     let answer = answer_of(|answer| on_slices::keep(file, k, out, answer))?;
     Ok(Kept { margin: answer[1] as i64, bytes: answer[2] })
 }
 
-/// Plans by rounds; gives the number of pairs.
+/// Plans by rounds; gives the number of pairs of placements.
 pub fn quick(file: &[u8], plan: &mut [u8]) -> Result<u64, Refusal> {
     Ok(answer_of(|answer| on_slices::quick(file, plan, answer))?[1])
 }
 
-/// Plans runs with the most pairs; gives the number of pairs.
+/// Plans runs with the most pairs of placements; gives their number.
 pub fn best(file: &[u8], plan: &mut [u8], table: &mut [u32]) -> Result<u64, Refusal> {
     Ok(answer_of(|answer| on_slices::best(file, plan, table, answer))?[1])
 }

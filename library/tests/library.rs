@@ -1,9 +1,13 @@
 //! The linked library through its safe form.
 
-use library::{best, common, keep, quick, read, report, CommonTip, Job, Kept, Refusal};
+use library::{best, common, keep, quick, read, report, CommonTip, Job, Kept, Refusal, LONGEST_FILE};
 
 /// The example of the rules: rack 3, lines {0} and {1,2}.
 const EXAMPLE: [u8; 24] = *b"TIP\x00\x01\x03\x00\x02\x00\x00\x00\x00\x00\x00\x00\x01\x00\x00\x00\x00\x00\x00\x00\x06";
+
+/// The same lines with 2 and 3 placements, in version 2.
+const COUNTED: [u8; 26] =
+    *b"TIP\x00\x02\x03\x00\x02\x00\x00\x00\x00\x00\x00\x00\x01\x02\x00\x00\x00\x00\x00\x00\x00\x06\x03";
 
 fn refused(number: u32, line: u64, margin: i64) -> Refusal {
     Refusal { number, line, margin }
@@ -24,6 +28,49 @@ fn example_is_answered() {
     assert_eq!((plan, table), ([0, 1, 7], [0, 0, 0, 0, 0, 0, 0, 0, 0, 7]));
     let text = "lines 2 rack 3\noff 1 tips 0 1 2\nquick 0\nbest 0\nline 0 quick 0 best 0\nline 1 quick 1 best 1\n";
     assert_eq!(report(&EXAMPLE), text.as_bytes());
+}
+
+#[test]
+fn quantities_are_counted() {
+    assert_eq!(read(&COUNTED), Ok(Job { rack: 3, lines: 2 }));
+    assert_eq!(common(&COUNTED), Ok(CommonTip { top: 3, off: 2, tips: 0b110 }));
+    let mut out = [7; LONGEST_FILE];
+    assert_eq!(keep(&COUNTED, 2, &mut out), Ok(Kept { margin: 0, bytes: 26 }));
+    assert_eq!((&out[..26], out[26]), (&COUNTED[..], 7));
+    let mut plan = [7; 3];
+    assert_eq!(quick(&COUNTED, &mut plan), Ok(4));
+    assert_eq!(plan, [0, 1, 7]);
+    let mut table = [7; 10];
+    assert_eq!(best(&COUNTED, &mut plan, &mut table), Ok(4));
+    assert_eq!((plan, table), ([0, 1, 7], [1, 1, 4, 0, 0, 3, 0, 0, 0, 7]));
+    let text = "lines 2 rack 3\noff 2 tips 1 2\nquick 4\nbest 4\nline 0 quick 0 best 0\nline 1 quick 1 best 1\n";
+    assert_eq!(report(&COUNTED), text.as_bytes());
+}
+
+#[test]
+fn quantities_of_1_are_written_as_version_1() {
+    let mut file = COUNTED;
+    (file[16], file[25]) = (1, 1);
+    let mut out = [7; 25];
+    assert_eq!(keep(&file, 2, &mut out[..23]), Err(refused(11, 0, 0)));
+    assert_eq!(keep(&file, 2, &mut out), Ok(Kept { margin: 1, bytes: 24 }));
+    assert_eq!((&out[..24], out[24]), (&EXAMPLE[..], 7));
+}
+
+#[test]
+fn refusals_of_quantities_carry_the_line() {
+    let mut file = COUNTED;
+    file[25] = 0;
+    assert_eq!(read(&file), Err(refused(15, 1, 0)));
+    assert_eq!(report(&file), b"refused 15\n");
+    assert_eq!(refused(15, 1, 0).to_string(), "refused 15 at line 1");
+    let mut passing = COUNTED[..8].to_vec();
+    (passing[6], passing[7]) = (0, 10);
+    for _ in 0..10 {
+        passing.extend(b"\x00\x00\x00\x00\x00\x00\x00\x01\xFF");
+    }
+    assert_eq!(common(&passing), Err(refused(30, 8, 0)));
+    assert_eq!(refused(30, 8, 0).to_string(), "refused 30 at line 8");
 }
 
 #[test]

@@ -4,7 +4,7 @@ use std::io::{self, IsTerminal, Write};
 
 use parts::files::{of_standard_output, Input, Output};
 use parts::job::{has_mark, Job};
-use parts::list::{is_quantity, Fault, List};
+use parts::list::{Fault, List};
 use parts::planning::Named;
 
 /// The most faults of a list that are printed.
@@ -38,9 +38,6 @@ pub fn show(arguments: &[&str]) -> Result<(), Failure> {
 
 pub fn sort(arguments: &[&str]) -> Result<(), Failure> {
     let [column, path] = arguments else { return Err(Failure::Arguments) };
-    if is_quantity(column) {
-        return Err(Failure::Argument(format!("{column} is a quantity, and no list has one yet; name another column")));
-    }
     let list = list_of(path, &input_of(path)?.bytes)?;
     print(list.sorted_by(column).map_err(|faults| faulty(path, &faults))?.as_bytes())
 }

@@ -21,7 +21,8 @@ const COMMANDS: [Command; 6] = [
         name: "make",
         arguments: "LIST",
         does: "write the job file of a parts list to standard output",
-        more: "Line i of the job file, counted from 0, is part i of the list.\n\
+        more: "Line i of the job file, counted from 0, is part i of the list. The file is of version 1 where every\n\
+               part is placed once, and of version 2 where some quantity is not 1, as in R1 x10 : 0-1.\n\
                Example: parts make board.txt > board.job\n",
         options: &[],
         run: commands::make,
@@ -31,6 +32,7 @@ const COMMANDS: [Command; 6] = [
         arguments: "JOB",
         does: "print a job file as a parts list",
         more: "A job file has no names: each part is named by its line number, counted from 0.\n\
+               A quantity other than 1 stands behind it, as in 0 x10 : 0-1.\n\
                Example: parts show board.job > board.txt\n",
         options: &[],
         run: commands::show,
@@ -40,6 +42,7 @@ const COMMANDS: [Command; 6] = [
         arguments: "COLUMN LIST",
         does: "print a parts list sorted by a column, as height",
         more: "The lowest number comes first, and parts with equal numbers stay in their order.\n\
+               `parts sort quantity LIST` sorts by how often each part is placed.\n\
                Example: parts sort height board.txt > by-height.txt\n",
         options: &[],
         run: commands::sort,
@@ -47,10 +50,11 @@ const COMMANDS: [Command; 6] = [
     Command {
         name: "keep",
         arguments: "K FILE [JOB] [--list LIST]",
-        does: "print which parts lose tips when at most K parts may be off the most used tip,\n\
+        does: "print which parts lose tips when at most K placements are off the most used tip,\n\
                and write what is left as the job file JOB and as the parts list LIST",
-        more: "A tip is struck from a part where no plan within K has the part on that tip. The list written has the\n\
-               names, columns and comments of the list read; from a job file it has line numbers for names.\n\
+        more: "A tip is struck from a part where no plan within K has the part on that tip. A part has all its\n\
+               placements on one tip. The list written has the names, quantities, columns and comments of the list\n\
+               read; from a job file it has line numbers for names.\n\
                JOB and LIST replace files of their names, but never FILE.\n\
                Example: parts keep 3 board.txt --list kept.txt\n",
         options: &["--list"],
@@ -60,8 +64,9 @@ const COMMANDS: [Command; 6] = [
         name: "plan",
         arguments: "FILE",
         does: "print the quick and the best plan, part by part, and a summary of both",
-        more: "Quick takes every list. Best has the most pairs of all plans, a pair being two parts on one tip;\n\
+        more: "Quick takes every list. Best has the most pairs of all plans, a pair being two placements on one tip;\n\
                it takes lists in which each part has every tip between its lowest and its highest.\n\
+               A quantity other than 1 stands behind the name, as x10; the summary then counts parts and placements.\n\
                The summary counts tip changes for parts placed tip by tip: one less than the tips used.\n\
                Example: parts plan board.txt\n",
         options: &[],
@@ -71,7 +76,7 @@ const COMMANDS: [Command; 6] = [
         name: "picture",
         arguments: "FILE",
         does: "print a drawing of both plans, parts against tips, as SVG",
-        more: "The comment behind each part stands beside its name.\n\
+        more: "Beside the name of each part stand its quantity, where that is not 1, and the comment behind it.\n\
                Example: parts picture board.txt > board.svg\n",
         options: &[],
         run: commands::picture,

@@ -2,16 +2,16 @@
 
 use second::file::MARK;
 use second::Board;
+pub use second::Line;
 
 use crate::refusal::Refusal;
-use crate::tips_in_words;
+use crate::{quantity_in_words, tips_in_words};
 
 /// What a good job file holds.
 #[derive(Clone, PartialEq, Eq, Debug)]
 pub struct Job {
     pub rack: usize,
-    /// The tips of each line, bit t for tip t.
-    pub sets: Vec<u64>,
+    pub lines: Vec<Line>,
 }
 
 /// Whether the bytes are meant as a job file: no parts list begins with the mark.
@@ -20,25 +20,35 @@ pub fn has_mark(file: &[u8]) -> bool {
 }
 
 impl Job {
-    /// Reads a job file, and refuses it by the same numbers in the same order as the proved library.
+    /// Reads a job file of either version, and refuses it by the same numbers in the same order as the proved library.
     pub fn read(file: &[u8]) -> Result<Job, Refusal> {
         let answer = second::read(file);
         if answer.number != second::refusal::NONE {
             return Err(Refusal { number: answer.number, line: answer.place });
         }
-        Ok(Job { rack: answer.board.rack, sets: answer.board.lines().to_vec() })
+        Ok(Job { rack: answer.board.rack, lines: answer.board.lines().collect() })
     }
 
-    /// The bytes of the file; every line has a tip, and no tip outside the rack.
+    /// The bytes of the file, of version 1 where every quantity is 1; every line keeps the rules of a board.
     pub fn write(&self) -> Vec<u8> {
-        Board::of_lines(self.rack, &self.sets).file()
+        Board::of_lines(self.rack, &self.lines).file()
+    }
+
+    /// Whether every line stands for one placement.
+    pub fn is_single(&self) -> bool {
+        self.lines.iter().all(|line| line.quantity == 1)
+    }
+
+    /// The placements of all lines.
+    pub fn placements(&self) -> usize {
+        self.lines.iter().map(|line| usize::from(line.quantity)).sum()
     }
 
     /// The text of a parts list, each part named by its line number.
     pub fn in_words(&self) -> String {
         let mut text = format!("rack {}\n", self.rack);
-        for (line, &set) in self.sets.iter().enumerate() {
-            text += &format!("{line} : {}\n", tips_in_words(set));
+        for (number, line) in self.lines.iter().enumerate() {
+            text += &format!("{number}{} : {}\n", quantity_in_words(line.quantity), tips_in_words(line.set));
         }
         text
     }

@@ -7,7 +7,10 @@ pub mod picture;
 pub mod planning;
 pub mod refusal;
 
-pub use second::{MOST_LINES, MOST_TIPS};
+pub use second::{MOST_LINES, MOST_PLACEMENTS, MOST_TIPS};
+
+/// The largest quantity of a part.
+pub const MOST_QUANTITY: usize = u8::MAX as usize;
 
 /// A set of tips as numbers and ranges, rising, as `0 2 4-6`; `none` for the empty set.
 pub fn tips_in_words(set: u64) -> String {
@@ -29,6 +32,14 @@ pub fn tips_in_words(set: u64) -> String {
         words.push("none".into());
     }
     words.join(" ")
+}
+
+/// What stands behind a name for this quantity, as ` x10`; nothing for 1.
+fn quantity_in_words(quantity: u8) -> String {
+    match quantity {
+        1 => String::new(),
+        _ => format!(" x{quantity}"),
+    }
 }
 
 /// A number of things, as `1 pair` or `2 pairs`.

@@ -1,13 +1,13 @@
-//! Parts lists as text: `rack M` first, then one line a part, as `C1 height=0.9 : 0 2 4-6`, and `#` comments.
+//! Parts lists as text: `rack M` first, then one line a part, as `C1 x10 height=0.9 : 0 2 4-6`, and `#` comments.
 
 use std::cmp::Ordering;
 use std::collections::HashMap;
 use std::fmt;
 
-use crate::job::Job;
-use crate::{tips_in_words, MOST_LINES, MOST_TIPS};
+use crate::job::{Job, Line};
+use crate::{tips_in_words, MOST_LINES, MOST_PLACEMENTS, MOST_QUANTITY, MOST_TIPS};
 
-/// Columns that are meant as quantities, in capitals or not. `x` is none: it is where the part is placed.
+/// Words for the quantity, in capitals or not, which no column may have. `x` is none: it is where the part is placed.
 const QUANTITIES: [&str; 7] = ["qty", "quantity", "count", "amount", "pieces", "pcs", "n"];
 
 /// A parts list that keeps every rule.
@@ -25,6 +25,8 @@ pub struct List {
 #[derive(Clone, PartialEq, Debug)]
 pub struct Part {
     pub name: Option<String>,
+    /// How often it is placed, as `x10`; 1 where the list does not say.
+    pub quantity: u8,
     /// Numbers to sort by, as `height=0.9`.
     pub columns: Vec<(String, f64)>,
     /// The tips that can pick it, bit t for tip t.
@@ -59,7 +61,11 @@ pub enum What {
     ColumnName(String),
     ColumnValue(String),
     ColumnAgain(String),
-    Quantity(String),
+    QuantityColumn(String),
+    NoPlacement(String),
+    TooManyOfPart(String),
+    QuantityAgain(String),
+    TooManyPlacements(usize),
     NameAgain { name: String, line: usize },
     UnknownTip(String),
     RangeBackwards { first: String, last: String },
@@ -83,17 +89,31 @@ impl fmt::Display for What {
             What::RackAgain => write!(to, "a second rack; name it once, at the beginning of the list"),
             What::NoColon => write!(to, "no colon; write `NAME : TIPS`, or `: TIPS` without a name"),
             What::ColonAgain => write!(to, "a second colon; write one part a line"),
-            What::UnknownWord(word) => {
-                write!(to, "unknown word `{word}`; after the name write only columns, as height=0.9")
-            }
+            What::UnknownWord(word) => write!(
+                to,
+                "unknown word `{word}`; write the name first, then only a quantity, as x10, and columns, as height=0.9"
+            ),
             What::ColumnName(word) => write!(to, "no column name in `{word}`; write it as height=0.9"),
             What::ColumnValue(word) => write!(to, "no number in `{word}`; write it as height=0.9"),
             What::ColumnAgain(column) => write!(to, "a second {column}; give each column once"),
-            What::Quantity(word) => write!(
+            What::QuantityColumn(word) => {
+                write!(to, "`{word}` is a quantity; ")?;
+                match word.split_once('=').and_then(|(_, value)| number_of(value)) {
+                    Some(number @ 1..=MOST_QUANTITY) => write!(to, "write x{number} in its place"),
+                    _ => write!(to, "write x1 to x{MOST_QUANTITY} in its place"),
+                }
+            }
+            What::NoPlacement(word) => {
+                write!(to, "`{word}` is no placement at all; write x1 to x{MOST_QUANTITY}, or take the part out")
+            }
+            What::TooManyOfPart(word) => write!(
                 to,
-                "`{word}` is a quantity, and quantities are not read yet; \
-                 write the part once for each placement, each time with its own name"
+                "`{word}` is above x{MOST_QUANTITY}; write the rest as another part with the same tips and its own name"
             ),
+            What::QuantityAgain(word) => write!(to, "a second quantity `{word}`; give each part one"),
+            What::TooManyPlacements(total) => {
+                write!(to, "{total} placements with this part; a list has {MOST_PLACEMENTS} at most, split it")
+            }
             What::NameAgain { name, line } => {
                 write!(to, "the name {name} stands on line {line} already; give each part its own name")
             }
@@ -138,16 +158,17 @@ impl List {
 
     /// The job of this list, a line a part.
     pub fn job(&self) -> Job {
-        Job { rack: self.rack, sets: self.parts.iter().map(|part| part.tips).collect() }
+        let lines = self.parts.iter().map(|part| Line { set: part.tips, quantity: part.quantity }).collect();
+        Job { rack: self.rack, lines }
     }
 
-    /// The text of the list, sorted by a column; parts with equal numbers stay in their order.
+    /// The text of the list, sorted by a column or by the quantity; parts with equal numbers stay in their order.
     pub fn sorted_by(&self, column: &str) -> Result<String, Vec<Fault>> {
         let mut numbered = Vec::new();
         let mut faults = Vec::new();
         for part in &self.parts {
-            match part.columns.iter().find(|(name, _)| name == column) {
-                Some((_, number)) => numbered.push((number, part)),
+            match part.number_of(column) {
+                Some(number) => numbered.push((number, part)),
                 None => faults.push(Fault { line: part.line, what: What::NoColumn(column.into()) }),
             }
         }
@@ -158,9 +179,9 @@ impl List {
         Ok(self.text_with(numbered.iter().map(|(_, part)| part.with_tips(part.tips))))
     }
 
-    /// The text of the list with other tips, a set a part; names, columns and comments stay.
-    pub fn with_tips(&self, sets: &[u64]) -> String {
-        self.text_with(self.parts.iter().zip(sets).map(|(part, &tips)| part.with_tips(tips)))
+    /// The text of the list with the tips of these lines, a line a part; names, quantities, columns and comments stay.
+    pub fn with_tips(&self, lines: &[Line]) -> String {
+        self.text_with(self.parts.iter().zip(lines).map(|(part, line)| part.with_tips(line.set)))
     }
 
     /// The text of the list with these texts of parts.
@@ -173,6 +194,14 @@ impl Part {
     /// What stands behind the `#` of its line.
     pub fn comment(&self) -> &str {
         self.text.split_once('#').map_or("", |(_, comment)| comment.trim())
+    }
+
+    /// Its number to sort by: in a column, or its quantity by any word for it.
+    fn number_of(&self, column: &str) -> Option<f64> {
+        if is_quantity(column) {
+            return Some(self.quantity.into());
+        }
+        self.columns.iter().find(|(name, _)| name == column).map(|&(_, number)| number)
     }
 
     /// Its lines with these tips, and as they stand in the list where these are its own.
@@ -193,7 +222,7 @@ impl Part {
 }
 
 /// Whether a column of this name is meant as a quantity.
-pub fn is_quantity(column: &str) -> bool {
+fn is_quantity(column: &str) -> bool {
     QUANTITIES.iter().any(|name| name.eq_ignore_ascii_case(column))
 }
 
@@ -203,6 +232,8 @@ struct Reading {
     has_rack: bool,
     /// The parts so far, those with a fault too.
     count: usize,
+    /// The placements of the parts without a fault.
+    placements: usize,
     /// The line of each name.
     names: HashMap<String, usize>,
     /// The text below the last part.
@@ -213,7 +244,7 @@ impl Reading {
     fn new() -> Reading {
         // Until the rack is known, every tip that a rack can have is inside.
         let list = List { rack: MOST_TIPS, parts: Vec::new(), head: String::new(), tail: String::new() };
-        Reading { list, has_rack: false, count: 0, names: HashMap::new(), above: String::new() }
+        Reading { list, has_rack: false, count: 0, placements: 0, names: HashMap::new(), above: String::new() }
     }
 
     fn take(&mut self, line: usize, bytes: &[u8]) -> Result<(), What> {
@@ -239,6 +270,12 @@ impl Reading {
                 return Err(What::NameAgain { name: name.clone(), line });
             }
             self.names.insert(name.clone(), line);
+        }
+        let before = self.placements;
+        self.placements += usize::from(part.quantity);
+        // Only the first part to pass is told: it is where to split the list.
+        if before <= MOST_PLACEMENTS && self.placements > MOST_PLACEMENTS {
+            return Err(What::TooManyPlacements(self.placements));
         }
         if self.list.parts.is_empty() {
             // What stands above the first part stays on top when the list is sorted.
@@ -306,8 +343,19 @@ fn part_of(content: &str, rack: usize) -> Result<Part, What> {
         return Err(What::ColonAgain);
     }
     let mut name = None;
+    let mut quantity = None;
     let mut columns: Vec<(String, f64)> = Vec::new();
     for (place, word) in before.split_whitespace().enumerate() {
+        if let Some(number) = word.strip_prefix('x').and_then(number_of) {
+            if quantity.is_some() {
+                return Err(What::QuantityAgain(word.into()));
+            }
+            if number == 0 {
+                return Err(What::NoPlacement(word.into()));
+            }
+            quantity = Some(u8::try_from(number).map_err(|_| What::TooManyOfPart(word.into()))?);
+            continue;
+        }
         let Some((column, value)) = word.split_once('=') else {
             if place > 0 {
                 return Err(What::UnknownWord(word.into()));
@@ -319,7 +367,7 @@ fn part_of(content: &str, rack: usize) -> Result<Part, What> {
             return Err(What::ColumnName(word.into()));
         }
         if is_quantity(column) {
-            return Err(What::Quantity(word.into()));
+            return Err(What::QuantityColumn(word.into()));
         }
         if columns.iter().any(|(earlier, _)| earlier == column) {
             return Err(What::ColumnAgain(column.into()));
@@ -327,7 +375,8 @@ fn part_of(content: &str, rack: usize) -> Result<Part, What> {
         let number = decimal_of(value).ok_or_else(|| What::ColumnValue(word.into()))?;
         columns.push((column.into(), number));
     }
-    Ok(Part { name, columns, tips: tips_of(after, rack)?, line: 0, above: String::new(), text: String::new() })
+    let (tips, quantity) = (tips_of(after, rack)?, quantity.unwrap_or(1));
+    Ok(Part { name, quantity, columns, tips, line: 0, above: String::new(), text: String::new() })
 }
 
 fn tips_of(text: &str, rack: usize) -> Result<u64, What> {

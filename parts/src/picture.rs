@@ -77,6 +77,13 @@ impl Text {
         format!(r#"<text x="{x}" y="{y}" font-size="{size}" text-anchor="{anchor}""#)
             + &format!(r#" fill="{colour}" font-weight="{weight}">{words}</text>"#)
     }
+
+    /// A number, made smaller where it is wider than a cell: a digit is about 5/9 as wide as the size of its text.
+    fn in_cell(&self, x: usize, y: usize, number: usize) -> String {
+        let digits = number.to_string();
+        let size = self.size.min(CELL * 9 / 5 / digits.len());
+        Text { size, ..*self }.at(x, y, &digits)
+    }
 }
 
 fn escaped(words: &str) -> String {
@@ -97,10 +104,10 @@ fn row_top(row: usize) -> usize {
 
 /// One plan, or none: a column for each tip, a row for each part, and the sums below.
 fn panel(kind: Kind, left: usize, plans: &Plans, plan: Option<&Plan>) -> Vec<String> {
-    let (rack, sets) = (plans.job.rack, &plans.job.sets);
+    let (rack, lines) = (plans.job.rack, &plans.job.lines);
     let (name, colour) = (kind.name(), kind.colour());
     let middle = |tip: usize| left + CELL * tip + CELL / 2;
-    let bottom = row_top(sets.len());
+    let bottom = row_top(lines.len());
     let words = plan.map_or("none".into(), |plan| {
         format!("{} on {}", counted(plan.pairs, "pair"), counted(plan.tips_used(rack) as u64, "tip"))
     });
@@ -113,9 +120,9 @@ fn panel(kind: Kind, left: usize, plans: &Plans, plan: Option<&Plan>) -> Vec<Str
     for tip in 0..rack {
         drawn.push(strong.at(middle(tip), TOP - 12, &tip.to_string()));
     }
-    for (row, set) in sets.iter().enumerate() {
+    for (row, line) in lines.iter().enumerate() {
         let y = row_top(row);
-        drawn.extend((0..rack).filter(|tip| set >> tip & 1 == 1).map(|tip| allowed(left + CELL * tip, y)));
+        drawn.extend((0..rack).filter(|tip| line.set >> tip & 1 == 1).map(|tip| allowed(left + CELL * tip, y)));
         drawn.extend(plan.map(|plan| kind.mark(left + CELL * usize::from(plan.tips[row]), y)));
     }
     let right = left + CELL * rack;
@@ -124,14 +131,14 @@ fn panel(kind: Kind, left: usize, plans: &Plans, plan: Option<&Plan>) -> Vec<Str
         return drawn;
     };
     for tip in 0..rack {
-        let (x, count) = (middle(tip), plan.on_tip(tip));
+        let (x, count) = (middle(tip), plans.placements_on(plan, tip));
         if count == 0 {
             let nothing = Text { colour: GREY, ..number };
             drawn.push(nothing.at(x, bottom + 27, "–"));
             drawn.push(nothing.at(x, bottom + 50, "–"));
         } else {
-            drawn.push(number.at(x, bottom + 27, &count.to_string()));
-            drawn.push(Text { colour, ..strong }.at(x, bottom + 50, &(count * (count - 1) / 2).to_string()));
+            drawn.push(number.in_cell(x, bottom + 27, count));
+            drawn.push(Text { colour, ..strong }.in_cell(x, bottom + 50, count * (count - 1) / 2));
         }
     }
     drawn
@@ -141,8 +148,8 @@ impl Named {
     /// The drawing of the list and both plans.
     pub fn picture(&self) -> Result<String, String> {
         let plans = self.plans()?;
-        let rows = plans.job.sets.len();
-        let labels: Vec<String> = (0..rows).map(|line| self.label(line)).collect();
+        let rows = plans.job.lines.len();
+        let labels: Vec<String> = (0..rows).map(|line| self.label_in(&plans.job, line)).collect();
         let comments: Vec<&str> =
             (0..rows).map(|line| self.list.as_ref().map_or("", |list| list.parts[line].comment())).collect();
         let longest = |words: &mut dyn Iterator<Item = &str>| words.map(|word| word.chars().count()).max().unwrap_or(0);
@@ -174,7 +181,8 @@ impl Named {
             }
         }
         let sums = Text { anchor: "end", colour: GREY, ..small };
-        drawn.push(sums.at(first - 16, bottom + 27, "parts on the tip"));
+        let on_tip = if plans.job.is_single() { "parts on the tip" } else { "placements on the tip" };
+        drawn.push(sums.at(first - 16, bottom + 27, on_tip));
         drawn.push(sums.at(first - 16, bottom + 50, "pairs"));
         drawn.extend(panel(Kind::Quick, first, &plans, Some(&plans.quick)));
         drawn.extend(panel(Kind::Best, second, &plans, plans.best.as_ref().ok()));

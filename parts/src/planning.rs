@@ -6,7 +6,7 @@ use library::CommonTip;
 
 use crate::job::Job;
 use crate::list::List;
-use crate::{counted, refusal, tips_in_words};
+use crate::{counted, quantity_in_words, refusal, tips_in_words};
 
 /// A job file, and the parts list that it was made from, where there is one.
 pub struct Named {
@@ -21,7 +21,7 @@ pub struct Kept {
     pub list: String,
 }
 
-/// A tip for each line, and how many pairs of lines share one.
+/// A tip for each line, and how many pairs of placements share one.
 pub struct Plan {
     pub pairs: u64,
     pub tips: Vec<u8>,
@@ -47,6 +47,11 @@ impl Named {
         name.unwrap_or_else(|| format!("line {line}"))
     }
 
+    /// The name or number of a line, with its quantity where that is not 1.
+    pub fn label_in(&self, job: &Job, line: usize) -> String {
+        self.label(line) + &quantity_in_words(job.lines[line].quantity)
+    }
+
     fn refused(&self, refusal: library::Refusal) -> String {
         refusal::Refusal { number: refusal.number, line: refusal.line as usize }.in_words(&self.file)
     }
@@ -55,30 +60,31 @@ impl Named {
         library::common(&self.file).map_err(|refusal| self.refused(refusal))
     }
 
-    /// Strikes the tips that no plan with at most k lines off its most used tip has.
+    /// Strikes the tips that no plan with at most k placements off its most used tip has.
     pub fn keep(&self, k: u16) -> Result<Kept, String> {
         let common = self.common()?;
+        // What is left has the quantities of what was read, so that it is never longer.
         let mut file = vec![0; self.file.len()];
         let kept = library::keep(&self.file, k, &mut file).map_err(|refusal| match refusal.number {
             26 => without_plan(k, refusal.margin),
             _ => self.refused(refusal),
         })?;
         file.truncate(kept.bytes as usize);
-        let before = job_of(&self.file)?.sets;
+        let before = job_of(&self.file)?;
         let after = job_of(&file)?;
         let mut text = in_words(common);
         text += &format!("k {k} margin {}\n", kept.margin);
         let mut same = 0;
-        for (line, (&before, &after)) in before.iter().zip(&after.sets).enumerate() {
-            if before == after {
+        for (line, (had, has)) in before.lines.iter().zip(&after.lines).enumerate() {
+            if had == has {
                 same += 1;
                 continue;
             }
-            let struck = tips_in_words(before & !after);
-            text += &format!("{} keeps {} struck {struck}\n", self.label(line), tips_in_words(after));
+            let struck = tips_in_words(had.set & !has.set);
+            text += &format!("{} keeps {} struck {struck}\n", self.label_in(&before, line), tips_in_words(has.set));
         }
         text += &format!("no tip struck from {}\n", counted(same, "part"));
-        let list = self.list.as_ref().map_or_else(|| after.in_words(), |list| list.with_tips(&after.sets));
+        let list = self.list.as_ref().map_or_else(|| after.in_words(), |list| list.with_tips(&after.lines));
         Ok(Kept { text, file, list })
     }
 
@@ -86,10 +92,10 @@ impl Named {
     pub fn plans(&self) -> Result<Plans, String> {
         let common = self.common()?;
         let job = job_of(&self.file)?;
-        let mut tips = vec![0; job.sets.len()];
+        let mut tips = vec![0; job.lines.len()];
         let pairs = library::quick(&self.file, &mut tips).map_err(|refusal| self.refused(refusal))?;
         let quick = Plan { pairs, tips };
-        let mut tips = vec![0; job.sets.len()];
+        let mut tips = vec![0; job.lines.len()];
         let mut table = vec![0; job.rack * job.rack];
         let best = match library::best(&self.file, &mut tips, &mut table) {
             Ok(pairs) => Ok(Plan { pairs, tips }),
@@ -102,7 +108,7 @@ impl Named {
     /// Both plans line by line, and a summary.
     pub fn plan(&self) -> Result<String, String> {
         let plans = self.plans()?;
-        let lines = plans.job.sets.len();
+        let lines = plans.job.lines.len();
         let mut text = format!("lines {lines} rack {}\n{}", plans.job.rack, in_words(plans.common));
         text += &format!("quick {}\n", plans.quick.pairs);
         text += &match &plans.best {
@@ -110,7 +116,7 @@ impl Named {
             Err(line) => format!("best none, {} is no run\n", self.label(*line)),
         };
         for line in 0..lines {
-            text += &format!("{} {}\n", self.label(line), plans.each(|plan| plan.tips[line]));
+            text += &format!("{} {}\n", self.label_in(&plans.job, line), plans.each(|plan| plan.tips[line]));
         }
         Ok(text + "\n" + &plans.summary())
     }
@@ -135,14 +141,28 @@ impl Plans {
         format!("quick {} best {best}", of(&self.quick))
     }
 
-    /// Tips used, parts on each, pairs and tip changes.
+    /// The placements on a tip.
+    pub fn placements_on(&self, plan: &Plan, tip: usize) -> usize {
+        let on = self.job.lines.iter().zip(&plan.tips).filter(|(_, &used)| usize::from(used) == tip);
+        on.map(|(line, _)| usize::from(line.quantity)).sum()
+    }
+
+    /// Tips used, parts and placements on each, pairs and tip changes; without quantities they are the same.
     fn summary(&self) -> String {
         let rack = self.job.rack;
-        let mut text = format!("tips used {}\n", self.each(|plan| plan.tips_used(rack)));
+        let is_single = self.job.is_single();
+        let mut text = String::new();
+        if !is_single {
+            text += &format!("parts {} placements {}\n", self.job.lines.len(), self.job.placements());
+        }
+        text += &format!("tips used {}\n", self.each(|plan| plan.tips_used(rack)));
         for tip in 0..rack {
             let best = self.best.as_ref().map_or(0, |best| best.on_tip(tip));
             if self.quick.on_tip(tip) + best > 0 {
                 text += &format!("parts on tip {tip} {}\n", self.each(|plan| plan.on_tip(tip)));
+                if !is_single {
+                    text += &format!("placements on tip {tip} {}\n", self.each(|plan| self.placements_on(plan, tip)));
+                }
             }
         }
         text += &format!("pairs {}\n", self.each(|plan| plan.pairs));

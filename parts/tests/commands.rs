@@ -86,13 +86,36 @@ fn wrong_kinds_of_files_are_named() {
     assert!(output.is_empty() && why.starts_with("no-such-list: ") && status == 1, "{why}");
 }
 
+/// The list with a quantity, and its job file, which is of version 2.
+const TWICE: &str = "# board\nrack 3\nC1 x2 height=2 : 0\nC2 height=1 : 1-2\n";
+const TWICE_JOB: [u8; 26] =
+    *b"TIP\x00\x02\x03\x00\x02\x00\x00\x00\x00\x00\x00\x00\x01\x02\x00\x00\x00\x00\x00\x00\x00\x06\x01";
+
 #[test]
-fn quantities_are_refused() {
-    let why = "-:2: `qty=40` is a quantity, and quantities are not read yet; \
-               write the part once for each placement, each time with its own name";
-    assert_eq!(run(&["make", "-"], b"rack 2\nR1 qty=40 : 0-1\n"), refused(why));
-    let why = "Qty is a quantity, and no list has one yet; name another column";
-    assert_eq!(run(&["sort", "Qty", "-"], LIST.as_bytes()), wrong_argument(why));
+fn quantities_are_made_shown_sorted_and_planned() {
+    assert_eq!(run(&["make", "-"], TWICE.as_bytes()), given(&TWICE_JOB));
+    assert_eq!(run(&["show", "-"], &TWICE_JOB), given(b"rack 3\n0 x2 : 0\n1 : 1-2\n"));
+    let sorted = b"# board\nrack 3\nC2 height=1 : 1-2\nC1 x2 height=2 : 0\n";
+    for column in ["height", "quantity", "Qty"] {
+        assert_eq!(run(&["sort", column, "-"], TWICE.as_bytes()), given(sorted), "{column}");
+    }
+    let plan = "lines 2 rack 3\noff 1 tips 0\nquick 1\nbest 1\nC1 x2 quick 0 best 0\nC2 quick 1 best 1\n\n\
+                parts 2 placements 3\ntips used quick 2 best 2\nparts on tip 0 quick 1 best 1\n\
+                placements on tip 0 quick 2 best 2\nparts on tip 1 quick 1 best 1\n\
+                placements on tip 1 quick 1 best 1\npairs quick 1 best 1\n\
+                tip changes quick 1 best 1, parts placed tip by tip\n";
+    assert_eq!(run(&["plan", "-"], TWICE.as_bytes()), given(plan.as_bytes()));
+}
+
+#[test]
+fn wrong_quantities_name_file_and_line() {
+    let why = "-:2: `qty=40` is a quantity; write x40 in its place\n\
+               -:3: `x0` is no placement at all; write x1 to x255, or take the part out\n\
+               -:4: a second quantity `x3`; give each part one";
+    assert_eq!(run(&["make", "-"], b"rack 2\nR1 qty=40 : 0-1\nR2 x0 : 0\nR3 x2 x3 : 0\n"), refused(why));
+    let eight = "rack 2\n".to_string() + &"x255 : 0\n".repeat(8) + "R9 x9 : 0\n";
+    let why = "-:10: 2049 placements with this part; a list has 2048 at most, split it";
+    assert_eq!(run(&["plan", "-"], eight.as_bytes()), refused(why));
 }
 
 #[test]
@@ -262,6 +285,14 @@ fn keep_writes_the_job_file_and_the_list() {
         assert_eq!(names_in(&folder), ["list.txt"]);
         assert_eq!(fs::read_to_string(&list).unwrap(), BOARD);
     }
+    // Quantities stay in both forms, and a longer output of an earlier run is replaced whole.
+    fs::write(&job, [1; 5000]).unwrap();
+    let twice = BOARD.replace("A h=2", "A x2 h=2");
+    let printed = KEPT.replace("A keeps", "A x2 keeps");
+    let arguments = ["keep", "1", "-", &job, "--list", &kept];
+    assert_eq!(run(&arguments, twice.as_bytes()), given(printed.as_bytes()));
+    assert_eq!(run(&["show", &job], b""), given(b"rack 2\n0 x2 : 0\n1 : 0\n2 : 1\n3 : 0\n"));
+    assert_eq!(fs::read_to_string(&kept).unwrap(), kept_list.replace("A h=2", "A x2 h=2"));
     // From a job file the list has line numbers.
     assert_eq!(run(&["keep", "1", "-", "--list", &kept], &EXAMPLE).2, 0);
     assert_eq!(fs::read_to_string(&kept).unwrap(), "rack 3\n0 : 0\n1 : 1-2\n");

@@ -1,5 +1,6 @@
 //! The grammar of a parts list: what is read, every fault, and sorting.
 
+use parts::job::Line;
 use parts::list::{Fault, List, What};
 
 fn list(text: &str) -> List {
@@ -109,11 +110,72 @@ fn wrong_words_before_the_colon_are_named() {
 }
 
 #[test]
-fn quantities_are_refused_and_other_columns_are_not() {
+fn quantities_are_read_before_the_colon() {
+    let list = list(
+        "rack 2\nR1 x10 height=0.5 : 0-1\nR2 : 0\nx3 : 1\nR4 height=1 x255:0 # x9\nx1 height=2 : 0\nR6 x007 : 0\n\
+         X2 : 0\nx=2 : 0\nx : 0\nxtal2 : 0\n",
+    );
+    let parts: Vec<(Option<&str>, u8)> = list.parts.iter().map(|part| (part.name.as_deref(), part.quantity)).collect();
+    let expected = [
+        (Some("R1"), 10),
+        (Some("R2"), 1),
+        (None, 3),
+        (Some("R4"), 255),
+        (None, 1),
+        (Some("R6"), 7),
+        (Some("X2"), 1),
+        (None, 1),
+        (Some("x"), 1),
+        (Some("xtal2"), 1),
+    ];
+    assert_eq!(parts, expected);
+    assert_eq!(list.parts[0].columns, [("height".to_string(), 0.5)]);
+    assert_eq!(list.parts[7].columns, [("x".to_string(), 2.0)]);
+    assert_eq!(list.job().lines[3], Line { set: 1, quantity: 255 });
+}
+
+#[test]
+fn wrong_quantities_are_named() {
+    for word in ["x0", "x00"] {
+        assert_eq!(fault_of(&format!("R1 {word} : 1")), What::NoPlacement(word.into()));
+    }
+    for word in ["x256", "x257", "x512", "x65537", "x99999999999999999999999"] {
+        assert_eq!(fault_of(&format!("R1 height=1 {word} : 1")), What::TooManyOfPart(word.into()));
+    }
+    for word in ["x3", "x10", "x0", "x256"] {
+        assert_eq!(fault_of(&format!("R1 x10 height=1 {word} : 1")), What::QuantityAgain(word.into()));
+        assert_eq!(fault_of(&format!("x10 {word} : 1")), What::QuantityAgain(word.into()));
+    }
+    for word in ["X10", "10x", "x", "10", "x1.5", "x-1", "x+1", "×10", "x10,"] {
+        assert_eq!(fault_of(&format!("R1 {word} : 1")), What::UnknownWord(word.into()));
+    }
+    assert_eq!(fault_of("x10 R1 : 1"), What::UnknownWord("R1".into()));
+    assert_eq!(fault_of("R1 : x10"), What::UnknownTip("x10".into()));
+}
+
+#[test]
+fn placements_2048_are_read_and_2049_are_not() {
+    let eight = "rack 2\n".to_string() + &"x255 : 0\n".repeat(8);
+    let total = |text: &str| list(text).job().placements();
+    assert_eq!((total(&eight), total(&(eight.clone() + "x8 : 0\n"))), (2040, 2048));
+    assert_eq!(only_fault((eight.clone() + "x9 : 0\n").as_bytes()), (10, What::TooManyPlacements(2049)));
+    // Only the first part to pass is told, whatever follows.
+    let more = eight.clone() + "\nx8 : 0\nx5 : 0\n: 1\nx255 : 1\n";
+    assert_eq!(only_fault(more.as_bytes()), (12, What::TooManyPlacements(2053)));
+    // A part with a fault of its own places nothing yet.
+    let faulty = eight.replacen("x255 : 0", "x255 : 2", 1) + "x255 : 0\nx9 : 0\n";
+    let outside = What::TipOutside { tip: "2".into(), rack: 2 };
+    let expected = [Fault { line: 2, what: outside }, Fault { line: 11, what: What::TooManyPlacements(2049) }];
+    assert_eq!(faults(faulty.as_bytes()), expected);
+    assert_eq!(total(&("rack 64\n".to_string() + &"x4 : 0\n".repeat(512))), 2048);
+}
+
+#[test]
+fn columns_called_quantities_are_refused_and_others_are_not() {
     for column in ["qty", "Qty", "QTY", "quantity", "count", "amount", "pieces", "pcs", "n", "N"] {
         for value in ["40", "1", "many"] {
             let word = format!("{column}={value}");
-            assert_eq!(fault_of(&format!("R1 height=1 {word} : 0-1")), What::Quantity(word));
+            assert_eq!(fault_of(&format!("R1 height=1 {word} : 0-1")), What::QuantityColumn(word));
         }
     }
     let columns = ["x", "y", "pin", "no", "counter", "nn", "height"];
@@ -191,15 +253,25 @@ fn every_fault_says_what_to_do() {
         (What::RackAgain, "a second rack; name it once, at the beginning of the list"),
         (What::NoColon, "no colon; write `NAME : TIPS`, or `: TIPS` without a name"),
         (What::ColonAgain, "a second colon; write one part a line"),
-        (What::UnknownWord(name()), "unknown word `x`; after the name write only columns, as height=0.9"),
+        (
+            What::UnknownWord(name()),
+            "unknown word `x`; write the name first, then only a quantity, as x10, and columns, as height=0.9",
+        ),
         (What::ColumnName("=1".into()), "no column name in `=1`; write it as height=0.9"),
         (What::ColumnValue("height=x".into()), "no number in `height=x`; write it as height=0.9"),
         (What::ColumnAgain(name()), "a second x; give each column once"),
+        (What::QuantityColumn("qty=40".into()), "`qty=40` is a quantity; write x40 in its place"),
+        (What::QuantityColumn("Pcs=255".into()), "`Pcs=255` is a quantity; write x255 in its place"),
+        (What::QuantityColumn("qty=0".into()), "`qty=0` is a quantity; write x1 to x255 in its place"),
+        (What::QuantityColumn("n=256".into()), "`n=256` is a quantity; write x1 to x255 in its place"),
+        (What::QuantityColumn("qty=many".into()), "`qty=many` is a quantity; write x1 to x255 in its place"),
+        (What::NoPlacement("x0".into()), "`x0` is no placement at all; write x1 to x255, or take the part out"),
         (
-            What::Quantity("qty=40".into()),
-            "`qty=40` is a quantity, and quantities are not read yet; write the part once for each placement, \
-             each time with its own name",
+            What::TooManyOfPart("x256".into()),
+            "`x256` is above x255; write the rest as another part with the same tips and its own name",
         ),
+        (What::QuantityAgain("x3".into()), "a second quantity `x3`; give each part one"),
+        (What::TooManyPlacements(2049), "2049 placements with this part; a list has 2048 at most, split it"),
         (What::NameAgain { name: name(), line: 7 }, "the name x stands on line 7 already; give each part its own name"),
         (
             What::UnknownTip(name()),
@@ -239,6 +311,18 @@ fn equal_numbers_keep_their_order() {
     assert_eq!(names(&list(text).sorted_by("p").unwrap()), ["B", "D", "A", "C"]);
 }
 
+#[test]
+fn parts_are_sorted_by_their_quantity() {
+    let text = "rack 1\nA x10 h=1 : 0\nB : 0 # one\nC x2 : 0\nD h=1 x10 : 0\nE x1 : 0\n";
+    let sorted = "rack 1\nB : 0 # one\nE x1 : 0\nC x2 : 0\nA x10 h=1 : 0\nD h=1 x10 : 0\n";
+    for column in ["quantity", "Qty", "count", "n"] {
+        assert_eq!(list(text).sorted_by(column), Ok(sorted.into()), "{column}");
+    }
+    // Another column takes the quantities along.
+    let text = "rack 1\nA x10 h=2 : 0\nB h=1 x3 : 0\n";
+    assert_eq!(list(text).sorted_by("h"), Ok("rack 1\nB h=1 x3 : 0\nA x10 h=2 : 0\n".into()));
+}
+
 fn names(text: &str) -> Vec<String> {
     list(text).parts.into_iter().filter_map(|part| part.name).collect()
 }
@@ -253,16 +337,16 @@ fn sorting_changes_the_order_alone() {
 #[test]
 fn other_tips_leave_the_rest_of_the_list() {
     let text =
-        "# top\nrack 9 # nine\n\nA h=1 :  1-3   # a: comment\n# above B\nB:0 1 2#b\n: 4-6\t\nC : 0-8 # 5\n# end\n";
+        "# top\nrack 9 # nine\n\nA x2 h=1 :  1-3   # a: comment\n# above B\nB:0 1 2#b\n: 4-6\t\nC : 0-8 # 5\n# end\n";
     // A's comment stays in its column, C's moves on.
     let other =
-        "# top\nrack 9 # nine\n\nA h=1 :  2     # a: comment\n# above B\nB:0 1 2#b\n: 4 6\nC : 3 5-6 # 5\n# end\n";
-    assert_eq!(list(text).with_tips(&[0b100, 0b111, 0b101_0000, 0b110_1000]), other);
-    let own: Vec<u64> = list(text).parts.iter().map(|part| part.tips).collect();
-    assert_eq!(list(text).with_tips(&own), text);
+        "# top\nrack 9 # nine\n\nA x2 h=1 :  2     # a: comment\n# above B\nB:0 1 2#b\n: 4 6\nC : 3 5-6 # 5\n# end\n";
+    let single = |set| Line { set, quantity: 1 };
+    assert_eq!(list(text).with_tips(&[0b100, 0b111, 0b101_0000, 0b110_1000].map(single)), other);
+    assert_eq!(list(text).with_tips(&list(text).job().lines), text);
     // Longer words take the spaces before the comment, but for one.
     for (written, other) in [("0-8   # c", "3 5-6 # c"), ("0-8# c", "3 5-6 # c"), ("0-8     # c", "3 5-6   # c")] {
-        let text = list(&format!("rack 9\nA : {written}\n")).with_tips(&[0b110_1000]);
+        let text = list(&format!("rack 9\nA : {written}\n")).with_tips(&[single(0b110_1000)]);
         assert_eq!(text, format!("rack 9\nA : {other}\n"));
     }
 }

@@ -43,6 +43,30 @@ fn every_part_has_its_tips_and_its_marks() {
 }
 
 #[test]
+fn quantities_stand_behind_the_names_and_placements_below() {
+    // Both plans put A and B on tip 0: 13 placements and 78 pairs; C is alone on tip 2.
+    let drawn = picture("rack 3\nA x10 : 0\nB x3 : 0-1 # both\nC : 2\n");
+    assert_eq!((count(&drawn, ">A x10</text>"), count(&drawn, ">B x3</text>"), count(&drawn, ">C</text>")), (1, 1, 1));
+    assert_eq!(count(&drawn, "</tspan> 78 pairs on 2 tips</text>"), 2);
+    assert_eq!((count(&drawn, ">placements on the tip</text>"), count(&drawn, ">parts on the tip</text>")), (1, 0));
+    assert_eq!((count(&drawn, ">13</text>"), count(&drawn, ">78</text>")), (2, 2));
+    let without = picture("rack 3\nA : 0\nB x1 : 0-1 # both\nC : 2\n");
+    assert_eq!((count(&without, ">placements on the tip</text>"), count(&without, ">parts on the tip</text>")), (0, 1));
+}
+
+#[test]
+fn large_numbers_are_as_wide_as_their_cell() {
+    let drawn = picture(&("rack 2\nB x140 : 1\n".to_string() + &"x255 : 0\n".repeat(7)));
+    // 140 and 1785 placements and 9730 pairs at full size, 1592220 pairs in smaller letters.
+    for (number, size) in [("140", 15), ("1785", 15), ("9730", 15), ("1592220", 9)] {
+        let words = format!(" font-size=\"{size}\" text-anchor=\"middle\"");
+        let lines: Vec<&str> = drawn.lines().filter(|line| line.ends_with(&format!(">{number}</text>"))).collect();
+        assert_eq!(lines.len(), 2, "{number}");
+        assert!(lines.iter().all(|line| line.contains(&words)), "{lines:?}");
+    }
+}
+
+#[test]
 fn list_without_a_best_plan_has_the_quick_one_alone() {
     let picture = picture("rack 3\nA : 1\nB : 0 2\n");
     assert_eq!(count(&picture, "best:</tspan> none</text>"), 1);

@@ -39,6 +39,42 @@ fn keep_above_margin_0_strikes_nothing() {
 }
 
 #[test]
+fn keep_above_margin_0_strikes_where_the_quantity_is_larger() {
+    // B1 with quantities: of 8 placements tips 5 and 6 can take 7, tip 3 can take 6, and tips 4 and 7 can take 5.
+    let board = named("rack 9\nA : 1-3\nB x2 : 3-7\nx3 : 0-8\nD x2 : 5-6\n");
+    // Within 2, tips 3, 5 and 6 can be the most used one; a line of 2 or 3 that has all of them must be on one.
+    let kept = board.keep(2).unwrap();
+    let text = "off 1 tips 5 6\nk 2 margin 1\nB x2 keeps 3 5-6 struck 4 7\n\
+                line 2 x3 keeps 3 5-6 struck 0-2 4 7-8\nno tip struck from 2 parts\n";
+    assert_eq!(kept.text, text);
+    assert_eq!(kept.list, "rack 9\nA : 1-3\nB x2 : 3 5-6\nx3 : 3 5-6\nD x2 : 5-6\n");
+    assert_eq!(named(&kept.list).file, kept.file);
+    let without_names = Named { file: board.file.clone(), list: None }.keep(2).unwrap();
+    assert_eq!(without_names.list, "rack 9\n0 : 1-3\n1 x2 : 3 5-6\n2 x3 : 3 5-6\n3 x2 : 5-6\n");
+    // Within 3 only the line of 3 is struck, tips 4 and 7 being common too; within 4 none is.
+    let text = "off 1 tips 5 6\nk 3 margin 2\nline 2 x3 keeps 3-7 struck 0-2 8\nno tip struck from 3 parts\n";
+    assert_eq!(board.keep(3).unwrap().text, text);
+    assert_eq!(board.keep(4).unwrap().text, "off 1 tips 5 6\nk 4 margin 3\nno tip struck from 4 parts\n");
+    let why = "refused 26: margin -1, no plan is within k 0; the least k is 1";
+    assert_eq!(board.keep(0).err(), Some(why.into()));
+}
+
+#[test]
+fn quantities_of_1_are_kept_as_version_1() {
+    let plain = named(FIGURE);
+    let job = Job::read(&plain.file).unwrap();
+    let mut file = [b"TIP\x00\x02", &plain.file[5..8]].concat();
+    for line in &job.lines {
+        file.extend([&line.set.to_be_bytes()[..], &[1]].concat());
+    }
+    let longer = Named { file, list: None };
+    for k in [1, 2] {
+        assert_eq!(longer.keep(k).unwrap().file, plain.keep(k).unwrap().file);
+    }
+    assert!(longer.plan().unwrap().contains("\nline 3 quick 5 best 5\n\ntips used "));
+}
+
+#[test]
 fn keep_below_margin_0_is_refused() {
     let why = named(FIGURE).keep(0).err().unwrap();
     assert_eq!(why, "refused 26: margin -1, no plan is within k 0; the least k is 1");
@@ -69,6 +105,35 @@ fn plan_names_the_line_that_is_no_run() {
          tips used quick 3 best -\nparts on tip 0 quick 2 best -\nparts on tip 1 quick 1 best -\n\
          parts on tip 2 quick 1 best -\npairs quick 1 best -\ntip changes quick 2 best -, parts placed tip by tip\n";
     assert_eq!(named("rack 3\nA : 1\nB : 2\nC : 0-1\nD : 0 2\n").plan(), Ok(text.into()));
+}
+
+#[test]
+fn plan_counts_parts_and_placements() {
+    // Without the quantities quick begins with tip 1, which can pick B, C and D; with them tip 0 takes A and B first.
+    let text = "lines 4 rack 3\noff 2 tips 0\nquick 79\nbest 79\nA x10 quick 0 best 0\nB x3 quick 0 best 0\n\
+                C quick 1 best 1\nline 3 quick 1 best 1\n\n\
+                parts 4 placements 15\ntips used quick 2 best 2\nparts on tip 0 quick 2 best 2\n\
+                placements on tip 0 quick 13 best 13\nparts on tip 1 quick 2 best 2\n\
+                placements on tip 1 quick 2 best 2\npairs quick 79 best 79\n\
+                tip changes quick 1 best 1, parts placed tip by tip\n";
+    let board = "rack 3\nA x10 : 0\nB x3 : 0-1\nC : 1-2\n: 1\n";
+    assert_eq!(named(board).plan(), Ok(text.into()));
+    let without = named(&board.replace(" x10", "").replace(" x3", "")).plan().unwrap();
+    assert!(without.contains("\nB quick 1 best 1\n") && !without.contains("placements"), "{without}");
+}
+
+#[test]
+fn most_placements_on_one_tip_are_planned() {
+    let text = "lines 1 rack 1\noff 0 tips 0\nquick 32385\nbest 32385\nA x255 quick 0 best 0\n\n\
+                parts 1 placements 255\ntips used quick 1 best 1\nparts on tip 0 quick 1 best 1\n\
+                placements on tip 0 quick 255 best 255\npairs quick 32385 best 32385\n\
+                tip changes quick 0 best 0, parts placed tip by tip\n";
+    assert_eq!(named("rack 1\nA x255 : 0\n").plan(), Ok(text.into()));
+    let most = "rack 64\n".to_string() + &"x255 : 0-63\n".repeat(8) + "x8 : 5\n";
+    let summary = "parts 9 placements 2048\ntips used quick 1 best 1\nparts on tip 5 quick 9 best 9\n\
+                   placements on tip 5 quick 2048 best 2048\npairs quick 2096128 best 2096128\n\
+                   tip changes quick 0 best 0, parts placed tip by tip\n";
+    assert_eq!(summary_of(&most), summary);
 }
 
 /// What stands below the empty line of a plan.

@@ -6,37 +6,35 @@ use crate::refusal;
 /// The answer of the common-tip call.
 #[derive(Clone, Copy, PartialEq, Eq, Debug, Default)]
 pub struct CommonTip {
-    /// The largest number of lines that one tip can take.
+    /// The largest number of placements that one tip can take.
     pub top: usize,
-    /// The least number of lines off the common tip.
+    /// The least number of placements off the common tip.
     pub off: usize,
-    /// The tips that can take that largest number of lines.
+    /// The tips that can take that largest number of placements.
     pub tips: u64,
 }
 
-/// For each tip the number of lines whose set has it.
-fn occurrences(board: &Board) -> [usize; MOST_TIPS] {
+/// For each tip the number of placements whose set has it.
+fn occurrences(placements: &[u64]) -> [usize; MOST_TIPS] {
     let mut occurrences = [0; MOST_TIPS];
-    for tip in 0..board.rack {
-        for &set in board.lines() {
-            if has(set, tip) {
-                occurrences[tip] += 1;
-            }
+    for tip in 0..MOST_TIPS {
+        for &set in placements {
+            occurrences[tip] += usize::from(has(set, tip));
         }
     }
     occurrences
 }
 
-/// Whether some plan within k puts the line on the tip.
-fn is_supported(board: &Board, occurrences: &[usize; MOST_TIPS], k: u16, line: usize, tip: usize) -> bool {
+/// Whether some plan with at least this many placements on one tip puts the line on the given tip.
+fn is_supported(board: &Board, occurrences: &[usize; MOST_TIPS], needed: usize, line: usize, tip: usize) -> bool {
     let set = board.sets[line];
     for common in 0..board.rack {
         // The best plan for this common tip puts every line on it that can be there and is not bound to the other tip.
         let mut on = occurrences[common];
         if has(set, common) && common != tip {
-            on -= 1;
+            on -= usize::from(board.quantities[line]);
         }
-        if board.count - on <= usize::from(k) {
+        if on >= needed {
             return true;
         }
     }
@@ -44,13 +42,14 @@ fn is_supported(board: &Board, occurrences: &[usize; MOST_TIPS], k: u16, line: u
 }
 
 impl Board {
-    /// The largest occurrence, the least number of lines off the common tip, and the tips that attain it.
+    /// The largest occurrence, the least number of placements off the common tip, and the tips that attain it.
     pub fn common_tip(self) -> Answer<CommonTip> {
         let (number, place) = self.refusal_in(Stage::Closed);
         if number != refusal::NONE {
             return Answer::refused_at(self, number, place);
         }
-        let occurrences = occurrences(&self);
+        let placements = self.placements();
+        let occurrences = occurrences(&placements);
         let mut top = 0;
         for tip in 0..self.rack {
             if occurrences[tip] > top {
@@ -64,7 +63,7 @@ impl Board {
                 tips |= 1 << tip;
             }
         }
-        let off = self.count - top;
+        let off = placements.len() - top;
         Answer::accepted(self, CommonTip { top, off, tips })
     }
 
@@ -74,16 +73,18 @@ impl Board {
         if number != refusal::NONE {
             return Answer::refused_at(self, number, place);
         }
-        let occurrences = occurrences(&self);
+        let placements = self.placements();
+        let occurrences = occurrences(&placements);
         let top = *occurrences.iter().max().unwrap();
-        let margin = top as i64 - self.count as i64 + i64::from(k);
+        let margin = top as i64 - placements.len() as i64 + i64::from(k);
         if margin < 0 {
             return Answer { board: self, number: refusal::NO_PLAN, place: 0, value: margin };
         }
+        let needed = placements.len().saturating_sub(k.into());
         let mut kept = self.clone();
         for line in 0..self.count {
             for tip in 0..self.rack {
-                if has(self.sets[line], tip) && !is_supported(&self, &occurrences, k, line, tip) {
+                if has(self.sets[line], tip) && !is_supported(&self, &occurrences, needed, line, tip) {
                     kept.sets[line] &= !(1 << tip);
                 }
             }

@@ -1,7 +1,7 @@
 //! Tip sharing in plain loops: the second implementation, written from the rules alone.
 //!
-//! A line of a parts list has a set of tips that can pick its part, bit t for tip t.
-//! Every call takes a board and hands one back in its answer.
+//! A line of a parts list has a set of tips that can pick its part, bit t for tip t, and stands for so many placements
+//! as its quantity says, all on one tip. Every call takes a board and hands one back in its answer.
 
 mod board;
 mod common;
@@ -13,9 +13,9 @@ pub mod file;
 pub mod interface;
 pub mod refusal;
 
-pub use board::{Answer, Board, Stage, MOST_LINES, MOST_TIPS};
+pub use board::{Answer, Board, Line, Stage, MOST_LINES, MOST_PLACEMENTS, MOST_TIPS};
 pub use common::CommonTip;
-pub use file::{read, LONGEST_FILE};
+pub use file::{read, Version, LONGEST_FILE};
 pub use report::{report, LONGEST_INPUT};
 pub use sharing::pairs_in;
 pub use trying::{number_of_plans, try_every_plan, Tried};

@@ -17,14 +17,16 @@ pub const SHORT_TABLE: u32 = 5;
 pub const SHORT_FILE: u32 = 6;
 /// The file's mark is not TIP.
 pub const WRONG_MARK: u32 = 7;
-/// The file's version is not 1.
+/// The file's version is neither 1 nor 2.
 pub const WRONG_VERSION: u32 = 8;
 /// The file's number of lines is above 512.
 pub const FILE_LINES: u32 = 9;
-/// The file's length is not the one for its number of lines.
+/// The file's length is not the one for its version and number of lines.
 pub const FILE_LENGTH: u32 = 10;
-/// The output for a file is too short.
+/// The output is too short for the file in the version that is written.
 pub const SHORT_OUTPUT: u32 = 11;
+/// A line's quantity is 0.
+pub const ZERO_QUANTITY: u32 = 15;
 
 /// The board's rack size or number of lines is out of range.
 pub const OUT_OF_RANGE: u32 = 21;
@@ -38,10 +40,12 @@ pub const FULL: u32 = 24;
 pub const NO_RUN: u32 = 25;
 /// Keep, and the margin is below zero.
 pub const NO_PLAN: u32 = 26;
-/// A line of the board has no tip, or one outside the rack.
+/// A line of the board has no tip, one outside the rack, quantity 0, or passes 2,048 placements.
 pub const BAD_LINE: u32 = 27;
-/// A set after the last line of the board is not empty.
-pub const SET_LEFT: u32 = 28;
+/// After the last line of the board a set is not empty or a quantity not 0.
+pub const LEFT_OVER: u32 = 28;
+/// The lines stand for more than 2,048 placements.
+pub const TOO_MANY_PLACEMENTS: u32 = 30;
 
 /// The answer of a call of the C interface has fewer than 4 places.
 pub const SHORT_ANSWER: u32 = 100;

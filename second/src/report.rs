@@ -9,7 +9,7 @@ use crate::refusal;
 /// The most bytes that the program takes, one more than the longest good file.
 pub const LONGEST_INPUT: usize = LONGEST_FILE + 1;
 
-/// The report for a file, of which only the first 4,105 bytes count.
+/// The report for a file, of which only the first 4,617 bytes count.
 pub fn report(file: &[u8]) -> Vec<u8> {
     let taken = &file[..file.len().min(LONGEST_INPUT)];
     let mut text = Vec::new();

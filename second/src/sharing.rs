@@ -1,15 +1,16 @@
 //! Quick sharing by rounds, and best sharing of runs.
 
-use crate::board::{has, Answer, Board, Stage, MOST_TIPS};
+use crate::board::{has, Answer, Board, Line, Stage, MOST_TIPS};
 use crate::refusal;
 
-/// The number of pairs in a plan: two different lines on one tip, counted once.
-pub fn pairs_in(plan: &[u8]) -> u32 {
+/// The number of pairs when placements are on these tips: two different ones on one tip, counted once.
+pub fn pairs_in(placed: &[u8]) -> u32 {
     let mut pairs = 0;
-    for (line, tip) in plan.iter().enumerate() {
-        for other in &plan[..line] {
-            pairs += u32::from(other == tip);
-        }
+    let mut earlier = [0; 256];
+    for &tip in placed {
+        // A placement makes a pair with every earlier one on its tip.
+        pairs += earlier[usize::from(tip)];
+        earlier[usize::from(tip)] += 1;
     }
     pairs
 }
@@ -38,29 +39,32 @@ fn tips_from_to(first: usize, last: usize) -> u64 {
     set
 }
 
-/// The number of lines lying within the stretch that allow the tip.
-fn lines_taken(board: &Board, stretch: u64, tip: usize) -> u32 {
-    let mut taken = 0;
-    for &set in board.lines() {
-        taken += u32::from(set & !stretch == 0 && has(set, tip));
-    }
-    taken
+/// The lines lying within the stretch a to b.
+fn lines_within(board: &Board, a: usize, b: usize) -> Vec<Line> {
+    let stretch = tips_from_to(a, b);
+    board.lines().filter(|line| line.set & !stretch == 0).collect()
 }
 
 /// The pairs of a stretch when its tip c is chosen: those on c and the most of the two stretches beside it.
-fn pairs_choosing(board: &Board, table: &[u32], a: usize, b: usize, stretch: u64, c: usize) -> u32 {
-    let taken = lines_taken(board, stretch, c);
+fn pairs_choosing(within: &[Line], table: &[u32], rack: usize, a: usize, b: usize, c: usize) -> u32 {
+    let mut taken = 0;
+    for line in within {
+        if has(line.set, c) {
+            taken += u32::from(line.quantity);
+        }
+    }
     let on_tip = if taken == 0 { 0 } else { taken * (taken - 1) / 2 };
-    let below = if c > a { table[a * board.rack + c - 1] } else { 0 };
-    let above = if c < b { table[(c + 1) * board.rack + b] } else { 0 };
+    let below = if c > a { table[a * rack + c - 1] } else { 0 };
+    let above = if c < b { table[(c + 1) * rack + b] } else { 0 };
     on_tip + below + above
 }
 
 /// Lays the lines lying within the stretch a to b: first those on its tip, then the two stretches beside it.
 fn lay_stretch(board: &Board, table: &[u32], plan: &mut [u8], a: usize, b: usize) {
     let stretch = tips_from_to(a, b);
+    let within = lines_within(board, a, b);
     let mut c = a;
-    while pairs_choosing(board, table, a, b, stretch, c) != table[a * board.rack + b] {
+    while pairs_choosing(&within, table, board.rack, a, b, c) != table[a * board.rack + b] {
         c += 1;
     }
     for line in 0..board.count {
@@ -77,7 +81,7 @@ fn lay_stretch(board: &Board, table: &[u32], plan: &mut [u8], a: usize, b: usize
 }
 
 impl Board {
-    /// Quick sharing: each round plans all lines of the tip that most unplanned lines allow.
+    /// Quick sharing: each round plans all lines of the tip that most unplanned placements allow.
     pub fn quick(self, plan: &mut [u8]) -> Answer<u32> {
         let (number, place) = self.refusal_in(Stage::Closed);
         if number != refusal::NONE {
@@ -94,7 +98,7 @@ impl Board {
                 let mut allowing = 0;
                 for line in 0..self.count {
                     if !planned[line] && has(self.sets[line], tip) {
-                        allowing += 1;
+                        allowing += u32::from(self.quantities[line]);
                     }
                 }
                 // Only a larger number replaces the tip, so a tie goes to the lowest.
@@ -110,7 +114,7 @@ impl Board {
                 }
             }
         }
-        let pairs = pairs_in(&plan[..self.count]);
+        let pairs = pairs_in(&self.placed(plan));
         Answer::accepted(self, pairs)
     }
 
@@ -139,10 +143,10 @@ impl Board {
         for width in 1..=m {
             for a in 0..=m - width {
                 let b = a + width - 1;
-                let stretch = tips_from_to(a, b);
+                let within = lines_within(&self, a, b);
                 let mut most = 0;
                 for c in a..=b {
-                    most = most.max(pairs_choosing(&self, table, a, b, stretch, c));
+                    most = most.max(pairs_choosing(&within, table, m, a, b, c));
                 }
                 table[a * m + b] = most;
             }

@@ -1,5 +1,7 @@
 //! Small boards solved by trying every plan, with no rule of the calls in it.
 
+use std::collections::BTreeMap;
+
 use crate::board::{has, Board, MOST_TIPS};
 use crate::sharing::pairs_in;
 
@@ -8,21 +10,56 @@ use crate::sharing::pairs_in;
 pub struct Tried {
     /// The most pairs of a plan.
     pub most_pairs: u32,
-    /// The least number of lines off the tip that a plan uses most.
-    pub least_off: usize,
-    /// The tips that some plan uses most while having that least number of lines off.
-    pub common_tips: u64,
-    /// For each k from 0 to the number of lines, how many plans are within k.
-    pub plans_within: Vec<u64>,
-    /// For each such k and each line, the tips that plans within k use there.
-    pub used_within: Vec<Vec<u64>>,
+    /// The plans by their number of placements off the tip that they use most.
+    by_off: BTreeMap<usize, Alike>,
+}
+
+/// The plans with one number of placements off.
+#[derive(Clone, PartialEq, Eq, Debug)]
+struct Alike {
+    /// How many there are.
+    plans: u64,
+    /// The tips that one of them uses most.
+    tips: u64,
+    /// For each line, the tips that they use there.
+    used: Vec<u64>,
+}
+
+impl Tried {
+    /// The least number of placements off, and the plans that have it.
+    fn least(&self) -> (usize, &Alike) {
+        let (off, alike) = self.by_off.first_key_value().expect("a board has a plan");
+        (*off, alike)
+    }
+
+    /// The least number of placements off the tip that a plan uses most.
+    pub fn least_off(&self) -> usize {
+        self.least().0
+    }
+
+    /// The tips that some plan uses most while having that least number of placements off.
+    pub fn common_tips(&self) -> u64 {
+        self.least().1.tips
+    }
+
+    /// How many plans are within k.
+    pub fn plans_within(&self, k: usize) -> u64 {
+        self.by_off.range(..=k).map(|(_, alike)| alike.plans).sum()
+    }
+
+    /// For each line, the tips that plans within k use there; nothing where there is no such plan.
+    pub fn used_within(&self, k: usize) -> Option<Vec<u64>> {
+        let mut within = self.by_off.range(..=k).map(|(_, alike)| alike.used.clone());
+        let first = within.next()?;
+        Some(within.fold(first, |joined, used| joined.iter().zip(used).map(|(one, other)| one | other).collect()))
+    }
 }
 
 /// The number of plans of a board, or the limit where there are more.
 pub fn number_of_plans(board: &Board, limit: u64) -> u64 {
     let mut plans = 1;
-    for &set in board.lines() {
-        plans *= u64::from(set.count_ones());
+    for line in board.lines() {
+        plans *= u64::from(line.set.count_ones());
         if plans >= limit {
             return limit;
         }
@@ -47,51 +84,36 @@ fn next_plan(sets: &[u64], plan: &mut [u8]) -> bool {
     false
 }
 
-/// Tries every plan of a sound board.
+/// Tries every plan of a sound board; a line is never split over two tips.
 pub fn try_every_plan(board: &Board) -> Tried {
-    let sets = board.lines();
-    let count = sets.len();
-    let mut most_pairs = 0;
-    let mut plans_with_off = vec![0; count + 1];
-    let mut used_with_off = vec![vec![0; count]; count + 1];
-    let mut tips_with_off = vec![0; count + 1];
-
+    let count = board.count;
+    let sets = &board.sets[..count];
+    let mut tried = Tried { most_pairs: 0, by_off: BTreeMap::new() };
     let mut plan = vec![0; count];
     for line in 0..count {
         plan[line] = tip_from(sets[line], 0).expect("a line has a tip") as u8;
     }
     loop {
-        most_pairs = most_pairs.max(pairs_in(&plan));
-        let mut lines_on = [0; MOST_TIPS];
-        for &tip in &plan {
-            lines_on[usize::from(tip)] += 1;
+        let placed = board.placed(&plan);
+        tried.most_pairs = tried.most_pairs.max(pairs_in(&placed));
+        let mut placements_on = [0; MOST_TIPS];
+        for &tip in &placed {
+            placements_on[usize::from(tip)] += 1;
         }
-        let largest = *lines_on.iter().max().unwrap();
-        let off = count - largest;
-        plans_with_off[off] += 1;
+        let largest = *placements_on.iter().max().unwrap();
+        let unused = Alike { plans: 0, tips: 0, used: vec![0; count] };
+        let alike = tried.by_off.entry(placed.len() - largest).or_insert(unused);
+        alike.plans += 1;
         for line in 0..count {
-            used_with_off[off][line] |= 1 << plan[line];
+            alike.used[line] |= 1 << plan[line];
         }
         for tip in 0..MOST_TIPS {
-            if lines_on[tip] > 0 && lines_on[tip] == largest {
-                tips_with_off[off] |= 1 << tip;
+            if placements_on[tip] > 0 && placements_on[tip] == largest {
+                alike.tips |= 1 << tip;
             }
         }
         if !next_plan(sets, &mut plan) {
-            break;
+            return tried;
         }
     }
-
-    let least_off = plans_with_off.iter().position(|&plans| plans > 0).unwrap();
-    let common_tips = tips_with_off[least_off];
-    // A plan within k is within every larger k.
-    let mut plans_within = plans_with_off;
-    let mut used_within = used_with_off;
-    for k in 1..=count {
-        plans_within[k] += plans_within[k - 1];
-        for line in 0..count {
-            used_within[k][line] |= used_within[k - 1][line];
-        }
-    }
-    Tried { most_pairs, least_off, common_tips, plans_within, used_within }
 }

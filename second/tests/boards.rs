@@ -1,6 +1,6 @@
 //! The boards B1 to B14 of the rules, and the printed example.
 
-use second::{pairs_in, read, report, Answer, Board, CommonTip};
+use second::{pairs_in, read, report, Answer, Board, CommonTip, LONGEST_FILE};
 
 /// The set of the given tips.
 fn set(tips: &[usize]) -> u64 {
@@ -11,7 +11,7 @@ fn set(tips: &[usize]) -> u64 {
 fn closed(rack: usize, lines: &[&[usize]]) -> Board {
     let mut board = accepted(Board::open(rack)).board;
     for tips in lines {
-        board = accepted(board.add(set(tips))).board;
+        board = accepted(board.add(set(tips), 1)).board;
     }
     accepted(board.close()).board
 }
@@ -144,8 +144,8 @@ fn b12_rack_sizes() {
     for (rack, number) in [(0, 1), (1, 0), (64, 0), (65, 1), (usize::MAX, 1)] {
         let answer = Board::open(rack);
         assert_eq!((answer.number, answer.place), (number, 0));
-        let expected =
-            Board { rack: if number == 0 { rack } else { 1 }, stage: second::Stage::Open, count: 0, sets: [0; 512] };
+        let rack = if number == 0 { rack } else { 1 };
+        let expected = Board { rack, stage: second::Stage::Open, count: 0, sets: [0; 512], quantities: [0; 512] };
         assert_eq!(answer.board, expected);
     }
 }
@@ -153,23 +153,23 @@ fn b12_rack_sizes() {
 #[test]
 fn b13_tip_outside_the_rack() {
     let board = Board::open(3).board;
-    let refused = board.clone().add(set(&[3]));
+    let refused = board.clone().add(set(&[3]), 1);
     assert_eq!((refused.number, refused.place), (3, 0));
     assert_eq!(refused.board, board);
-    let added = accepted(board.add(set(&[2])));
-    assert_eq!((added.board.count, added.board.sets[0]), (1, 4));
+    let added = accepted(board.add(set(&[2]), 7)).board;
+    assert_eq!((added.count, added.sets[0], added.quantities[0]), (1, 4, 7));
 }
 
 #[test]
 fn b14_line_512_and_513() {
     let mut board = Board::open(64).board;
     for line in 0..512 {
-        board = accepted(board.add(1 << (line % 64))).board;
+        board = accepted(board.add(1 << (line % 64), 1)).board;
     }
     assert_eq!(board.count, 512);
     assert_eq!(board.sets[511], 1 << 63);
-    for set in [1, 0, u64::MAX] {
-        let answer = board.clone().add(set);
+    for (set, quantity) in [(1, 1), (0, 1), (u64::MAX, 1), (1, 0)] {
+        let answer = board.clone().add(set, quantity);
         assert_eq!((answer.number, answer.place), (24, 0));
         assert_eq!(answer.board, board);
     }
@@ -201,17 +201,31 @@ fn report_without_runs_without_lines_and_refused() {
 
 #[test]
 fn longest_report_and_longest_input() {
-    let mut board = Board::open(64).board;
-    for _ in 0..512 {
-        board = accepted(board.add(u64::MAX << 63)).board;
+    for (quantity, length, pairs) in [(1, 4104, 130_816), (4, 4616, 2_096_128)] {
+        let mut board = Board::open(64).board;
+        for _ in 0..512 {
+            board = accepted(board.add(u64::MAX << 63, quantity)).board;
+        }
+        let mut file = vec![0; 5000];
+        assert_eq!(accepted(accepted(board.close()).board.write(&mut file)).value, length);
+        let text = String::from_utf8(report(&file[..length])).unwrap();
+        let head = format!("lines 512 rack 64\noff 0 tips 63\nquick {pairs}\nbest {pairs}\n");
+        assert!(text.starts_with(&head));
+        assert!(text.ends_with("line 511 quick 63 best 63\n"));
+        assert!(text.len() <= second::interface::REPORT_SPACE);
+        for longer in [length + 1, length + 2, 5000] {
+            assert_eq!(report(&file[..longer]), b"refused 10\n");
+        }
     }
-    let mut file = vec![0; 5000];
-    accepted(accepted(board.close()).board.write(&mut file));
-    let text = String::from_utf8(report(&file[..4104])).unwrap();
-    assert!(text.starts_with("lines 512 rack 64\noff 0 tips 63\nquick 130816\nbest 130816\n"));
-    assert!(text.ends_with("line 511 quick 63 best 63\n"));
-    assert!(text.len() <= second::interface::REPORT_SPACE);
-    for length in [4105, 4106, 5000] {
-        assert_eq!(report(&file[..length]), b"refused 10\n");
+}
+
+#[test]
+fn report_takes_one_byte_more_than_the_longest_file() {
+    let longest = Board::of_lines(64, &[second::Line { set: 1, quantity: 4 }; 512]).file();
+    assert_eq!((longest.len(), second::LONGEST_INPUT), (LONGEST_FILE, 4617));
+    // A byte that is not taken could not be refused.
+    for more in [1, 2, 9, 10_000] {
+        let file = [&longest[..], &vec![0; more]].concat();
+        assert_eq!(report(&file), b"refused 10\n");
     }
 }

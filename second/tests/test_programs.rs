@@ -1,6 +1,6 @@
 //! What the proved test programs print, worked out again line by line with this implementation.
 //!
-//! The kept output was taken from the programs' own runs; here it is checked by answers that do not come from them.
+//! No line of the kept output is taken on the programs' word: here each is checked by answers that do not come from them.
 
 use std::collections::HashSet;
 use std::path::Path;

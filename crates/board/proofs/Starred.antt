@@ -1,14 +1,20 @@
 -- THE PROVED SET: the definitions of the calls, refusals included, give each of the starred boards of RULES 9. An error names the row.
 use mathlib.Core.Path.{refl}
+use mathlib.Core.List.{zipWith}
 use lib.Count.{leadingZeros, trailingZeros, ones, onesIn}
 use Rattle.model.specs.Count.{All, none, more, count, select, each, firstFail, every, listOf, largest, lowestAt}
-use Rattle.model.specs.Plan.{Valid, empty, line, has, occ, uses, pairs, choose2, inRack, isDomain, rackOk}
+use Rattle.model.specs.Plan.{empty, line, has, occ, uses, pairs, choose2, inRack, isDomain, rackOk}
 use Rattle.model.specs.Choice.{choice, from}
-use Rattle.model.specs.CommonTip.{setOf, top, W, margin, covers, narrowed, kept, prune}
-use Rattle.model.specs.Greedy.{busiest, rounds, first, quickTip, quickPlan}
-use Rattle.model.specs.Interval.{low, high, isRun, named, lies, inside, most, C, tipBy, worth, pickOf, bestTip, bestPlan, table}
+use Rattle.model.specs.CommonTip.{setOf, top, W, margin, covers, narrowed}
+use Rattle.model.specs.Greedy.{busiest, rounds, first, quickTip}
+use Rattle.model.specs.Interval.{low, high, isRun, named, lies, inside, most, C, tipBy, worth, pickOf, bestTip, table}
+use Rattle.placements.specs.Repeated.{total, repeated}
+use Rattle.placements.specs.Totals.{firstOver}
+use Rattle.placements.specs.Plans.{quickPlanQ, bestPlanQ}
+use Rattle.placements.specs.Keep.{commonWithin, scarce, keptQ, pruneQ}
 use Rattle.refusal.specs.Refusal.{orElse, scan}
-use Rattle.sound.specs.Sound.{countOk, soundRefusal}
+use Rattle.job.specs.Job.{lineNumber}
+use Rattle.sound.specs.Sound.{countOk, firstWrong, firstHeld, soundRefusal}
 use Rattle.call_refusals.specs.State.{stageRefusal, stateRefusal}
 use Rattle.call_refusals.specs.Calls.{addRefusal, keepRefusal, planRefusal, bestRefusal}
 use Rattle.line_calls.specs.Lines
@@ -19,13 +25,17 @@ use Rattle.board.specs.Rows.{run, rows, Gives, HalfReached}
 use Rattle.board.specs.Rows.{B1-common, B1-keep, B2-keep, B3-keep, B4-quick, B5-best, B6-best, B7-quick, B8-best, B9-quick, B9-best, B10-best}
 use Rattle.board.specs.Rows.{B15-rack-0, B15-rack-65, B16-count-513, B16-count-most, B17-first, B17-middle, B17-last, B18-next}
 use Rattle.board.specs.Rows.{B18-last, B18-both, B19-21, B19-27, B19-27-open, B19-27-closed, B19-28-closed}
+use Rattle.board.specs.Rows.{B20-quick, B20-best, B21-common, B21-keep-0, B21-keep-1, B21-keep-2, B21-keep-3, B21-keep-4, B22-quick, B23-quick}
+use Rattle.board.specs.Rows.{B23-best, B24-none, B24-bad-set, B24-last, B24-over, B25-none, B25-over, B25-first, B26-next, B26-after-set}
+use Rattle.board.specs.Rows.{B27-common, B27-best}
 
 pub starred : All Gives rows
 unfolding run addOf closeOf commonOf keepOf quickOf quickBuffer bestOf bestBuffer bestTable Lines.commonOf Lines.keepOf Lines.keptSets
     Lines.quickOf Lines.quickBuffer Lines.bestOf Lines.bestBuffer Lines.bestTable addRefusal keepRefusal planRefusal bestRefusal orElse scan
-    stageRefusal stateRefusal soundRefusal countOk rackOk isDomain inRack each firstFail margin prune kept narrowed covers every W setOf top
-    largest occ has count quickPlan quickTip rounds first busiest choice lowestAt select pairs uses table listOf bestPlan bestTip tipBy
-    pickOf worth from named C most lies inside low high isRun choose2 leadingZeros trailingZeros ones onesIn
+    stageRefusal stateRefusal soundRefusal firstWrong firstHeld firstOver countOk rackOk isDomain inRack each firstFail lineNumber total repeated
+    margin pruneQ zipWith keptQ scarce commonWithin narrowed covers every W setOf top largest occ has count quickPlanQ quickTip rounds first
+    busiest choice lowestAt select pairs uses table listOf bestPlanQ bestTip tipBy pickOf worth from named C most lies inside low high isRun
+    choose2 leadingZeros trailingZeros ones onesIn
 starred =
     more {x = B1-common} refl
     (more {x = B1-keep} refl
@@ -53,7 +63,29 @@ starred =
     (more {x = B19-27} refl
     (more {x = B19-27-open} refl
     (more {x = B19-27-closed} refl
-    (more {x = B19-28-closed} refl none))))))))))))))))))))))))))
+    (more {x = B19-28-closed} refl
+    (more {x = B20-quick} refl
+    (more {x = B20-best} refl
+    (more {x = B21-common} refl
+    (more {x = B21-keep-0} refl
+    (more {x = B21-keep-1} refl
+    (more {x = B21-keep-2} refl
+    (more {x = B21-keep-3} refl
+    (more {x = B21-keep-4} refl
+    (more {x = B22-quick} refl
+    (more {x = B23-quick} refl
+    (more {x = B23-best} refl
+    (more {x = B24-none} refl
+    (more {x = B24-bad-set} refl
+    (more {x = B24-last} refl
+    (more {x = B24-over} refl
+    (more {x = B25-none} refl
+    (more {x = B25-over} refl
+    (more {x = B25-first} refl
+    (more {x = B26-next} refl
+    (more {x = B26-after-set} refl
+    (more {x = B27-common} refl
+    (more {x = B27-best} refl none))))))))))))))))))))))))))))))))))))))))))))))))
 
 pub half-reached : HalfReached
 unfolding has pairs uses count

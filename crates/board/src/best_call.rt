@@ -15,9 +15,26 @@ impl Board {
     {
         let stage = self.stage;
         let sets = self.sets;
-        let lent: &[u64] = &sets;
-        let state = call_refusals::state_refusal(Stage::Closed, self.rack, stage, self.count, lent);
-        let laid = line_calls::best(state, self.rack, self.count, lent, plan, table);
+        let quantities = self.quantities;
+        let lent_sets: &[u64] = &sets;
+        let lent_quantities: &[u8] = &quantities;
+        let state = call_refusals::state_refusal(
+            Stage::Closed,
+            self.rack,
+            stage,
+            self.count,
+            lent_sets,
+            lent_quantities,
+        );
+        let laid = line_calls::best(
+            state,
+            self.rack,
+            self.count,
+            lent_sets,
+            lent_quantities,
+            plan,
+            table,
+        );
         Shared {
             board: self,
             number: laid.refusal.number,

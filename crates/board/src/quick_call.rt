@@ -14,14 +14,16 @@ impl Board {
     {
         let stage = self.stage;
         let mut left = self.sets;
+        let quantities = self.quantities;
         let state = call_refusals::state_refusal(
             Stage::Closed,
             self.rack,
             stage,
             self.count,
             &left,
+            &quantities,
         );
-        let laid = line_calls::quick(state, self.rack, self.count, &mut left, plan);
+        let laid = line_calls::quick(state, self.rack, self.count, &mut left, &quantities, plan);
         Shared {
             board: self,
             number: laid.refusal.number,

@@ -1,5 +1,5 @@
 -- What is known where a call is not refused.
-use Prim.Native.Nat.{ℕ, _*_, _≤_, _<_}
+use Prim.Native.Nat.{ℕ, _+_, _*_, _≤_, _<_}
 use mathlib.Core.Path.{_≡_, refl}
 use mathlib.Core.Bool.{Bool, false}
 use mathlib.Core.List.{List}
@@ -14,12 +14,14 @@ use mir.ValLaws.{toZ-ofZ}
 use lib.ListN.{length}
 use borrow.Author.Tests.{eq-eqb, ne-eqb, eqb-false, lt-ltb, le-ltb, ltb-false}
 use Rattle.model.specs.Count.{All}
+use Rattle.model.specs.Plan.{Domain}
 use Rattle.model.specs.Interval.{isRun}
-use Rattle.model.specs.Limits.{mostTips, mostLines}
+use Rattle.model.specs.Limits.{mostTips, mostLines, mostPlacements}
 use Rattle.refusal.specs.declared.Refusal.{Refusal}
 use Rattle.refusal.specs.Refusal.{refuse, orElse, when, scan}
 use Rattle.refusal.proofs.Laws.{or-none, when-none, scan-none}
-use Rattle.job.specs.Job.{fileLength, setNumber}
+use Rattle.job.specs.Job.{fileLength, lineNumber}
+use Rattle.job.proofs.Reading.{line-number}
 use Rattle.call_refusals.specs.Calls.{addRefusal, isNegative, keepRefusal, planRefusal, runRefusal, bestRefusal, writeRefusal}
 
 -- the code's test of the sign of a number of 32 bits
@@ -30,27 +32,51 @@ sign-test y fits = rw (toZ-ofZ w32 y fits) (by y)
     by (pos n) = le-ltb n 0 (omega arith)
     by (negsuc n) = refl
 
--- a buffer of room places that is not refused has n
+-- a buffer of room places that is not refused has n; a limit that is not passed
 long-enough : (room n number : ℕ) → (number ≡ 0 → ⊥) → (when (ltb room n) number) .number ≡ 0 → n ≤ room
 long-enough room n number h z = ltb-false room n (when-none (ltb room n) number h z)
 
-module _ (earlier : Refusal) where
-  -- a line can be added: the board is not full
-  pub add-none : (m n s : ℕ) → (addRefusal earlier m n s) .number ≡ 0 → (earlier .number ≡ 0) × (n ≡ mostLines → ⊥)
-  unfolding addRefusal
-  add-none m n s z =
-      let full = when (eqb n mostLines) 24 in
-      let (free, rest) = or-none earlier (orElse full (refuse (setNumber m s))) z in
-      (free, eqb-false n mostLines (when-none (eqb n mostLines) 24 (λ e. omega arith) (or-none full (refuse (setNumber m s)) rest .0)))
+-- what is known where a line can be added to n lines that have t placements
+pub record Addable (earlier : Refusal) (m n t s q : ℕ) : Type 0 where
+  pub free : earlier .number ≡ 0
+  pub not-full : n ≡ mostLines → ⊥
+  pub domain : Domain m s
+  pub placed : 1 ≤ q
+  pub few : t + q ≤ mostPlacements
 
-  module _ (z : earlier .number ≡ 0) (m n s : ℕ) where
-    pub add-full : n ≡ mostLines → refuse 24 ≡ addRefusal earlier m n s
+module _ (earlier : Refusal) where
+  -- a line can be added: the board is not full, the line is good, and with it the placements are few
+  pub add-none : (m n t s q : ℕ) → (addRefusal earlier m n t s q) .number ≡ 0 → Addable earlier m n t s q
+  unfolding addRefusal
+  add-none m n t s q z =
+      let full = when (eqb n mostLines) 24 in
+      let line = refuse (lineNumber m s q) in
+      let over = when (ltb mostPlacements (t + q)) 30 in
+      let (free, later) = or-none earlier (orElse full (orElse line over)) z in
+      let (below, last) = or-none full (orElse line over) later in
+      let (good, within) = or-none line over last in
+      let (domain, placed) = line-number m s q .0 good in
+      record {
+        free = free;
+        not-full = eqb-false n mostLines (when-none (eqb n mostLines) 24 (λ e. omega arith) below);
+        domain = domain;
+        placed = placed;
+        few = long-enough mostPlacements (t + q) 30 (λ e. omega arith) within;
+      }
+
+  module _ (z : earlier .number ≡ 0) (m n t s q : ℕ) where
+    pub add-full : n ≡ mostLines → refuse 24 ≡ addRefusal earlier m n t s q
     unfolding addRefusal orElse
     add-full e = rw (eq-eqb (earlier .number) 0 z, eq-eqb n mostLines e)
 
-    pub add-line : (n ≡ mostLines → ⊥) → refuse (setNumber m s) ≡ addRefusal earlier m n s
-    unfolding addRefusal orElse
-    add-line h = rw (eq-eqb (earlier .number) 0 z, ne-eqb n mostLines h)
+    module _ (h : n ≡ mostLines → ⊥) where
+      pub add-line : (lineNumber m s q ≡ 0 → ⊥) → refuse (lineNumber m s q) ≡ addRefusal earlier m n t s q
+      unfolding addRefusal orElse
+      add-line k = rw (eq-eqb (earlier .number) 0 z, ne-eqb n mostLines h, ne-eqb (lineNumber m s q) 0 k)
+
+      pub add-over : lineNumber m s q ≡ 0 → when (ltb mostPlacements (t + q)) 30 ≡ addRefusal earlier m n t s q
+      unfolding addRefusal orElse
+      add-over e = rw (eq-eqb (earlier .number) 0 z, ne-eqb n mostLines h, eq-eqb (lineNumber m s q) 0 e)
 
   -- the plan buffer's refusal, and what follows it in best sharing
   module _ (z : earlier .number ≡ 0) (m : ℕ) (lines : List ℕ) (room places : ℕ) where
@@ -80,11 +106,11 @@ module _ (earlier : Refusal) where
       (free, long-enough room n 4 (λ e. omega arith) rest)
 
   -- the output has room for the file
-  pub write-none : (n room : ℕ) → (writeRefusal earlier n room) .number ≡ 0 → (earlier .number ≡ 0) × (fileLength n ≤ room)
+  pub write-none : (v n room : ℕ) → (writeRefusal earlier v n room) .number ≡ 0 → (earlier .number ≡ 0) × (fileLength v n ≤ room)
   unfolding writeRefusal
-  write-none n room z =
-      let (free, rest) = or-none earlier (when (ltb room (fileLength n)) 11) z in
-      (free, long-enough room (fileLength n) 11 (λ e. omega arith) rest)
+  write-none v n room z =
+      let (free, rest) = or-none earlier (when (ltb room (fileLength v n)) 11) z in
+      (free, long-enough room (fileLength v n) 11 (λ e. omega arith) rest)
 
 -- what is known where best sharing is not refused
 pub record Bestable (earlier : Refusal) (m : ℕ) (lines : List ℕ) (room places : ℕ) : Type 0 where

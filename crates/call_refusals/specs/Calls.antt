@@ -1,19 +1,20 @@
 -- What each call asks after an earlier refusal: that of the board's state, or that of the job file that was read.
-use Prim.Native.Nat.{ℕ, _*_}
+use Prim.Native.Nat.{ℕ, _+_, _*_}
 use mathlib.Core.Bool.{Bool, true, false}
 use mathlib.Core.List.{List}
 use lib.Dec.{eqb, ltb}
 use lib.IntN.{ℤ, pos, negsuc}
 use lib.ListN.{length}
-use Rattle.model.specs.Limits.{mostLines}
+use Rattle.model.specs.Limits.{mostLines, mostPlacements}
 use Rattle.model.specs.Interval.{isRun}
 use Rattle.refusal.specs.declared.Refusal.{Refusal}
 use Rattle.refusal.specs.Refusal.{refuse, orElse, when, scan}
-use Rattle.job.specs.Job.{fileLength, setNumber}
+use Rattle.job.specs.Job.{fileLength, lineNumber}
 
--- add to n lines: a full board, then the line's set is empty, 2, or has a tip outside the rack of m tips, 3
-unfoldable pub addRefusal : Refusal → ℕ → ℕ → ℕ → Refusal
-addRefusal earlier m n s = orElse earlier (orElse (when (eqb n mostLines) 24) (refuse (setNumber m s)))
+-- add to n lines that have t placements: a full board, then the line's own refusal, 2, 3 or 15, then too many placements with it
+unfoldable pub addRefusal : Refusal → ℕ → ℕ → ℕ → ℕ → ℕ → Refusal
+addRefusal earlier m n t s q =
+    orElse earlier (orElse (when (eqb n mostLines) 24) (orElse (refuse (lineNumber m s q)) (when (ltb mostPlacements (t + q)) 30)))
 
 abbrev pub isNegative : ℤ → Bool
 isNegative (pos n) = false
@@ -35,6 +36,6 @@ runRefusal lines = scan isRun (λ _. 25) lines
 unfoldable pub bestRefusal : Refusal → ℕ → List ℕ → ℕ → ℕ → Refusal
 bestRefusal earlier m lines room places = orElse (planRefusal earlier (length lines) room) (orElse (when (ltb places (m * m)) 5) (runRefusal lines))
 
--- write: an output of room bytes that is shorter than the file of n lines
-unfoldable pub writeRefusal : Refusal → ℕ → ℕ → Refusal
-writeRefusal earlier n room = orElse earlier (when (ltb room (fileLength n)) 11)
+-- write: an output of room bytes that is shorter than the file of n lines in version v
+unfoldable pub writeRefusal : Refusal → ℕ → ℕ → ℕ → Refusal
+writeRefusal earlier v n room = orElse earlier (when (ltb room (fileLength v n)) 11)

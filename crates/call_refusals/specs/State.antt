@@ -14,6 +14,6 @@ stageRefusal Open Closed = refuse 22
 stageRefusal Closed Open = refuse 23
 stageRefusal Closed Closed = none
 
--- rack m, stage, count n and sets are not sound, or the stage is not the one that the call asks for
-unfoldable pub stateRefusal : Stage → ℕ → Stage → ℕ → List ℕ → Refusal
-stateRefusal asked m stage n sets = orElse (soundRefusal m n sets) (stageRefusal asked stage)
+-- rack m, count n, quantities and sets are not sound, or the stage is not the one that the call asks for
+unfoldable pub stateRefusal : Stage → ℕ → Stage → ℕ → List ℕ → List ℕ → Refusal
+stateRefusal asked m stage n qs sets = orElse (soundRefusal m n qs sets) (stageRefusal asked stage)

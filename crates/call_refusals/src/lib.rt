@@ -2,7 +2,8 @@
 ghost use mathlib.Core.Path.{_≡_};
 ghost use Prim.Native.Nat.{_≤_};
 ghost use lib.ListN.{length, take};
-ghost use Rattle.model.specs.Limits.{mostTips, mostLines};
+ghost use Rattle.model.specs.Limits.{mostTips, mostLines, mostPlacements};
+ghost use Rattle.placements.specs.Repeated.{total};
 ghost use Rattle.call_refusals.specs.State.{stageRefusal, stateRefusal};
 ghost use Rattle.call_refusals.specs.Calls.{addRefusal, keepRefusal, planRefusal, runRefusal, bestRefusal, writeRefusal};
 use refusal::Refusal;
@@ -27,19 +28,36 @@ fn stage_refusal(asked: Stage, stage: Stage) -> Refusal
     }
 }
 
-pub fn state_refusal(asked: Stage, rack: usize, stage: Stage, count: usize, sets: &[u64]) -> Refusal
+pub fn state_refusal<'a>(
+    asked: Stage,
+    rack: usize,
+    stage: Stage,
+    count: usize,
+    sets: &'a [u64],
+    quantities: &'a [u8],
+) -> Refusal
     requires { ⌜ length (now sets) ≡ mostLines ⌝ }
-    ensures { λ r. ⌜ r ≡ stateRefusal asked rack stage count (now (sets .entry)) ⌝ }
+    requires { ⌜ length (now quantities) ≡ mostLines ⌝ }
+    ensures { λ r. ⌜ r ≡ stateRefusal asked rack stage count (now (quantities .entry)) (now (sets .entry)) ⌝ }
 {
-    let unsound = sound::sound_refusal(rack, count, sets);
+    let unsound = sound::sound_refusal(rack, count, sets, quantities);
     if unsound.number != 0 {
         return unsound;
     }
     stage_refusal(asked, stage)
 }
 
-pub fn add_refusal(earlier: Refusal, rack: usize, count: usize, set: u64) -> Refusal
-    ensures { λ r. ⌜ r ≡ addRefusal earlier rack count set ⌝ }
+// The lines' quantities are the first `count`; their total is worked out last, where nothing else is refused.
+pub fn add_refusal(
+    earlier: Refusal,
+    rack: usize,
+    count: usize,
+    quantities: &[u8],
+    set: u64,
+    quantity: u8,
+) -> Refusal
+    requires { ⌜ (earlier .number ≡ 0 → (count ≤ length (now quantities)) × (total (take count (now quantities)) ≤ mostPlacements)) ⌝ }
+    ensures { λ r. ⌜ r ≡ addRefusal earlier rack count (total (take count (now (quantities .entry)))) set quantity ⌝ }
 {
     if earlier.number != 0 {
         return earlier;
@@ -47,7 +65,12 @@ pub fn add_refusal(earlier: Refusal, rack: usize, count: usize, set: u64) -> Ref
     if count == model::MOST_LINES {
         return refusal::refuse(24);
     }
-    refusal::refuse(job::set_number(rack, set))
+    let number = job::line_number(rack, set, quantity);
+    if number != 0 {
+        return refusal::refuse(number);
+    }
+    let placements = placements::total(&quantities[..count]);
+    refusal::refuse_when(model::MOST_PLACEMENTS < placements + quantity as usize, 30)
 }
 
 pub fn keep_refusal(earlier: Refusal, margin: i32) -> Refusal
@@ -100,13 +123,13 @@ pub fn best_refusal(
     run_refusal(&sets[..count])
 }
 
-// An output of `room` bytes that is shorter than the file of the lines.
-pub fn write_refusal(earlier: Refusal, count: usize, room: usize) -> Refusal
+// An output of `room` bytes that is shorter than the file of the lines in that version.
+pub fn write_refusal(earlier: Refusal, version: u64, count: usize, room: usize) -> Refusal
     requires { ⌜ (earlier .number ≡ 0 → count ≤ mostLines) ⌝ }
-    ensures { λ r. ⌜ r ≡ writeRefusal earlier count room ⌝ }
+    ensures { λ r. ⌜ r ≡ writeRefusal earlier version count room ⌝ }
 {
     if earlier.number != 0 {
         return earlier;
     }
-    refusal::refuse_when(room < job::file_length(count), 11)
+    refusal::refuse_when(room < job::file_length(version, count), 11)
 }

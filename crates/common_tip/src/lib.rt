@@ -1,67 +1,122 @@
-// The common tip of lines, and their pruning: the occurrences of all tips are counted in one pass.
+// The common tip of lines and their pruning, counted in placements: the occurrences of all tips are counted in one pass.
 ghost use mathlib.Core.Path.{_≡_};
-ghost use mathlib.Core.List.{map};
-ghost use Prim.Native.Nat.{_≤_, _<_, _^_};
+ghost use mathlib.Core.List.{zipWith};
+ghost use Prim.Native.Nat.{_-_, _≤_, _<_, _^_};
+ghost use lib.IntN.{pos};
 ghost use lib.ListN.{length};
-ghost use Rattle.model.specs.Limits.{mostTips, mostLines};
-ghost use Rattle.model.specs.CommonTip.{top, W, margin, narrowed, prune};
-ghost use Rattle.common_tip.specs.Common.{marginBy, narrowBy};
+ghost use lib.Signed.{ltZ};
+ghost use Rattle.model.specs.CommonTip.{top, W, margin as marginOf};
+ghost use Rattle.placements.specs.Repeated.{total, repeated};
+ghost use Rattle.placements.specs.Keep.{commonWithin};
+ghost use Rattle.model.specs.Limits.{mostPlacements};
+ghost use Rattle.counts.specs.Counts.{Countable};
+ghost use Rattle.common_tip.specs.Common.{marginBy, leastCount, narrowBy, keptBy, keptLines};
 
-// The largest occurrence, and the set W of the tips that have it.
-pub struct Busiest {
+// The most placements that allow one tip, how many do not allow it, and the set W of the tips that as many allow.
+pub struct Common {
     pub top: usize,
+    pub off: usize,
     pub tips: u64,
 }
 
-pub fn common_tip(rack: usize, lines: &[u64]) -> Busiest
-    requires { ⌜ (rack ≤ mostTips) × (length (now lines) ≤ mostLines) ⌝ }
-    ensures { λ r. ⌜ (r .top ≡ top rack (now (lines .entry))) × (r .tips ≡ W rack (now (lines .entry))) ⌝ }
+pub fn common_tip(rack: usize, lines: &[u64], quantities: &[u8]) -> Common
+    requires { ⌜ (rack ≤ 64) × Countable (now quantities) (now lines) ⌝ }
+    ensures top { λ r. ⌜ r .top ≡ top rack (repeated (now (quantities .entry)) (now (lines .entry))) ⌝ }
+    ensures off { λ r. ⌜ r .off ≡ total (now (quantities .entry)) - r .top ⌝ }
+    ensures tips { λ r. ⌜ r .tips ≡ W rack (repeated (now (quantities .entry)) (now (lines .entry))) ⌝ }
 {
     let mut planes = [0u64; counts::PLANES];
-    counts::count_tips(lines, &mut planes);
+    counts::count_tips(lines, quantities, &mut planes);
     let busiest = counts::busiest_tips(&planes, rack);
-    Busiest {
-        top: busiest.top as usize,
+    let top = busiest.top as usize;
+    Common {
+        top,
+        off: placements::total(quantities) - top,
         tips: busiest.tips,
     }
 }
 
+// Top, less the placements, plus k.
 fn margin(top: usize, n: usize, k: u16) -> i32
-    requires { ⌜ (top ≤ mostLines) × (n ≤ mostLines) ⌝ }
+    requires { ⌜ (top ≤ mostPlacements) × (n ≤ mostPlacements) ⌝ }
     ensures { λ r. ⌜ r ≡ marginBy top n k ⌝ }
 {
     (top as i32) - (n as i32) + (k as i32)
 }
 
-fn narrow(set: u64, w: u64) -> u64
-    ensures { λ r. ⌜ r ≡ narrowBy w set ⌝ }
+fn least_count(n: usize, k: u16) -> usize
+    ensures { λ r. ⌜ r ≡ leastCount n k ⌝ }
 {
-    if set & w == w { w } else { set }
+    let k = k as usize;
+    if n <= k { 1 } else { n - k }
 }
 
-// A line that has all of w keeps only w.
-fn prune(rack: usize, lines: &mut [u64], w: u64)
-    requires { ⌜ w < 2 ^ rack ⌝ }
-    ensures { λ _. ⌜ now (lines .exit) ≡ map (narrowed rack w) (now (lines .entry)) ⌝ }
+// The margin, and the set V of the tips in some line that all but at most k of the placements allow.
+struct Bound {
+    margin: i32,
+    tips: u64,
+}
+
+fn within(rack: usize, k: u16, lines: &[u64], quantities: &[u8]) -> Bound
+    requires { ⌜ (rack ≤ 64) × Countable (now quantities) (now lines) ⌝ }
+    ensures margin { λ r. ⌜ r .margin ≡ marginOf rack (repeated (now (quantities .entry)) (now (lines .entry))) k ⌝ }
+    ensures tips { λ r. ⌜ r .tips ≡ commonWithin rack (repeated (now (quantities .entry)) (now (lines .entry))) k ⌝ }
+{
+    let mut planes = [0u64; counts::PLANES];
+    counts::count_tips(lines, quantities, &mut planes);
+    let busiest = counts::busiest_tips(&planes, rack);
+    let n = placements::total(quantities);
+    Bound {
+        margin: margin(busiest.top as usize, n, k),
+        tips: counts::tips_with(&planes, rack, least_count(n, k)),
+    }
+}
+
+fn narrow(set: u64, v: u64) -> u64
+    ensures { λ r. ⌜ r ≡ narrowBy v set ⌝ }
+{
+    if set & v == v { v } else { set }
+}
+
+fn is_below(margin: i32, quantity: u8) -> bool
+    ensures { λ r. ⌜ r ≡ ltZ margin (pos quantity) ⌝ }
+{
+    margin < (quantity as i32)
+}
+
+fn kept(rack: usize, v: u64, margin: i32, quantity: u8, set: u64) -> u64
+    requires { ⌜ v < 2 ^ rack ⌝ }
+    ensures { λ r. ⌜ r ≡ keptBy rack v margin quantity set ⌝ }
+{
+    if is_below(margin, quantity) {
+        return narrow(set, v);
+    }
+    set
+}
+
+// Where the margin is below its quantity, a line that has all of v keeps only v.
+fn prune(rack: usize, margin: i32, v: u64, lines: &mut [u64], quantities: &[u8])
+    requires { ⌜ (v < 2 ^ rack) × (length (now quantities) ≡ length (now lines)) ⌝ }
+    ensures { λ _. ⌜ now (lines .exit) ≡ zipWith (keptBy rack v margin) (now (quantities .entry)) (now (lines .entry)) ⌝ }
 {
     let mut i = 0;
     while i < lines.len() {
-        lines[i] = narrow(lines[i], w);
+        lines[i] = kept(rack, v, margin, quantities[i], lines[i]);
         i += 1;
     }
 }
 
-// Keeps the lines within k, and answers the margin. At margin zero they are pruned, elsewhere they stay as they were.
-pub fn keep_lines(rack: usize, lines: &mut [u64], k: u16) -> i32
-    requires { ⌜ (rack ≤ mostTips) × (length (now lines) ≤ mostLines) ⌝ }
-    ensures margin { λ r. ⌜ r ≡ margin rack (now (lines .entry)) k ⌝ }
-    ensures lines { λ _. ⌜ now (lines .exit) ≡ prune rack (now (lines .entry)) k ⌝ }
+// Keep within k: gives the margin. Where it is not below zero the lines are pruned.
+pub fn keep_lines(rack: usize, lines: &mut [u64], quantities: &[u8], k: u16) -> i32
+    requires { ⌜ (rack ≤ 64) × Countable (now quantities) (now lines) ⌝ }
+    ensures margin { λ r. ⌜ r ≡ marginOf rack (repeated (now (quantities .entry)) (now (lines .entry))) k ⌝ }
+    ensures lines { λ _. ⌜ now (lines .exit) ≡ keptLines rack (now (quantities .entry)) (now (lines .entry)) k ⌝ }
 {
-    let busiest = common_tip(rack, lines);
-    let margin = margin(busiest.top, lines.len(), k);
-    if margin == 0 {
-        prune(rack, lines, busiest.tips);
-        return 0;
+    let bound = within(rack, k, lines, quantities);
+    let margin = bound.margin;
+    if margin < 0 {
+        return margin;
     }
+    prune(rack, margin, bound.tips, lines, quantities);
     margin
 }

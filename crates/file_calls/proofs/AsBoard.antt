@@ -6,17 +6,16 @@ use mathlib.Core.List.{List}
 use native.Mathlib.Omega.{arith}
 use lib.Dec.{eqb}
 use lib.IntN.{ℤ}
-use lib.ListN.{length, drop, length-append, length-drop}
-use Rattle.model.specs.Limits.{mostLines}
-use Rattle.model.specs.CommonTip.{margin, prune}
+use Rattle.model.specs.CommonTip.{margin}
+use Rattle.placements.specs.Repeated.{repeated}
+use Rattle.placements.specs.Keep.{pruneQ}
 use Rattle.refusal.specs.declared.Refusal.{Refusal}
 use Rattle.refusal.specs.Refusal.{none, refuse, orElse, when}
 use Rattle.refusal.proofs.Laws.{accepted, by-number}
-use Rattle.job.specs.Job.{rackIn, countIn, setsIn, readRefusal}
-use Rattle.job.proofs.Reading.{length-setsIn, read-iff, read-none}
+use Rattle.job.specs.Job.{rackIn, setsIn, quantitiesIn, readRefusal}
+use Rattle.job.proofs.Reading.{read-none}
 use Rattle.call_refusals.specs.declared.Stage.the-variants.{Closed}
 use Rattle.call_refusals.specs.Calls.{isNegative, keepRefusal, writeRefusal}
-use Rattle.call_refusals.proofs.State.{state-holds}
 use Rattle.line_calls.specs.Lines
 use Rattle.board.specs.declared.Board.{Board}
 use Rattle.board.specs.declared.Answer.{Answer}
@@ -24,12 +23,13 @@ use Rattle.board.specs.declared.Common.{Common}
 use Rattle.board.specs.declared.Kept.{Kept}
 use Rattle.board.specs.declared.Shared.{Shared}
 use Rattle.board.specs.declared.Written.{Written}
-use Rattle.board.specs.Board.{linesOf, stateRefusal, answer, noSets}
+use Rattle.board.specs.Board.{linesOf, quantitiesOf, stateRefusal, answer}
 use Rattle.board.specs.Common.{commonOf, keptBoard, keepOf}
 use Rattle.board.specs.Sharing.{quickOf, quickBuffer, bestOf, bestBuffer, bestTable}
 use Rattle.board.specs.JobFile.{boardIn, readOf, writeOf, writeBuffer}
-use Rattle.board.proofs.JobFileRule.{length-no-sets, lines-in, state-in}
-use Rattle.board.proofs.KeepRule.{kept-lines, keep-rule}
+use Rattle.board.proofs.Sets.{Full, state-free}
+use Rattle.board.proofs.JobFileRule.{full-in, lines-in, quantities-in, state-in}
+use Rattle.board.proofs.KeepRule.{kept-lines, kept-full, keep-rule}
 use Rattle.file_calls.specs.declared.Outcome.{Outcome}
 use Rattle.file_calls.specs.Calls.{twosComplement, commonOutcome, planOutcome, keepOutcome}
 use Rattle.file_calls.specs.Calls.{readIn, commonIn, quickIn, quickPlanIn, bestIn, bestPlanIn, bestTableIn, keepIn, keepFileIn}
@@ -88,12 +88,15 @@ module _ (file : List ℕ) (b : Board) (given : readOf file ≡ answer b none) w
   lines-are : linesOf b ≡ setsIn file
   lines-are = ap linesOf board-is ∙ lines-in file
 
+  quantities-are : quantitiesOf b ≡ quantitiesIn file
+  quantities-are = ap quantitiesOf board-is ∙ quantities-in file
+
   -- what is asked of the file is what is asked of the board
-  on-board : {A : Type 0} (f : Refusal → ℕ → List ℕ → A)
-      → f (readRefusal file) (rackIn file) (setsIn file) ≡ f (stateRefusal Closed b) (b .rack) (linesOf b)
+  on-board : {A : Type 0} (f : Refusal → ℕ → List ℕ → List ℕ → A)
+      → f (readRefusal file) (rackIn file) (quantitiesIn file) (setsIn file) ≡ f (stateRefusal Closed b) (b .rack) (quantitiesOf b) (linesOf b)
   on-board f =
-      ap₂ (λ r l. f r (rackIn file) l) (read-none file free ∙ sym state-is) (sym lines-are)
-      ∙ ap (λ m. f (stateRefusal Closed b) m (linesOf b)) (sym (ap (λ a. a .rack) board-is))
+      ap₂ (λ r m. f r m (quantitiesIn file) (setsIn file)) (read-none file free ∙ sym state-is) (sym (ap (λ a. a .rack) board-is))
+      ∙ ap₂ (f (stateRefusal Closed b) (b .rack)) (sym quantities-are) (sym lines-are)
 
   pub read-as-board : readIn file ≡ record { refusal = none; first = b .rack; second = b .count; third = 0 }
   unfolding readIn
@@ -101,62 +104,39 @@ module _ (file : List ℕ) (b : Board) (given : readOf file ≡ answer b none) w
 
   pub common-as-board : commonIn file ≡ ofCommon (commonOf b)
   unfolding commonIn commonOf
-  common-as-board = on-board (λ r m l. commonOutcome (Lines.commonOf r m l))
+  common-as-board = on-board (λ r m q l. commonOutcome (Lines.commonOf r m q l))
 
   pub quick-as-board : (room : ℕ) → quickIn file room ≡ ofShared (quickOf b room)
   unfolding quickIn quickOf
-  quick-as-board room = on-board (λ r m l. planOutcome (Lines.quickOf r m l room))
+  quick-as-board room = on-board (λ r m q l. planOutcome (Lines.quickOf r m q l room))
 
   pub quick-plan-as-board : (plan : List ℕ) → quickPlanIn file plan ≡ quickBuffer b plan
   unfolding quickPlanIn quickBuffer
-  quick-plan-as-board plan = on-board (λ r m l. Lines.quickBuffer r m l plan)
+  quick-plan-as-board plan = on-board (λ r m q l. Lines.quickBuffer r m q l plan)
 
   pub best-as-board : (room places : ℕ) → bestIn file room places ≡ ofShared (bestOf b room places)
   unfolding bestIn bestOf
-  best-as-board room places = on-board (λ r m l. planOutcome (Lines.bestOf r m l room places))
+  best-as-board room places = on-board (λ r m q l. planOutcome (Lines.bestOf r m q l room places))
 
   pub best-plan-as-board : (plan : List ℕ) (places : ℕ) → bestPlanIn file plan places ≡ bestBuffer b plan places
   unfolding bestPlanIn bestBuffer
-  best-plan-as-board plan places = on-board (λ r m l. Lines.bestBuffer r m l plan places)
+  best-plan-as-board plan places = on-board (λ r m q l. Lines.bestBuffer r m q l plan places)
 
   pub best-table-as-board : (room : ℕ) (cells : List ℕ) → bestTableIn file room cells ≡ bestTable b room cells
   unfolding bestTableIn bestTable
-  best-table-as-board room cells = on-board (λ r m l. Lines.bestTable r m l room cells)
+  best-table-as-board room cells = on-board (λ r m q l. Lines.bestTable r m q l room cells)
 
-  -- the array of the board has a place for each line
-  full : length (b .sets) ≡ mostLines
-  full =
-      let n = countIn file in
-      let few = read-iff file .0 free .0 .fewLines in
-      ap (λ a. length (a .sets)) board-is
-      ∙ length-append (setsIn file) (drop n noSets)
-      ∙ omega (arith, few, length-setsIn file, length-no-sets, length-drop n noSets)
+  -- the arrays of the board have a place for each line
+  full : Full b
+  full = rw board-is (full-in file free)
 
-  -- a keep that refuses writes nothing, and its margin is told
-  module _ (k : ℕ) (h : keepOf b k .number ≡ 0 → ⊥) where
-    refused-26 : keepRefusal (stateRefusal Closed b) (margin (b .rack) (linesOf b) k) ≡ refuse 26
-    unfolding keepOf Lines.keepOf
-    refused-26 =
-        let y = margin (b .rack) (linesOf b) k in
-        let e = ap (λ r. keepRefusal r y) state-is in
-        e ∙ keep-26 y (λ z. h (ap (λ r. r .number) e ∙ z))
-
-    pub keep-refused-as-board : (room : ℕ) → keepIn file k room ≡ ofKept (keepOf b k)
-    unfolding keepIn keepOf Lines.keepOf Lines.writeOf writeRefusal orElse
-    keep-refused-as-board room =
-        on-board (λ r m l. let a = Lines.keepOf r m l k in keepOutcome a (Lines.writeOf (a .refusal) (prune m l k) room))
-        ∙ rw refused-26 refl
-
-    pub keep-refused-file : (out : List ℕ) → keepFileIn file k out ≡ out
-    unfolding keepFileIn Lines.keepOf Lines.writeBuffer writeRefusal orElse
-    keep-refused-file out =
-        on-board (λ r m l. Lines.writeBuffer (Lines.keepOf r m l k .refusal) m (prune m l k) out)
-        ∙ rw refused-26 refl
+  abbrev left : ℕ → ℤ
+  left = margin (b .rack) (repeated (quantitiesOf b) (linesOf b))
 
   -- keep that refuses nothing, then write
   module _ (k : ℕ) (z : keepOf b k .number ≡ 0) where
     abbrev kept : Refusal
-    kept = keepRefusal (stateRefusal Closed b) (margin (b .rack) (linesOf b) k)
+    kept = keepRefusal (stateRefusal Closed b) (left k)
 
     kept-free : kept .number ≡ 0
     unfolding keepOf Lines.keepOf
@@ -164,9 +144,8 @@ module _ (file : List ℕ) (b : Board) (given : readOf file ≡ answer b none) w
 
     kept-none : kept ≡ none
     kept-none =
-        let y = margin (b .rack) (linesOf b) k in
-        let e = ap (λ r. keepRefusal r y) state-is in
-        e ∙ keep-whole y (ap (λ r. r .number) (sym e) ∙ kept-free)
+        let e = ap (λ r. keepRefusal r (left k)) state-is in
+        e ∙ keep-whole (left k) (ap (λ r. r .number) (sym e) ∙ kept-free)
 
     -- the kept board is sound and closed, and its lines are the pruned ones
     kept-state : kept ≡ stateRefusal Closed (keptBoard b k)
@@ -174,17 +153,38 @@ module _ (file : List ℕ) (b : Board) (given : readOf file ≡ answer b none) w
     kept-state =
         let a = keptBoard b k in
         let rule = keep-rule b k full in
-        kept-none ∙ sym (state-holds Closed (a .rack) (a .stage) (a .count) (a .sets) (rule .stays-sound z) (rule .stays-closed z))
+        kept-none ∙ sym (state-free Closed a (kept-full b k full kept-free) (rule .stays-sound z) (rule .stays-closed z))
 
     pub keep-as-board : (room : ℕ) → keepIn file k room ≡ ofWritten (keepOf b k) (writeOf (keepOf b k .board) room)
     unfolding keepIn keepOf Lines.keepOf writeOf
     keep-as-board room =
-        on-board (λ r m l. let a = Lines.keepOf r m l k in keepOutcome a (Lines.writeOf (a .refusal) (prune m l k) room))
-        ∙ ap₂ (λ r l. keepOutcome (Lines.keepOf (stateRefusal Closed b) (b .rack) (linesOf b) k) (Lines.writeOf r l room))
+        on-board (λ r m q l. let a = Lines.keepOf r m q l k in keepOutcome a (Lines.writeOf (a .refusal) q (pruneQ m q l k) room))
+        ∙ ap₂ (λ r l.
+        keepOutcome (Lines.keepOf (stateRefusal Closed b) (b .rack) (quantitiesOf b) (linesOf b) k) (Lines.writeOf r (quantitiesOf b) l room))
         kept-state (sym (kept-lines b k full kept-free))
 
     pub keep-file-as-board : (out : List ℕ) → keepFileIn file k out ≡ writeBuffer (keepOf b k .board) out
     unfolding keepFileIn keepOf Lines.keepOf writeBuffer
     keep-file-as-board out =
-        on-board (λ r m l. Lines.writeBuffer (Lines.keepOf r m l k .refusal) m (prune m l k) out)
-        ∙ ap₂ (λ r l. Lines.writeBuffer r (b .rack) l out) kept-state (sym (kept-lines b k full kept-free))
+        on-board (λ r m q l. Lines.writeBuffer (Lines.keepOf r m q l k .refusal) m q (pruneQ m q l k) out)
+        ∙ ap₂ (λ r l. Lines.writeBuffer r (b .rack) (quantitiesOf b) l out) kept-state (sym (kept-lines b k full kept-free))
+
+  -- a keep that refuses writes nothing, and its margin is told
+  module _ (k : ℕ) (h : keepOf b k .number ≡ 0 → ⊥) where
+    refused-26 : keepRefusal (stateRefusal Closed b) (left k) ≡ refuse 26
+    unfolding keepOf Lines.keepOf
+    refused-26 =
+        let e = ap (λ r. keepRefusal r (left k)) state-is in
+        e ∙ keep-26 (left k) (λ z. h (ap (λ r. r .number) e ∙ z))
+
+    pub keep-refused-as-board : (room : ℕ) → keepIn file k room ≡ ofKept (keepOf b k)
+    unfolding keepIn keepOf Lines.keepOf Lines.writeOf writeRefusal orElse
+    keep-refused-as-board room =
+        on-board (λ r m q l. let a = Lines.keepOf r m q l k in keepOutcome a (Lines.writeOf (a .refusal) q (pruneQ m q l k) room))
+        ∙ rw refused-26 refl
+
+    pub keep-refused-file : (out : List ℕ) → keepFileIn file k out ≡ out
+    unfolding keepFileIn Lines.keepOf Lines.writeBuffer writeRefusal orElse
+    keep-refused-file out =
+        on-board (λ r m q l. Lines.writeBuffer (Lines.keepOf r m q l k .refusal) m q (pruneQ m q l k) out)
+        ∙ rw refused-26 refl

@@ -4,30 +4,35 @@ use mathlib.Core.Path.{_≡_, sym, ap, _∙_}
 use mathlib.Core.List.{List}
 use lib.ListN.{length, take}
 use Rattle.refusal.specs.declared.Refusal.{Refusal}
-use Rattle.job.specs.Job.{rackIn, setsIn, readRefusal}
+use Rattle.job.specs.Job.{rackIn, setsIn, quantitiesIn, readRefusal}
 use Rattle.reading.specs.Reading.{LinesRead}
-use Rattle.reading.proofs.Lines.{first-sets}
+use Rattle.reading.proofs.Lines.{first-sets, first-quantities}
 use Rattle.call_refusals.proofs.Calls.{plan-none, best-none}
 use Rattle.line_calls.specs.declared.CommonAnswer.{CommonAnswer}
 use Rattle.line_calls.specs.declared.PlanAnswer.{PlanAnswer}
 use Rattle.line_calls.specs.Lines.{commonOf, quickOf, quickBuffer, bestOf, bestBuffer, bestTable}
 use Rattle.line_calls.specs.Rules.{CommonRule, HalfRule, BestRule}
-use Rattle.line_calls.proofs.Refused.{common-same, quick-same, quick-buffer-same, best-same, best-buffer-same, best-table-same}
+use Rattle.line_calls.proofs.Refused.{Same, common-same, quick-same, quick-buffer-same, best-same, best-buffer-same, best-table-same}
 use Rattle.line_calls.proofs.Refused.{common-rule-same, half-rule-same, best-rule-same}
 use Rattle.file_calls.specs.Calls.{commonOutcome, planOutcome, commonIn, quickIn, quickPlanIn, bestIn, bestPlanIn, bestTableIn}
 use Rattle.file_calls.specs.Rules.{CommonRuleOf, HalfRuleOf, BestRuleOf}
 
--- where reading accepts, the rack and the lines are those of the file
-pub same-lines : {file : List ℕ} {m n : ℕ} {old sets : List ℕ} → LinesRead file m n old sets → (m ≡ rackIn file) × (take n sets ≡ setsIn file)
-same-lines l = (l .rack-is, first-sets l)
+-- the rack, the quantities and the sets are those of the file
+abbrev pub AsRead : List ℕ → ℕ → List ℕ → List ℕ → Type 0
+AsRead file m qs lines = Same m (rackIn file) qs (quantitiesIn file) lines (setsIn file)
 
-module _ (file : List ℕ) {d : Refusal} (e : d ≡ readRefusal file) {m : ℕ} {lines : List ℕ}
-    (same : d .number ≡ 0 → (m ≡ rackIn file) × (lines ≡ setsIn file)) where
+-- so they are where reading accepts
+pub same-lines : {file : List ℕ} {m n : ℕ} {old-sets sets old-qs qs : List ℕ} → LinesRead file m n old-sets sets old-qs qs
+    → AsRead file m (take n qs) (take n sets)
+same-lines l = (l .rack-is, first-quantities l, first-sets l)
+
+module _ (file : List ℕ) {d : Refusal} (e : d ≡ readRefusal file) {m : ℕ} {qs lines : List ℕ} (same : d .number ≡ 0 → AsRead file m qs lines) where
   -- the same after the refusal of reading
-  of-file : {A : Type 0} (f : Refusal → ℕ → List ℕ → A) → f d (rackIn file) (setsIn file) ≡ f (readRefusal file) (rackIn file) (setsIn file)
-  of-file f = ap (λ r. f r (rackIn file) (setsIn file)) e
+  of-file : {A : Type 0} (f : Refusal → ℕ → List ℕ → List ℕ → A)
+      → f d (rackIn file) (quantitiesIn file) (setsIn file) ≡ f (readRefusal file) (rackIn file) (quantitiesIn file) (setsIn file)
+  of-file f = ap (λ r. f r (rackIn file) (quantitiesIn file) (setsIn file)) e
 
-  pub common-in : {a : CommonAnswer} → a ≡ commonOf d m lines → CommonRule m lines (a .refusal .number) (a .top) (a .off) (a .tips)
+  pub common-in : {a : CommonAnswer} → a ≡ commonOf d m qs lines → CommonRule m qs lines (a .refusal .number) (a .top) (a .off) (a .tips)
       → (commonOutcome a ≡ commonIn file) × CommonRuleOf file (commonOutcome a)
   unfolding commonIn commonOf
   common-in p rule = (
@@ -36,19 +41,20 @@ module _ (file : List ℕ) {d : Refusal} (e : d ≡ readRefusal file) {m : ℕ} 
   )
 
   module _ (plan : List ℕ) {a : PlanAnswer} {last : List ℕ} where
-    pub quick-in : a ≡ quickOf d m lines (length plan) → last ≡ quickBuffer d m lines plan → HalfRule lines last (a .refusal .number) (a .pairs)
+    pub quick-in : a ≡ quickOf d m qs lines (length plan) → last ≡ quickBuffer d m qs lines plan
+        → HalfRule qs lines last (a .refusal .number) (a .pairs)
         → (planOutcome a ≡ quickIn file (length plan)) × ((last ≡ quickPlanIn file plan) × HalfRuleOf file last (planOutcome a))
     unfolding quickIn quickPlanIn quickOf
     quick-in p q rule =
         let free : a .refusal .number ≡ 0 → d .number ≡ 0 =
         λ z. plan-none d (length lines) (length plan) (ap (λ x. x .refusal .number) (sym p) ∙ z) .0 in (
-          ap planOutcome (p ∙ quick-same d same plan ∙ of-file (λ r k l. quickOf r k l (length plan))),
-          (q ∙ quick-buffer-same d same plan ∙ of-file (λ r k l. quickBuffer r k l plan), half-rule-same (λ z. same (free z)) rule),
+          ap planOutcome (p ∙ quick-same d same plan ∙ of-file (λ r k q l. quickOf r k q l (length plan))),
+          (q ∙ quick-buffer-same d same plan ∙ of-file (λ r k q l. quickBuffer r k q l plan), half-rule-same (λ z. same (free z)) rule),
         )
 
-    pub best-in : (cells : List ℕ) {grid : List ℕ} → a ≡ bestOf d m lines (length plan) (length cells)
-        → last ≡ bestBuffer d m lines plan (length cells) → grid ≡ bestTable d m lines (length plan) cells
-        → BestRule lines last (a .refusal .number) (a .pairs)
+    pub best-in : (cells : List ℕ) {grid : List ℕ} → a ≡ bestOf d m qs lines (length plan) (length cells)
+        → last ≡ bestBuffer d m qs lines plan (length cells) → grid ≡ bestTable d m qs lines (length plan) cells
+        → BestRule qs lines last (a .refusal .number) (a .pairs)
         → (planOutcome a ≡ bestIn file (length plan) (length cells))
         × ((last ≡ bestPlanIn file plan (length cells))
         × ((grid ≡ bestTableIn file (length plan) cells) × BestRuleOf file last (planOutcome a)))
@@ -56,11 +62,11 @@ module _ (file : List ℕ) {d : Refusal} (e : d ≡ readRefusal file) {m : ℕ} 
     best-in cells p q t rule =
         let free : a .refusal .number ≡ 0 → d .number ≡ 0 =
         λ z. best-none d m lines (length plan) (length cells) (ap (λ x. x .refusal .number) (sym p) ∙ z) .free in (
-          ap planOutcome (p ∙ best-same d same plan cells ∙ of-file (λ r k l. bestOf r k l (length plan) (length cells))),
+          ap planOutcome (p ∙ best-same d same plan cells ∙ of-file (λ r k q l. bestOf r k q l (length plan) (length cells))),
           (
-            q ∙ best-buffer-same d same plan cells ∙ of-file (λ r k l. bestBuffer r k l plan (length cells)),
+            q ∙ best-buffer-same d same plan cells ∙ of-file (λ r k q l. bestBuffer r k q l plan (length cells)),
             (
-              t ∙ best-table-same d same plan cells ∙ of-file (λ r k l. bestTable r k l (length plan) cells),
+              t ∙ best-table-same d same plan cells ∙ of-file (λ r k q l. bestTable r k q l (length plan) cells),
               best-rule-same (λ z. same (free z)) rule,
             ),
           ),

@@ -1,12 +1,12 @@
--- What each call gives for a job file: what it answers for the file's lines after the refusal of reading.
+-- What each call gives for a job file: what it answers for the file's lines and their quantities after the refusal of reading.
 use Prim.Native.Nat.{ℕ, suc, _-_, _^_}
 use mathlib.Core.Bool.{cond}
 use mathlib.Core.List.{List}
 use lib.Dec.{eqb}
 use lib.IntN.{ℤ, pos, negsuc}
-use Rattle.model.specs.CommonTip.{prune}
+use Rattle.placements.specs.Keep.{pruneQ}
 use Rattle.refusal.specs.Refusal.{told}
-use Rattle.job.specs.Job.{rackIn, countIn, setsIn, readRefusal}
+use Rattle.job.specs.Job.{rackIn, countIn, setsIn, quantitiesIn, readRefusal}
 use Rattle.line_calls.specs.declared.CommonAnswer.{CommonAnswer}
 use Rattle.line_calls.specs.declared.PlanAnswer.{PlanAnswer}
 use Rattle.line_calls.specs.declared.KeepAnswer.{KeepAnswer}
@@ -31,7 +31,7 @@ commonOutcome a = record { refusal = a .refusal; first = a .top; second = a .off
 
 -- common tip
 unfoldable pub commonIn : List ℕ → Outcome
-commonIn file = commonOutcome (commonOf (readRefusal file) (rackIn file) (setsIn file))
+commonIn file = commonOutcome (commonOf (readRefusal file) (rackIn file) (quantitiesIn file) (setsIn file))
 
 -- the pairs in a plan
 abbrev pub planOutcome : PlanAnswer → Outcome
@@ -39,22 +39,22 @@ planOutcome a = record { refusal = a .refusal; first = a .pairs; second = 0; thi
 
 -- quick sharing, with a plan buffer of room bytes
 unfoldable pub quickIn : List ℕ → ℕ → Outcome
-quickIn file room = planOutcome (quickOf (readRefusal file) (rackIn file) (setsIn file) room)
+quickIn file room = planOutcome (quickOf (readRefusal file) (rackIn file) (quantitiesIn file) (setsIn file) room)
 
 -- the plan buffer after quick sharing
 unfoldable pub quickPlanIn : List ℕ → List ℕ → List ℕ
-quickPlanIn file plan = quickBuffer (readRefusal file) (rackIn file) (setsIn file) plan
+quickPlanIn file plan = quickBuffer (readRefusal file) (rackIn file) (quantitiesIn file) (setsIn file) plan
 
 -- best sharing, with a plan buffer of room bytes and a table of so many places
 unfoldable pub bestIn : List ℕ → ℕ → ℕ → Outcome
-bestIn file room places = planOutcome (bestOf (readRefusal file) (rackIn file) (setsIn file) room places)
+bestIn file room places = planOutcome (bestOf (readRefusal file) (rackIn file) (quantitiesIn file) (setsIn file) room places)
 
 -- the plan buffer and the table after best sharing
 unfoldable pub bestPlanIn : List ℕ → List ℕ → ℕ → List ℕ
-bestPlanIn file plan places = bestBuffer (readRefusal file) (rackIn file) (setsIn file) plan places
+bestPlanIn file plan places = bestBuffer (readRefusal file) (rackIn file) (quantitiesIn file) (setsIn file) plan places
 
 unfoldable pub bestTableIn : List ℕ → ℕ → List ℕ → List ℕ
-bestTableIn file room cells = bestTable (readRefusal file) (rackIn file) (setsIn file) room cells
+bestTableIn file room cells = bestTable (readRefusal file) (rackIn file) (quantitiesIn file) (setsIn file) room cells
 
 -- the margin of keep and the bytes of the kept file; 26 carries its margin, and 11 carries none
 abbrev pub keepOutcome : KeepAnswer → FileAnswer → Outcome
@@ -65,14 +65,14 @@ keepOutcome kept w = record {
   third = 0;
 }
 
--- keep within k, and the kept lines written to an output of room bytes
+-- keep within k, and the kept lines written with their quantities to an output of room bytes
 unfoldable pub keepIn : List ℕ → ℕ → ℕ → Outcome
 keepIn file k room =
-    let kept = keepOf (readRefusal file) (rackIn file) (setsIn file) k in
-    keepOutcome kept (writeOf (kept .refusal) (prune (rackIn file) (setsIn file) k) room)
+    let kept = keepOf (readRefusal file) (rackIn file) (quantitiesIn file) (setsIn file) k in
+    keepOutcome kept (writeOf (kept .refusal) (quantitiesIn file) (pruneQ (rackIn file) (quantitiesIn file) (setsIn file) k) room)
 
 -- the output after keep within k
 unfoldable pub keepFileIn : List ℕ → ℕ → List ℕ → List ℕ
 keepFileIn file k out =
-    let kept = keepOf (readRefusal file) (rackIn file) (setsIn file) k in
-    writeBuffer (kept .refusal) (rackIn file) (prune (rackIn file) (setsIn file) k) out
+    let kept = keepOf (readRefusal file) (rackIn file) (quantitiesIn file) (setsIn file) k in
+    writeBuffer (kept .refusal) (rackIn file) (quantitiesIn file) (pruneQ (rackIn file) (quantitiesIn file) (setsIn file) k) out

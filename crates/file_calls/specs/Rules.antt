@@ -4,28 +4,30 @@ use mathlib.Core.Path.{_≡_}
 use mathlib.Core.Logic.{_↔_}
 use mathlib.Core.List.{List}
 use lib.ListN.{take}
-use Rattle.model.specs.CommonTip.{Exact}
+use Rattle.placements.specs.Keep.{ExactQ}
 use Rattle.refusal.specs.Refusal.{none}
-use Rattle.job.specs.Job.{rackIn, setsIn, readRefusal}
+use Rattle.job.specs.Job.{rackIn, setsIn, quantitiesIn, readRefusal, InShorterForm}
 use Rattle.line_calls.specs.Rules.{CommonRule, NoneWithin, HalfRule, BestRule}
 use Rattle.file_calls.specs.declared.Outcome.{Outcome}
 
--- off is the least over all valid plans, and the set has the tips that as many lines allow as top
+-- off is the least over all valid plans, and the set has the tips that as many placements allow as top
 abbrev pub CommonRuleOf : List ℕ → Outcome → Type 0
-CommonRuleOf file o = CommonRule (rackIn file) (setsIn file) (o .refusal .number) (o .first) (o .second) (o .third)
+CommonRuleOf file o = CommonRule (rackIn file) (quantitiesIn file) (setsIn file) (o .refusal .number) (o .first) (o .second) (o .third)
 
 -- the half rule, of the bytes in the plan buffer
 abbrev pub HalfRuleOf : List ℕ → List ℕ → Outcome → Type 0
-HalfRuleOf file plan o = HalfRule (setsIn file) plan (o .refusal .number) (o .first)
+HalfRuleOf file plan o = HalfRule (quantitiesIn file) (setsIn file) plan (o .refusal .number) (o .first)
 
 -- the best rule, of the bytes in the plan buffer
 abbrev pub BestRuleOf : List ℕ → List ℕ → Outcome → Type 0
-BestRuleOf file plan o = BestRule (setsIn file) plan (o .refusal .number) (o .first)
+BestRuleOf file plan o = BestRule (quantitiesIn file) (setsIn file) plan (o .refusal .number) (o .first)
 
--- demand 2, of the bytes in the output: it is a job file that is read, of the same rack, in which a tip stays on a line exactly when some valid
--- plan within k uses it there; and a file that reading accepts gives 26 exactly when no valid plan is within k
+-- demand 2, of the bytes in the output: it is a job file that is read, in the shorter form, with the same rack and quantities, in which a tip stays
+-- on a line exactly when some valid plan within k uses it there; and a file that reading accepts gives 26 exactly when no valid plan is within k
 pub record KeepRuleOf (file : List ℕ) (k : ℕ) (out : List ℕ) (o : Outcome) : Type 0 where
   pub is-read : o .refusal .number ≡ 0 → readRefusal (take (o .second) out) ≡ none
+  pub shorter-form : o .refusal .number ≡ 0 → InShorterForm (take (o .second) out)
   pub same-rack : o .refusal .number ≡ 0 → rackIn (take (o .second) out) ≡ rackIn file
-  pub exact : o .refusal .number ≡ 0 → Exact (rackIn file) (setsIn file) k (setsIn (take (o .second) out))
-  pub refuses : readRefusal file ≡ none → (o .refusal .number ≡ 26) ↔ NoneWithin (rackIn file) (setsIn file) k
+  pub same-quantities : o .refusal .number ≡ 0 → quantitiesIn (take (o .second) out) ≡ quantitiesIn file
+  pub exact : o .refusal .number ≡ 0 → ExactQ (rackIn file) (quantitiesIn file) (setsIn file) k (setsIn (take (o .second) out))
+  pub refuses : readRefusal file ≡ none → (o .refusal .number ≡ 26) ↔ NoneWithin (rackIn file) (quantitiesIn file) (setsIn file) k

@@ -42,8 +42,9 @@ pub fn common_outcome(file: &[u8]) -> Outcome
     ensures rule { λ r. ⌜ CommonRuleOf (now (file .entry)) r ⌝ }
 {
     let mut sets = sound::no_sets();
-    let read = reading::read_lines(file, &mut sets);
-    let found = line_calls::common(read.refusal, read.rack, read.count, &sets);
+    let mut quantities = sound::no_quantities();
+    let read = reading::read_lines(file, &mut sets, &mut quantities);
+    let found = line_calls::common(read.refusal, read.rack, read.count, &sets, &quantities);
     let refusal = found.refusal;
     Outcome {
         refusal,
@@ -86,9 +87,17 @@ pub fn keep_outcome(file: &[u8], k: u16, out: &mut [u8]) -> Outcome
     ensures rule { λ r. ⌜ KeepRuleOf (now (file .entry)) k (now (out .exit)) r ⌝ }
 {
     let mut sets = sound::no_sets();
-    let read = reading::read_lines(file, &mut sets);
-    let kept = line_calls::keep(read.refusal, read.rack, read.count, &mut sets, k);
-    let written = line_calls::write(kept.refusal, read.rack, read.count, &sets, out);
+    let mut quantities = sound::no_quantities();
+    let read = reading::read_lines(file, &mut sets, &mut quantities);
+    let kept = line_calls::keep(
+        read.refusal,
+        read.rack,
+        read.count,
+        &mut sets,
+        &quantities,
+        k,
+    );
+    let written = line_calls::write(kept.refusal, read.rack, read.count, &sets, &quantities, out);
     keep_outcome_of(kept, written)
 }
 
@@ -110,8 +119,16 @@ pub fn quick_outcome(file: &[u8], plan: &mut [u8]) -> Outcome
     ensures rule { λ r. ⌜ HalfRuleOf (now (file .entry)) (now (plan .exit)) r ⌝ }
 {
     let mut sets = sound::no_sets();
-    let read = reading::read_lines(file, &mut sets);
-    plan_outcome(line_calls::quick(read.refusal, read.rack, read.count, &mut sets, plan))
+    let mut quantities = sound::no_quantities();
+    let read = reading::read_lines(file, &mut sets, &mut quantities);
+    plan_outcome(line_calls::quick(
+        read.refusal,
+        read.rack,
+        read.count,
+        &mut sets,
+        &quantities,
+        plan,
+    ))
 }
 
 pub fn best_outcome(file: &[u8], plan: &mut [u8], table: &mut [u32]) -> Outcome
@@ -121,6 +138,15 @@ pub fn best_outcome(file: &[u8], plan: &mut [u8], table: &mut [u32]) -> Outcome
     ensures rule { λ r. ⌜ BestRuleOf (now (file .entry)) (now (plan .exit)) r ⌝ }
 {
     let mut sets = sound::no_sets();
-    let read = reading::read_lines(file, &mut sets);
-    plan_outcome(line_calls::best(read.refusal, read.rack, read.count, &sets, plan, table))
+    let mut quantities = sound::no_quantities();
+    let read = reading::read_lines(file, &mut sets, &mut quantities);
+    plan_outcome(line_calls::best(
+        read.refusal,
+        read.rack,
+        read.count,
+        &sets,
+        &quantities,
+        plan,
+        table,
+    ))
 }

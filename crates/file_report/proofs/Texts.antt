@@ -14,7 +14,7 @@ use Rattle.refusal.specs.declared.Refusal.{Refusal}
 use Rattle.refusal.proofs.Laws.{refused, accepted}
 use Rattle.job.specs.Job.{readRefusal}
 use Rattle.reading.specs.Reading.{LinesRead}
-use Rattle.reading.proofs.Lines.{first-sets}
+use Rattle.reading.proofs.Lines.{first-sets, first-quantities}
 use Rattle.report.specs.Report.{reportOf, refusedText}
 use Rattle.text.specs.Buffer.{Printed}
 use Rattle.file_report.specs.Summary.{takenBytes, textRoom, factsOf, textOf, summaryOf}
@@ -29,10 +29,10 @@ module _ (file : List ℕ) {d : Refusal} (e : d ≡ readRefusal file) where
   text-refused n = refused _ _ e n ∙ ap (λ r. refusedText (r .number)) (sym e)
 
   -- the report on an accepted file is that on the lines that were read
-  pub text-accepted : d .number ≡ 0 → {m n : ℕ} {old sets : List ℕ} → LinesRead file m n old sets
-      → textOf file ≡ reportOf (factsOf m (take n sets))
+  pub text-accepted : d .number ≡ 0 → {m n : ℕ} {old-sets sets old-qs qs : List ℕ} → LinesRead file m n old-sets sets old-qs qs
+      → textOf file ≡ reportOf (factsOf m (take n qs) (take n sets))
   unfolding textOf
-  text-accepted z read = accepted _ _ e z ∙ rw (first-sets read, read .rack-is)
+  text-accepted z read = accepted _ _ e z ∙ rw (first-sets read, first-quantities read, read .rack-is)
 
 -- at most n elements, and no more than there are
 take-least : (n : ℕ) (xs : List ℕ) → take (min (length xs) n) xs ≡ take n xs

@@ -4,14 +4,15 @@ ghost use Prim.Native.Nat.{_≤_, min};
 ghost use lib.Dec.{T};
 ghost use lib.ListN.{length};
 ghost use Rattle.model.specs.Count.{each};
-ghost use Rattle.model.specs.Limits.{mostLines, GoodLines};
+ghost use Rattle.model.specs.Limits.{mostLines};
 ghost use Rattle.model.specs.Interval.{isRun};
+ghost use Rattle.placements.specs.Good.{GoodLines};
 ghost use Rattle.report.specs.Report.{reportOf};
 ghost use Rattle.text.specs.Buffer.{Printed};
 ghost use Rattle.file_report.specs.Summary.{factsOf, BestShared, textOf, takenBytes, textRoom, summaryOf};
 
 // The bytes of a file that are taken: one more than the longest good file has, by which a longer one is seen.
-pub const TAKEN: usize = 4105;
+pub const TAKEN: usize = 4617;
 
 // The bytes that the longest text may need.
 pub const ROOM: usize = 16384;
@@ -37,10 +38,10 @@ struct Best {
 }
 
 // Best sharing of the lines. Where some line is no run the plan stays as it was.
-fn best_lines(rack: usize, lines: &[u64], plan: &mut [u8]) -> Best
-    requires { ⌜ GoodLines rack (now lines) × (length (now plan) ≡ length (now lines)) ⌝ }
+fn best_lines<'a>(rack: usize, lines: &'a [u64], quantities: &'a [u8], plan: &mut [u8]) -> Best
+    requires { ⌜ GoodLines rack (now quantities) (now lines) × (length (now plan) ≡ length (now lines)) ⌝ }
     ensures runs { λ r. ⌜ r .runs ≡ each isRun (now (lines .entry)) ⌝ }
-    ensures best { λ r. ⌜ (T (r .runs) → BestShared rack (now (lines .entry)) (r .pairs) (now (plan .exit))) ⌝ }
+    ensures best { λ r. ⌜ (T (r .runs) → BestShared rack (now (quantities .entry)) (now (lines .entry)) (r .pairs) (now (plan .exit))) ⌝ }
 {
     let mut table = table_buffer();
     let laid = line_calls::best(
@@ -48,6 +49,7 @@ fn best_lines(rack: usize, lines: &[u64], plan: &mut [u8]) -> Best
         rack,
         lines.len(),
         lines,
+        quantities,
         plan,
         &mut table,
     );
@@ -62,18 +64,23 @@ fn best_lines(rack: usize, lines: &[u64], plan: &mut [u8]) -> Best
 fn write_lines(
     rack: usize,
     lines: &mut [u64],
+    quantities: &[u8],
     quick: &mut [u8],
     best: &mut [u8],
     out: &mut [u8],
 ) -> usize
-    requires { ⌜ GoodLines rack (now lines) × (textRoom ≤ length (now out)) ⌝ }
+    requires { ⌜ GoodLines rack (now quantities) (now lines) × (textRoom ≤ length (now out)) ⌝ }
     requires { ⌜ (length (now quick) ≡ length (now lines)) × (length (now best) ≡ length (now lines)) ⌝ }
-    ensures { λ r. ⌜ Printed (reportOf (factsOf rack (now (lines .entry)))) (now (out .entry)) r (now (out .exit)) ⌝ }
+    ensures { λ r. ⌜ Printed
+        (reportOf (factsOf rack (now (quantities .entry)) (now (lines .entry))))
+        (now (out .entry))
+        r
+        (now (out .exit)) ⌝ }
 {
     let count = lines.len();
-    let common = line_calls::common(refusal::refuse(0), rack, count, lines);
-    let shared = best_lines(rack, lines, best);
-    let laid = line_calls::quick(refusal::refuse(0), rack, count, lines, quick);
+    let common = line_calls::common(refusal::refuse(0), rack, count, lines, quantities);
+    let shared = best_lines(rack, lines, quantities, best);
+    let laid = line_calls::quick(refusal::refuse(0), rack, count, lines, quantities, quick);
     report::write_report(
         rack,
         common.off,
@@ -93,7 +100,8 @@ fn write_file(file: &[u8], out: &mut [u8]) -> usize
     ensures { λ r. ⌜ Printed (textOf (now (file .entry))) (now (out .entry)) r (now (out .exit)) ⌝ }
 {
     let mut sets = sound::no_sets();
-    let read = reading::read_lines(file, &mut sets);
+    let mut quantities = sound::no_quantities();
+    let read = reading::read_lines(file, &mut sets, &mut quantities);
     let refusal = read.refusal;
     if refusal.number != 0 {
         return report::write_refused(refusal.number, out);
@@ -104,6 +112,7 @@ fn write_file(file: &[u8], out: &mut [u8]) -> usize
     write_lines(
         read.rack,
         &mut sets[..count],
+        &quantities[..count],
         &mut quick[..count],
         &mut best[..count],
         out,

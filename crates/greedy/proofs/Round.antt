@@ -8,7 +8,7 @@ use mathlib.Core.List.{List, [], _∷_, map}
 use lib.Dec.{not-T, eqb→eq}
 use lib.ListN.{length, replicate, length-map}
 use Rattle.model.specs.Count.{All, none, more, largest}
-use Rattle.model.specs.Limits.{mostLines, mostPairs, GoodLines}
+use Rattle.model.specs.Limits.{mostPlacements, mostPairs}
 use Rattle.model.specs.Plan.{has, occ, isEmpty, pairs, choose2, Domain, prefer}
 use Rattle.model.specs.Choice.{Mounted}
 use Rattle.model.specs.Greedy.{busiest, rest, rounds, first, quickTip, quickPlan}
@@ -21,6 +21,12 @@ use Rattle.model.proofs.Sets.{some-tip, not-empty}
 use Rattle.model.proofs.Occ.{occ-le, occ-length, top-le, top-length, busiest-lt}
 use Rattle.model.proofs.Valid.{prefer-mix, rest-free}
 use Rattle.model.proofs.Greedy.{rest-fewer, rest-domains, length-quick, quick-valid}
+use Rattle.placements.specs.Repeated.{repeated}
+use Rattle.placements.specs.Good.{GoodLines}
+use Rattle.placements.specs.Plans.{quickPlanQ}
+use Rattle.placements.proofs.Repeated.{length-repeated, repeated-map, all-repeated, all-once}
+use Rattle.placements.proofs.Plans.{quick-repeated}
+use Rattle.placements.proofs.Good.{good-placements}
 use Rattle.blocks.specs.Blocks.{Covers}
 use Rattle.counts.specs.Counts.{countAt, busyTips, Counts}
 use Rattle.head.specs.OnHead.{chosen}
@@ -122,22 +128,27 @@ filled-round t f g e s p =
     (λ n. rw (e s, false-T (has s t) n))
     (test (has s t))
 
-pub record State (mounted : Mounted) (m : ℕ) (lines left plan counts : List ℕ) (shared : ℕ) : Type 0 where
-  pub domains : All (Domain m) (unplanned left)
+-- the placements of the lines left
+pub toPlan : List ℕ → List ℕ → List ℕ
+toPlan qs left = unplanned (repeated qs left)
+
+pub record State (mounted : Mounted) (m : ℕ) (qs lines left plan counts : List ℕ) (shared : ℕ) : Type 0 where
+  pub domains : All (Domain m) (toPlan qs left)
   pub size : length left ≡ length lines
   pub plan-size : length plan ≡ length left
-  pub counts-are : Counts left counts
-  pub plan-is : quickPlan mounted m lines ≡ planBy (filled (first (order mounted m (unplanned left)))) left plan
-  pub pairs-are : pairs (quickPlan mounted m lines) ≡ shared + pairs (quickPlan mounted m (unplanned left))
+  pub counts-are : Counts (repeated qs left) counts
+  pub plan-is : quickPlanQ mounted m qs lines ≡ planBy (filled (first (order mounted m (toPlan qs left)))) left plan
+  pub pairs-are : pairs (quickPlan mounted m (repeated qs lines)) ≡ shared + pairs (quickPlan mounted m (toPlan qs left))
 
-pub start : {mounted : Mounted} {m : ℕ} {lines plan counts : List ℕ} → All (Domain m) lines → length plan ≡ length lines → Counts lines counts
-    → State mounted m lines lines plan counts 0
-unfolding quickPlan quickTip order
-start {mounted} {m} {lines} {plan} ds e h =
-    let l = unplanned-all ds in
-    let g = first (order mounted m lines) in
+pub start : {mounted : Mounted} {m : ℕ} (qs : List ℕ) {lines plan counts : List ℕ} → All (Domain m) lines → length plan ≡ length lines
+    → Counts (repeated qs lines) counts → State mounted m qs lines lines plan counts 0
+unfolding quickPlanQ quickTip order toPlan
+start {mounted} {m} qs {lines} {plan} ds e h =
+    let placed = all-repeated qs ds in
+    let l = unplanned-all placed in
+    let g = first (order mounted m (repeated qs lines)) in
     record {
-      domains = rw l ds;
+      domains = rw l placed;
       size = refl;
       plan-size = e;
       counts-are = h;
@@ -146,110 +157,125 @@ start {mounted} {m} {lines} {plan} ds e h =
     }
 
 -- between two rounds: the state, with unions that cover the lines left, in lists of the lengths that they had
-pub record Ongoing (mounted : Mounted) (m shared : ℕ) (lines left plan counts unions₀ unions blocks₀ blocks places₀ places : List ℕ) : Type 0 where
-  pub state : State mounted m lines left plan counts shared
+pub record Ongoing (mounted : Mounted) (m shared : ℕ) (qs lines left plan counts unions₀ unions blocks₀ blocks places₀ places : List ℕ) : Type 0 where
+  pub state : State mounted m qs lines left plan counts shared
   pub covers : Covers left unions
   pub unions-size : length unions ≡ length unions₀
   pub blocks-size : length blocks ≡ length blocks₀
   pub places-size : length places ≡ length places₀
 
 -- a round begins: the largest count of a tip in the rack
-pub record Begun (mounted : Mounted) (m : ℕ) (lines left plan counts : List ℕ) (shared most : ℕ) : Type 0 where
-  pub state : State mounted m lines left plan counts shared
-  pub good : GoodLines m lines
+pub record Begun (mounted : Mounted) (m : ℕ) (qs lines left plan counts : List ℕ) (shared most : ℕ) : Type 0 where
+  pub state : State mounted m qs lines left plan counts shared
+  pub good : GoodLines m qs lines
   pub is-most : most ≡ largest (countAt counts) m
 
-module _ {mounted : Mounted} {m : ℕ} {lines left plan counts : List ℕ} {shared most : ℕ}
-    (b : Begun mounted m lines left plan counts shared most) where
-  st : State mounted m lines left plan counts shared
+module _ {mounted : Mounted} {m : ℕ} {qs lines left plan counts : List ℕ} {shared most : ℕ}
+    (b : Begun mounted m qs lines left plan counts shared most) where
+  st : State mounted m qs lines left plan counts shared
   st = b .state
 
-  counted : Counts (unplanned left) counts
-  counted = record { size = st .counts-are .size; counted = λ t. st .counts-are .counted t ∙ occ-unplanned left t }
+  same : length qs ≡ length left
+  same = b .good .same ∙ sym (st .size)
 
-  -- a tip has at most all lines
-  pub few-lines : most ≤ mostLines
-  few-lines = omega (arith, b .good .few, b .is-most, largest-top (st .counts-are) m, top-length m left, st .size)
+  counted : Counts (toPlan qs left) counts
+  unfolding toPlan
+  counted = record { size = st .counts-are .size; counted = λ t. st .counts-are .counted t ∙ occ-unplanned (repeated qs left) t }
+
+  -- a tip has at most all placements
+  pub few-placements : most ≤ mostPlacements
+  few-placements =
+      let placements = length-repeated qs left same in
+      omega (arith, b .good .few, b .is-most, largest-top (st .counts-are) m, top-length m (repeated qs left), placements)
 
   -- a busiest tip has them
-  most-is : most ≡ occ (unplanned left) (busiest mounted (unplanned left) m)
+  most-is : most ≡ occ (toPlan qs left) (busiest mounted (toPlan qs left) m)
   most-is =
-      let below = occ-le (st .domains) (busiest mounted (unplanned left) m) in
-      omega (arith, b .is-most, largest-top counted m, top-le mounted m (unplanned left))
+      let below = occ-le (st .domains) (busiest mounted (toPlan qs left) m) in
+      omega (arith, b .is-most, largest-top counted m, top-le mounted m (toPlan qs left))
 
-  -- no tip has a line: the plan is done
+  -- no tip has a placement: the plan is done
   module _ (none : most ≡ 0) where
-    none-unplanned : unplanned left ≡ []
-    none-unplanned = none-left mounted m (unplanned left) (st .domains) (sym most-is ∙ none)
+    none-unplanned : toPlan qs left ≡ []
+    none-unplanned = none-left mounted m (toPlan qs left) (st .domains) (sym most-is ∙ none)
+
+    each-empty : All (λ s. s ≡ 0) left
+    unfolding toPlan
+    each-empty = all-once (b .good .placed) left same (unplanned-none (repeated qs left) none-unplanned)
 
     pub end-left : left ≡ replicate (length lines) 0
-    end-left = rw (← (st .size)) (all-same 0 (unplanned-none left none-unplanned))
+    end-left = rw (← (st .size)) (all-same 0 each-empty)
 
-    pub end-plan : plan ≡ quickPlan mounted m lines
-    end-plan = sym (st .plan-is ∙ planBy-same _ (all-map (filled-empty _) (unplanned-none left none-unplanned)) plan)
+    pub end-plan : plan ≡ quickPlanQ mounted m qs lines
+    end-plan = sym (st .plan-is ∙ planBy-same _ (all-map (filled-empty _) each-empty) plan)
 
-    pub end-pairs : shared ≡ pairs (quickPlan mounted m lines)
-    end-pairs = omega (arith, st .pairs-are, ap (λ l. pairs (quickPlan mounted m l)) none-unplanned ∙ no-pairs mounted m)
+    pub end-pairs : shared ≡ pairs (repeated qs (quickPlanQ mounted m qs lines))
+    end-pairs =
+        let done = ap (λ l. pairs (quickPlan mounted m l)) none-unplanned ∙ no-pairs mounted m in
+        rw (quick-repeated mounted m qs lines) (omega (arith, st .pairs-are, done))
 
 -- a round takes one of the tips that have the largest count: the mounted one, else the lowest
-pub record Chosen (mounted : Mounted) (m : ℕ) (lines left plan counts : List ℕ) (shared most tip : ℕ) : Type 0 where
-  pub begun : Begun mounted m lines left plan counts shared most
+pub record Chosen (mounted : Mounted) (m : ℕ) (qs lines left plan counts : List ℕ) (shared most tip : ℕ) : Type 0 where
+  pub begun : Begun mounted m qs lines left plan counts shared most
   pub lines-left : most ≡ 0 → ⊥
   pub is-tip : tip ≡ chosen mounted (busyTips (countAt counts) most m)
 
-module _ {mounted : Mounted} {m : ℕ} {lines left plan counts : List ℕ} {shared most tip : ℕ}
-    (r : Chosen mounted m lines left plan counts shared most tip) where
-  was : State mounted m lines left plan counts shared
+module _ {mounted : Mounted} {m : ℕ} {qs lines left plan counts : List ℕ} {shared most tip : ℕ}
+    (r : Chosen mounted m qs lines left plan counts shared most tip) where
+  was : State mounted m qs lines left plan counts shared
   was = r .begun .state
 
-  busiest-is : tip ≡ busiest mounted (unplanned left) m
+  busiest-is : tip ≡ busiest mounted (toPlan qs left) m
   unfolding busiest
   busiest-is =
       r .is-tip ∙ chosen-busiest mounted (countAt counts) m most (r .lines-left) (r .begun .is-most) (r .begun .good .most)
       ∙ choice-cong mounted _ _ m (λ t _. counted (r .begun) .counted t)
 
-  pub tip-takeable : Takeable tip left plan counts
+  pub tip-takeable : Takeable tip qs left plan counts
   tip-takeable = record {
-    inside = omega (arith, busiest-is, busiest-lt mounted m (unplanned left) (r .begun .good .some), r .begun .good .most);
+    inside = omega (arith, busiest-is, busiest-lt mounted m (toPlan qs left) (r .begun .good .some), r .begun .good .most);
+    same = same (r .begun);
     size = was .plan-size;
     counts-are = was .counts-are;
   }
 
-  count-is : most ≡ occ (unplanned left) tip
-  count-is = most-is (r .begun) ∙ ap (occ (unplanned left)) (sym busiest-is)
+  count-is : most ≡ occ (toPlan qs left) tip
+  count-is = most-is (r .begun) ∙ ap (occ (toPlan qs left)) (sym busiest-is)
 
-  some-unplanned : 0 < length (unplanned left)
-  some-unplanned = omega (arith, r .lines-left, count-is, occ-length (unplanned left) tip)
+  some-unplanned : 0 < length (toPlan qs left)
+  some-unplanned = omega (arith, r .lines-left, count-is, occ-length (toPlan qs left) tip)
 
-  -- with here pairs among its lines
+  -- with here pairs among its placements
   module _ {here : ℕ} (e : here ≡ choose2 most) where
-    round : pairs (quickPlan mounted m (unplanned left)) ≡ here + pairs (quickPlan mounted m (rest (unplanned left) tip))
-    round = rw (e, count-is) (pairs-round mounted m (unplanned left) (was .domains) some-unplanned tip busiest-is)
+    round : pairs (quickPlan mounted m (toPlan qs left)) ≡ here + pairs (quickPlan mounted m (rest (toPlan qs left) tip))
+    round = rw (e, count-is) (pairs-round mounted m (toPlan qs left) (was .domains) some-unplanned tip busiest-is)
 
     pub pairs-fit : shared + here ≤ mostPairs
     pairs-fit =
-        let few = r .begun .good .few in
-        omega (arith, was .pairs-are, round, pairs-few (quickPlan mounted m lines) (omega (arith, length-quick mounted m lines)))
+        let few = good-placements (r .begun .good) .few in
+        let size = length-quick mounted m (repeated qs lines) in
+        omega (arith, was .pairs-are, round, pairs-few (quickPlan mounted m (repeated qs lines)) (omega arith))
 
-    module _ {left' plan' counts' : List ℕ} (taken : Taken tip left plan left' plan' counts') where
-      unplanned-rest : unplanned left' ≡ rest (unplanned left) tip
-      unplanned-rest = rw (taken .left-is) (unplanned-cleared tip left)
+    module _ {left' plan' counts' : List ℕ} (taken : Taken tip qs left plan left' plan' counts') where
+      unplanned-rest : toPlan qs left' ≡ rest (toPlan qs left) tip
+      unfolding toPlan
+      unplanned-rest = rw (taken .left-is, repeated-map (cleared tip) qs left) (unplanned-cleared tip (repeated qs left))
 
-      pub next-fewer : length (unplanned left') < length (unplanned left)
-      next-fewer = rw unplanned-rest (fewer-round mounted m (unplanned left) (was .domains) some-unplanned tip busiest-is)
+      pub next-fewer : length (toPlan qs left') < length (toPlan qs left)
+      next-fewer = rw unplanned-rest (fewer-round mounted m (toPlan qs left) (was .domains) some-unplanned tip busiest-is)
 
-      pub next : State mounted m lines left' plan' counts' (shared + here)
+      pub next : State mounted m qs lines left' plan' counts' (shared + here)
       next =
-          let old = first (order mounted m (unplanned left)) in
-          let new = first (order mounted m (rest (unplanned left) tip)) in
+          let old = first (order mounted m (toPlan qs left)) in
+          let new = first (order mounted m (rest (toPlan qs left) tip)) in
           let size-left = ap length (taken .left-is) ∙ length-map left (cleared tip) in
-          let same = filled-round tip old new (first-round mounted m (unplanned left) (was .domains) some-unplanned tip busiest-is) in
+          let same = filled-round tip old new (first-round mounted m (toPlan qs left) (was .domains) some-unplanned tip busiest-is) in
           let twice = planBy-twice (filled new) (placed tip) (filled old) (cleared tip) same left plan in
           record {
             domains = rw unplanned-rest (rest-domains (was .domains) tip);
             size = size-left ∙ was .size;
             plan-size = ap length (taken .plan-is) ∙ length-planBy (placed tip) left plan ∙ was .plan-size ∙ sym size-left;
             counts-are = taken .counts-are;
-            plan-is = rw (unplanned-rest, taken .left-is, taken .plan-is) (was .plan-is ∙ twice);
+            plan-is = rw unplanned-rest (was .plan-is ∙ rw (taken .left-is, taken .plan-is) twice);
             pairs-are = rw unplanned-rest (omega (arith, was .pairs-are, round));
           }

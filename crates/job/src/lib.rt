@@ -1,24 +1,35 @@
-// The job file over slices: the numbers in its header, and the refusals by its header and by a set.
+// The job file over slices: the numbers in its header, its length by its version, and the refusals by its header and by a line.
 ghost use mathlib.Core.Path.{_≡_};
 ghost use Prim.Native.Nat.{_+_, _<_, _≤_, _^_};
 ghost use lib.ListN.{length};
-ghost use Rattle.job.specs.Job.{numberAt, headerLength, fileLength, markIn, versionIn, rackIn, countIn, headerNumber, setNumber};
+ghost use Rattle.job.specs.Job.{numberAt, headerLength, lineLength, fileLength, markIn, versionIn, rackIn, countIn};
+ghost use Rattle.job.specs.Job.{versionOk, startNumber, sizeNumber, headerNumber, lineNumber};
 
 // The bytes 54 49 50 hex, "TIP".
 pub const MARK: u64 = 0x544950;
 
-pub const VERSION: u64 = 1;
-// The bytes of the header, and of one line.
+// The versions: without quantities, and with them.
+pub const PLAIN: u64 = 1;
+
+pub const COUNTED: u64 = 2;
+// The bytes of the header, and of a line's set; a quantity has one byte.
 const HEADER: usize = 8;
 
-const LINE: usize = 8;
+pub const SET: usize = 8;
+
+// The bytes of one line.
+fn line_length(version: u64) -> usize
+    ensures { λ r. ⌜ r ≡ lineLength version ⌝ }
+{
+    if version == COUNTED { SET + 1 } else { SET }
+}
 
 // The bytes of a file of `count` lines, and the place where line `count` starts.
-pub fn file_length(count: usize) -> usize
-    requires { ⌜ fileLength count < 2 ^ 64 ⌝ }
-    ensures { λ r. ⌜ r ≡ fileLength count ⌝ }
+pub fn file_length(version: u64, count: usize) -> usize
+    requires { ⌜ fileLength version count < 2 ^ 64 ⌝ }
+    ensures { λ r. ⌜ r ≡ fileLength version count ⌝ }
 {
-    HEADER + LINE * count
+    HEADER + line_length(version) * count
 }
 
 // The number of one byte, and of two, from `i` on.
@@ -43,14 +54,14 @@ fn mark_in(file: &[u8]) -> u64
     byte_at(file, 0) * 65536 + two_at(file, 1)
 }
 
-fn version_in(file: &[u8]) -> u64
+// The version, the rack size and the number of lines that the header says.
+pub fn version_in(file: &[u8]) -> u64
     requires { ⌜ headerLength ≤ length (now file) ⌝ }
     ensures { λ r. ⌜ r ≡ versionIn (now (file .entry)) ⌝ }
 {
     two_at(file, 3)
 }
 
-// The rack size and the number of lines that the header says.
 pub fn rack_in(file: &[u8]) -> usize
     requires { ⌜ headerLength ≤ length (now file) ⌝ }
     ensures { λ r. ⌜ r ≡ rackIn (now (file .entry)) ⌝ }
@@ -65,9 +76,18 @@ pub fn count_in(file: &[u8]) -> usize
     two_at(file, 6) as usize
 }
 
-// The refusal by the header and the length, in the rule book's order; 0 for none.
-pub fn header_number(file: &[u8]) -> u32
-    ensures { λ r. ⌜ r ≡ headerNumber (now (file .entry)) ⌝ }
+fn version_ok(version: u64) -> bool
+    ensures { λ r. ⌜ r ≡ versionOk version ⌝ }
+{
+    if version == PLAIN {
+        return true;
+    }
+    version == COUNTED
+}
+
+// The refusal by the mark, the version and the rack, in the rule book's order; 0 for none.
+fn start_number(file: &[u8]) -> u32
+    ensures { λ r. ⌜ r ≡ startNumber (now (file .entry)) ⌝ }
 {
     if file.len() < HEADER {
         return 6;
@@ -75,7 +95,7 @@ pub fn header_number(file: &[u8]) -> u32
     if mark_in(file) != MARK {
         return 7;
     }
-    if version_in(file) != VERSION {
+    if !version_ok(version_in(file)) {
         return 8;
     }
     let rack = rack_in(file);
@@ -85,25 +105,47 @@ pub fn header_number(file: &[u8]) -> u32
     if model::MOST_TIPS < rack {
         return 1;
     }
+    0
+}
+
+// The refusal by the number of lines and the file's length; 0 for none.
+fn size_number(file: &[u8]) -> u32
+    requires { ⌜ headerLength ≤ length (now file) ⌝ }
+    ensures { λ r. ⌜ r ≡ sizeNumber (now (file .entry)) ⌝ }
+{
     let count = count_in(file);
     if model::MOST_LINES < count {
         return 9;
     }
-    if file.len() != file_length(count) {
+    if file.len() != file_length(version_in(file), count) {
         return 10;
     }
     0
 }
 
-// The refusal of a line's set; 0 for none.
-pub fn set_number(rack: usize, set: u64) -> u32
-    ensures { λ r. ⌜ r ≡ setNumber rack set ⌝ }
+// The refusal by the header and the length; 0 for none.
+pub fn header_number(file: &[u8]) -> u32
+    ensures { λ r. ⌜ r ≡ headerNumber (now (file .entry)) ⌝ }
+{
+    let number = start_number(file);
+    if number != 0 {
+        return number;
+    }
+    size_number(file)
+}
+
+// The refusal of a line by its set, then by its quantity; 0 for none.
+pub fn line_number(rack: usize, set: u64, quantity: u8) -> u32
+    ensures { λ r. ⌜ r ≡ lineNumber rack set quantity ⌝ }
 {
     if tips::is_empty(set) {
         return 2;
     }
-    if tips::in_rack(rack, set) {
-        return 0;
+    if !tips::in_rack(rack, set) {
+        return 3;
     }
-    3
+    if quantity == 0 {
+        return 15;
+    }
+    0
 }

@@ -1,12 +1,15 @@
-// The sets of a job file's lines, read from its bytes, and whether each is a domain.
+// The lines of a job file, each with its set and its quantity, read from its bytes, and whether they are good.
 ghost use mathlib.Core.Path.{_≡_};
 ghost use mathlib.Core.Bool.{cond, _&&_};
 ghost use Prim.Native.Nat.{_+_, _*_, _<_, _≤_, _^_};
-ghost use lib.Dec.{eqb};
-ghost use lib.ListN.{length};
+ghost use lib.Dec.{eqb, leb};
+ghost use lib.ListN.{length, replicate};
 ghost use Rattle.model.specs.Count.{firstFail};
-ghost use Rattle.model.specs.Plan.{isEmpty, inRack, isDomain};
-ghost use Rattle.job.specs.Job.{numberAt, lineLength, fileLength, rackIn, countIn, setIn, setsIn, goodLines};
+ghost use Rattle.model.specs.Plan.{isEmpty, inRack};
+ghost use Rattle.model.specs.Limits.{mostPlacements};
+ghost use Rattle.placements.specs.Totals.{firstOver};
+ghost use Rattle.job.specs.Job.{numberAt, setLength, fileLength, versionIn, countIn, setFrom, quantityFrom, setIn, quantityIn};
+ghost use Rattle.job.specs.Job.{setsIn, quantitiesIn, lineNumbers, goodLines, GoodHeader};
 
 // The upper and the lower half of a set, each byte shifted to its place: the compiler then makes one load of the eight.
 fn upper_at(file: &[u8], i: usize) -> u64
@@ -30,86 +33,192 @@ fn lower_at(file: &[u8], i: usize) -> u64
 }
 
 fn set_at(file: &[u8], i: usize) -> u64
-    requires { ⌜ i + lineLength ≤ length (now file) ⌝ }
-    ensures { λ r. ⌜ r ≡ numberAt lineLength (now (file .entry)) i ⌝ }
+    requires { ⌜ i + setLength ≤ length (now file) ⌝ }
+    ensures { λ r. ⌜ r ≡ numberAt setLength (now (file .entry)) i ⌝ }
 {
     upper_at(file, i) + lower_at(file, i + 4)
 }
 
-// The set of line `i`.
+// The set and the quantity of line `i` in a file of that version; without quantities it is 1.
+fn set_of(file: &[u8], version: u64, i: usize) -> u64
+    requires { ⌜ fileLength version (i + 1) ≤ length (now file) ⌝ }
+    ensures { λ r. ⌜ r ≡ setFrom version (now (file .entry)) i ⌝ }
+{
+    set_at(file, job::file_length(version, i))
+}
+
+fn quantity_of(file: &[u8], version: u64, i: usize) -> u8
+    requires { ⌜ fileLength version (i + 1) ≤ length (now file) ⌝ }
+    ensures { λ r. ⌜ (r ≡ quantityFrom version (now (file .entry)) i) × (r < 256) ⌝ }
+{
+    if version == job::COUNTED {
+        let at = job::file_length(version, i) + job::SET;
+        return file[at];
+    }
+    1
+}
+
+// The set and the quantity of line `i`.
 pub fn set_in(file: &[u8], i: usize) -> u64
-    requires { ⌜ fileLength (i + 1) ≤ length (now file) ⌝ }
+    requires { ⌜ GoodHeader (now file) × (i < countIn (now file)) ⌝ }
     ensures { λ r. ⌜ r ≡ setIn (now (file .entry)) i ⌝ }
 {
-    set_at(file, job::file_length(i))
+    set_of(file, job::version_in(file), i)
 }
 
-fn one_if_empty(set: u64) -> u64
-    ensures { λ r. ⌜ (r ≡ cond (isEmpty set) 1 0) × (r ≤ 1) ⌝ }
+pub fn quantity_in(file: &[u8], i: usize) -> u8
+    requires { ⌜ GoodHeader (now file) × (i < countIn (now file)) ⌝ }
+    ensures { λ r. ⌜ r ≡ quantityIn (now (file .entry)) i ⌝ }
 {
-    if tips::is_empty(set) { 1 } else { 0 }
+    quantity_of(file, job::version_in(file), i)
 }
 
-// Each set is a domain, by the union of the sets and the number of those that are empty.
-fn all_good(rack: usize, union: u64, empty: u64) -> bool
-    ensures { λ r. ⌜ r ≡ (eqb empty 0 && inRack rack union) ⌝ }
+fn one_if_zero(x: u64) -> u64
+    ensures { λ r. ⌜ (r ≡ cond (isEmpty x) 1 0) × (r ≤ 1) ⌝ }
 {
-    if empty != 0 {
+    if x == 0 { 1 } else { 0 }
+}
+
+// The lines are good, by the union of the sets, the number of empty sets and of quantities 0, and the total.
+fn all_good(rack: usize, union: u64, zeros: u64, total: usize) -> bool
+    ensures { λ r. ⌜ r ≡ ((eqb zeros 0 && inRack rack union) && leb total mostPlacements) ⌝ }
+{
+    if zeros != 0 {
         return false;
     }
-    tips::in_rack(rack, union)
+    if !tips::in_rack(rack, union) {
+        return false;
+    }
+    total <= model::MOST_PLACEMENTS
 }
 
-// Each line's set is a domain. The loop has no branch, so that it is quick where each is one.
+// The lines are good. The loop has no branch, so that it is quick where they are: the version stays, and the compiler makes a loop of each.
 pub fn good_lines(file: &[u8]) -> bool
-    requires { ⌜ fileLength (countIn (now file)) ≤ length (now file) ⌝ }
+    requires { ⌜ GoodHeader (now file) ⌝ }
     ensures { λ r. ⌜ r ≡ goodLines (now (file .entry)) ⌝ }
 {
+    let version = job::version_in(file);
     let count = job::count_in(file);
     let mut union = 0;
-    let mut empty = 0;
+    let mut zeros = 0;
+    let mut total = 0;
     let mut i = 0;
     while i < count {
-        let set = set_in(file, i);
+        let set = set_of(file, version, i);
+        let quantity = quantity_of(file, version, i);
         union |= set;
-        empty += one_if_empty(set);
+        zeros += one_if_zero(set) + one_if_zero(quantity as u64);
+        total += quantity as usize;
         i += 1;
     }
-    all_good(job::rack_in(file), union, empty)
+    all_good(job::rack_in(file), union, zeros, total)
 }
 
-// Reads the sets of the lines, and tells in the same pass whether each is a domain.
-pub fn read_sets(file: &[u8], sets: &mut [u64]) -> bool
+// Reads the sets of a file without quantities, and tells in the same pass whether the lines are good.
+fn read_plain(file: &[u8], sets: &mut [u64]) -> bool
+    requires { ⌜ GoodHeader (now file) ⌝ }
+    requires { ⌜ versionIn (now file) ≡ 1 ⌝ }
     requires { ⌜ length (now sets) ≡ countIn (now file) ⌝ }
-    requires { ⌜ fileLength (countIn (now file)) ≤ length (now file) ⌝ }
     ensures good { λ r. ⌜ r ≡ goodLines (now (file .entry)) ⌝ }
     ensures sets { λ _. ⌜ now (sets .exit) ≡ setsIn (now (file .entry)) ⌝ }
 {
     let mut union = 0;
-    let mut empty = 0;
+    let mut zeros = 0;
     let mut i = 0;
     while i < sets.len() {
-        let set = set_in(file, i);
+        let set = set_of(file, job::PLAIN, i);
         sets[i] = set;
         union |= set;
-        empty += one_if_empty(set);
+        zeros += one_if_zero(set);
         i += 1;
     }
-    all_good(job::rack_in(file), union, empty)
+    all_good(job::rack_in(file), union, zeros, sets.len())
 }
 
-// The first line whose set is no domain; the number of lines where there is none.
+fn fill_ones(quantities: &mut [u8])
+    ensures { λ _. ⌜ now (quantities .exit) ≡ replicate (length (now (quantities .entry))) 1 ⌝ }
+{
+    let mut i = 0;
+    while i < quantities.len() {
+        quantities[i] = 1;
+        i += 1;
+    }
+}
+
+// Reads the sets and the quantities of a file that has them, and tells in the same pass whether the lines are good.
+fn read_counted(file: &[u8], sets: &mut [u64], quantities: &mut [u8]) -> bool
+    requires { ⌜ GoodHeader (now file) ⌝ }
+    requires { ⌜ versionIn (now file) ≡ 2 ⌝ }
+    requires { ⌜ length (now sets) ≡ countIn (now file) ⌝ }
+    requires { ⌜ length (now quantities) ≡ countIn (now file) ⌝ }
+    ensures good { λ r. ⌜ r ≡ goodLines (now (file .entry)) ⌝ }
+    ensures sets { λ _. ⌜ now (sets .exit) ≡ setsIn (now (file .entry)) ⌝ }
+    ensures quantities { λ _. ⌜ now (quantities .exit) ≡ quantitiesIn (now (file .entry)) ⌝ }
+{
+    let mut union = 0;
+    let mut zeros = 0;
+    let mut total = 0;
+    let mut i = 0;
+    while i < sets.len() {
+        let set = set_of(file, job::COUNTED, i);
+        let quantity = quantity_of(file, job::COUNTED, i);
+        sets[i] = set;
+        quantities[i] = quantity;
+        union |= set;
+        zeros += one_if_zero(set) + one_if_zero(quantity as u64);
+        total += quantity as usize;
+        i += 1;
+    }
+    all_good(job::rack_in(file), union, zeros, total)
+}
+
+// Reads the sets and the quantities of the lines, and tells whether the lines are good.
+pub fn read_lines(file: &[u8], sets: &mut [u64], quantities: &mut [u8]) -> bool
+    requires { ⌜ GoodHeader (now file) ⌝ }
+    requires { ⌜ length (now sets) ≡ countIn (now file) ⌝ }
+    requires { ⌜ length (now quantities) ≡ countIn (now file) ⌝ }
+    ensures good { λ r. ⌜ r ≡ goodLines (now (file .entry)) ⌝ }
+    ensures sets { λ _. ⌜ now (sets .exit) ≡ setsIn (now (file .entry)) ⌝ }
+    ensures quantities { λ _. ⌜ now (quantities .exit) ≡ quantitiesIn (now (file .entry)) ⌝ }
+{
+    if job::version_in(file) == job::COUNTED {
+        return read_counted(file, sets, quantities);
+    }
+    fill_ones(quantities);
+    read_plain(file, sets)
+}
+
+// The first line that is refused; the number of lines where there is none.
 pub fn first_bad(file: &[u8]) -> usize
-    requires { ⌜ fileLength (countIn (now file)) ≤ length (now file) ⌝ }
-    ensures { λ r. ⌜ r ≡ firstFail (isDomain (rackIn (now (file .entry)))) (setsIn (now (file .entry))) ⌝ }
+    requires { ⌜ GoodHeader (now file) ⌝ }
+    ensures { λ r. ⌜ r ≡ firstFail (λ n. eqb n 0) (lineNumbers (now (file .entry))) ⌝ }
 {
     let rack = job::rack_in(file);
     let count = job::count_in(file);
     let mut i = 0;
     while i < count {
-        if !tips::is_domain(rack, set_in(file, i)) {
+        if job::line_number(rack, set_in(file, i), quantity_in(file, i)) != 0 {
             return i;
         }
+        i += 1;
+    }
+    i
+}
+
+// The first line with which the total passes; the number of lines where there is none.
+pub fn first_over(file: &[u8]) -> usize
+    requires { ⌜ GoodHeader (now file) ⌝ }
+    ensures { λ r. ⌜ r ≡ firstOver mostPlacements (quantitiesIn (now (file .entry))) ⌝ }
+{
+    let count = job::count_in(file);
+    let mut left = model::MOST_PLACEMENTS;
+    let mut i = 0;
+    while i < count {
+        let quantity = quantity_in(file, i) as usize;
+        if left < quantity {
+            return i;
+        }
+        left -= quantity;
         i += 1;
     }
     i

@@ -4,9 +4,12 @@ use mathlib.Core.Path.{_≡_, sym, _∙_}
 use mathlib.Core.Bool.{true}
 use mathlib.Core.List.{List, map}
 use native.Mathlib.Omega.{arith}
+use lib.Dec.{T}
 use lib.ListN.{length}
+use Rattle.model.specs.Count.{All}
+use Rattle.model.specs.Plan.{Domain}
 use Rattle.model.specs.Choice.{Mounted, from}
-use Rattle.model.specs.Interval.{any, low, high, Line, tipBy, pickOf, planOf}
+use Rattle.model.specs.Interval.{any, low, high, isRun, Line, tipBy, pickOf, planFor}
 use Rattle.model.proofs.Tests.{true-T}
 use Rattle.model.proofs.Lists.{all-map, map-cong}
 use Rattle.model.proofs.Choice.{choice-lt}
@@ -35,5 +38,7 @@ module _ (mounted : Mounted) {m : ℕ} {lines xs cs : List ℕ} (r : Ready m lin
       (omega arith) (omega arith) (omega arith) (omega arith) g (omega arith)
       ∙ sym (owner-tip narrow l (pickOf mounted any lines) m 0 m))
 
-  pub plan-laid : map (ownerOf (laid (pickBy mounted m xs cs) 0 m owner)) lines ≡ planOf mounted any m lines
-  plan-laid = map-cong (all-map own-tip (run-lines (r .good .most) (r .good .domains) (r .runs)))
+  -- of all sets that are unbroken runs, those of the lines counted or others
+  pub plan-laid : {sets : List ℕ} → All (Domain m) sets → All (λ s. T (isRun s)) sets
+      → map (ownerOf (laid (pickBy mounted m xs cs) 0 m owner)) sets ≡ planFor mounted any m lines sets
+  plan-laid ds rs = map-cong (all-map own-tip (run-lines (r .good .most) ds rs))

@@ -8,7 +8,7 @@ use lib.Dec.{T, eqb}
 use lib.ListN.{length, getD}
 use Rattle.model.specs.Count.{All, lowestAt}
 use Rattle.model.specs.Plan.{choose2}
-use Rattle.model.specs.Limits.{GoodLines}
+use Rattle.model.specs.Limits.{GoodPlacements}
 use Rattle.model.specs.Choice.{Mounted, choice, from}
 use Rattle.model.specs.Interval.{isRun, table as tableOf}
 use Rattle.spans.specs.Spans.{sums as sumsOf, insideBy}
@@ -30,9 +30,9 @@ lowestBy m sums table a w = lowestAt (splitBy m sums table a w) w
 unfoldable pub pickBy : Mounted → ℕ → List ℕ → List ℕ → ℕ → ℕ → ℕ
 pickBy mounted m sums table a w = choice (from a mounted) (splitBy m sums table a w) w
 
--- the lines are good and unbroken runs, and the sums and the table are theirs
+-- the lines, one for each placement, are good and unbroken runs, and the sums and the table are theirs
 pub record Ready (m : ℕ) (lines sums table : List ℕ) : Type 0 where
-  pub good : GoodLines m lines
+  pub good : GoodPlacements m lines
   pub runs : All (λ s. T (isRun s)) lines
   pub summed : sums ≡ sumsOf lines
   pub filled : table ≡ tableOf m lines

@@ -1,13 +1,14 @@
 // The plan of best sharing: each interval's tip is found once, then each line's tip is looked up once.
 ghost use mathlib.Core.Path.{_≡_};
-ghost use Prim.Native.Nat.{_+_, _*_, _≤_, _<_};
-ghost use mathlib.Core.List.{map};
+ghost use Prim.Native.Nat.{ℕ, _+_, _*_, _≤_, _<_};
+ghost use mathlib.Core.List.{List, map};
+ghost use lib.Dec.{T};
 ghost use lib.ListN.{length, replicate};
 ghost use Rattle.model.specs.Limits.{mostTips};
 ghost use Rattle.model.specs.Count.{All};
 ghost use Rattle.model.specs.Plan.{Domain};
 ghost use Rattle.model.specs.Choice.{tip};
-ghost use Rattle.model.specs.Interval.{any, planOf};
+ghost use Rattle.model.specs.Interval.{any, isRun, planFor};
 ghost use Rattle.head.specs.OnHead.{onHead};
 ghost use Rattle.layout.specs.Picks.{mostBy, splitBy, lowestBy, pickBy, Ready, Filled, Layable};
 ghost use Rattle.layout.specs.Owners.{ownersSize, ownerOf, owned, laid};
@@ -171,19 +172,21 @@ fn lay_tip(
     lay_interval(m, mounted, sums, table, a + i + 1, w - (i + 1), owner);
 }
 
-// The plan of lines that are unbroken runs, from their sums and their table, where any tip may be chosen.
+// The plan of sets that are unbroken runs, from the sums and the table of the lines counted, where any tip may be chosen.
 pub fn plan_lines(
     m: usize,
     mounted: Mounted,
-    lines: &[u64],
+    sets: &[u64],
     sums: &[u32],
     table: &[u32],
     plan: &mut [u8],
 )
-    requires { ⌜ Ready m (now lines) (now sums) (now table) × (length (now plan) ≡ length (now lines)) ⌝ }
-    ensures { λ _. ⌜ now (plan .exit) ≡ planOf (onHead mounted) any m (now (lines .entry)) ⌝ }
+    requires { ⌜ Filled m (now sums) (now table) × All (Domain m) (now sets) × All (λ s. T (isRun s)) (now sets)
+        × (length (now plan) ≡ length (now sets)) ⌝ }
+    ensures { λ _. ⌜ ((lines : List ℕ) → Ready m lines (now (sums .entry)) (now (table .entry))
+        → now (plan .exit) ≡ planFor (onHead mounted) any m lines (now (sets .entry))) ⌝ }
 {
     let mut owner = no_owners();
     lay_interval(m, mounted, sums, table, 0, m, &mut owner);
-    plan_owners(m, lines, &owner, plan);
+    plan_owners(m, sets, &owner, plan);
 }

@@ -1,4 +1,4 @@
--- What the answers mean for all valid plans: the demands on common tip, keep and the plans handed out.
+-- What the answers mean for all valid plans by lines, counted in placements: the demands on common tip, keep and the plans handed out.
 use Prim.Native.Nat.{ℕ, _*_, _≤_, _<_}
 use mathlib.Core.Path.{_≡_}
 use mathlib.Core.Logic.{_↔_}
@@ -6,28 +6,29 @@ use mathlib.Core.List.{List}
 use lib.Dec.{T}
 use lib.ListN.{length, take}
 use Rattle.model.specs.Plan.{has, occ, Valid, pairs}
-use Rattle.model.specs.CommonTip.{Within, LeastOff}
+use Rattle.placements.specs.Repeated.{repeated}
+use Rattle.placements.specs.Keep.{WithinQ, LeastOffQ}
 
--- an accepted common tip: off is the least over all valid plans, and the set has the tips in some line that as many lines allow as top
-pub record CommonRule (m : ℕ) (lines : List ℕ) (number top off tips : ℕ) : Type 0 where
-  pub off-least : number ≡ 0 → LeastOff m lines off
-  pub tips-exact : number ≡ 0 → (t : ℕ) → T (has tips t) ↔ ((0 < occ lines t) × (occ lines t ≡ top))
+-- an accepted common tip: off is the least over all valid plans, and the set has the tips in some line that as many placements allow as top
+pub record CommonRule (m : ℕ) (qs lines : List ℕ) (number top off tips : ℕ) : Type 0 where
+  pub off-least : number ≡ 0 → LeastOffQ m qs lines off
+  pub tips-exact : number ≡ 0 → (t : ℕ) → T (has tips t) ↔ ((0 < occ (repeated qs lines) t) × (occ (repeated qs lines) t ≡ top))
 
--- no valid plan is within k
-abbrev pub NoneWithin : ℕ → List ℕ → ℕ → Type 0
-NoneWithin m lines k = (plan : List ℕ) → Valid lines plan → Within m k plan → ⊥
+-- no valid plan is within k placements
+abbrev pub NoneWithin : ℕ → List ℕ → List ℕ → ℕ → Type 0
+NoneWithin m qs lines k = (plan : List ℕ) → Valid lines plan → WithinQ m qs k plan → ⊥
 
--- a plan handed out, as its bytes stand in the buffer: each line is on a tip of its own set, and the pairs counted in it are those reported
-pub record HandedOut (lines buffer : List ℕ) (shared : ℕ) : Type 0 where
+-- a plan handed out, as its bytes stand in the buffer: each line is on a tip of its own set, and the placement pairs counted in it are those reported
+pub record HandedOut (qs lines buffer : List ℕ) (shared : ℕ) : Type 0 where
   pub own : Valid lines (take (length lines) buffer)
-  pub counted : pairs (take (length lines) buffer) ≡ shared
+  pub counted : pairs (repeated qs (take (length lines) buffer)) ≡ shared
 
--- the half rule: where quick sharing is accepted, its plan is handed out, and every other plan has at most twice its pairs
-pub record HalfRule (lines buffer : List ℕ) (number shared : ℕ) : Type 0 where
-  pub plan : number ≡ 0 → HandedOut lines buffer shared
-  pub half : number ≡ 0 → (other : List ℕ) → Valid lines other → pairs other ≤ 2 * shared
+-- the half rule: where quick sharing is accepted, its plan is handed out, and every other plan has at most twice its placement pairs
+pub record HalfRule (qs lines buffer : List ℕ) (number shared : ℕ) : Type 0 where
+  pub plan : number ≡ 0 → HandedOut qs lines buffer shared
+  pub half : number ≡ 0 → (other : List ℕ) → Valid lines other → pairs (repeated qs other) ≤ 2 * shared
 
--- the best rule: where best sharing is accepted, its plan is handed out, and every other plan has at most its pairs
-pub record BestRule (lines buffer : List ℕ) (number shared : ℕ) : Type 0 where
-  pub plan : number ≡ 0 → HandedOut lines buffer shared
-  pub best : number ≡ 0 → (other : List ℕ) → Valid lines other → pairs other ≤ shared
+-- the best rule: where best sharing is accepted, its plan is handed out, and every other plan has at most its placement pairs
+pub record BestRule (qs lines buffer : List ℕ) (number shared : ℕ) : Type 0 where
+  pub plan : number ≡ 0 → HandedOut qs lines buffer shared
+  pub best : number ≡ 0 → (other : List ℕ) → Valid lines other → pairs (repeated qs other) ≤ shared

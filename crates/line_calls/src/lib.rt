@@ -1,13 +1,14 @@
 // Each call on lines, after an earlier refusal: the board passes that of its state, a call on a file that of reading.
 ghost use mathlib.Core.Path.{_≡_};
 ghost use lib.ListN.{length, take};
-ghost use Rattle.line_calls.specs.Lines.{commonOf, keepOf, keptSets, quickOf, quickBuffer, bestOf, bestBuffer, bestTable, writeOf, writeBuffer};
+ghost use Rattle.line_calls.specs.Lines.{commonOf, keepOf, keptSets, quickOf, quickBuffer};
+ghost use Rattle.line_calls.specs.Lines.{bestOf, bestBuffer, bestTable, writeOf, writeBuffer};
 ghost use Rattle.line_calls.specs.Rules.{CommonRule, HalfRule, BestRule};
 ghost use Rattle.refusal.specs.Refusal.{Given};
 use head::Mounted;
 use refusal::Refusal;
 
-// The largest occurrence of a tip, the least number of lines off the common tip, and the set W of the tips that reach top.
+// The most placements that allow one tip, the least number of placements off the common tip, and the set W of the tips that reach top.
 pub struct CommonAnswer {
     pub refusal: Refusal,
     pub top: usize,
@@ -15,13 +16,13 @@ pub struct CommonAnswer {
     pub tips: u64,
 }
 
-// The margin is top - n + k.
+// The margin is top - n + k, of n placements.
 pub struct KeepAnswer {
     pub refusal: Refusal,
     pub margin: i32,
 }
 
-// The number of pairs of lines on one tip in the plan that is handed out.
+// The number of pairs of placements on one tip in the plan that is handed out.
 pub struct PlanAnswer {
     pub refusal: Refusal,
     pub pairs: u32,
@@ -33,10 +34,18 @@ pub struct FileAnswer {
     pub bytes: usize,
 }
 
-pub fn common(earlier: Refusal, rack: usize, count: usize, sets: &[u64]) -> CommonAnswer
-    requires { ⌜ Given earlier rack count (now sets) ⌝ }
-    ensures answer { λ r. ⌜ r ≡ commonOf earlier rack (take count (now (sets .entry))) ⌝ }
-    ensures rule { λ r. ⌜ CommonRule rack (take count (now (sets .entry))) (r .refusal .number) (r .top) (r .off) (r .tips) ⌝ }
+// One lifetime for the sets and the quantities, so that a board can lend both of its arrays.
+pub fn common<'a>(
+    earlier: Refusal,
+    rack: usize,
+    count: usize,
+    sets: &'a [u64],
+    quantities: &'a [u8],
+) -> CommonAnswer
+    requires { ⌜ Given earlier rack count (now quantities) (now sets) ⌝ }
+    ensures answer { λ r. ⌜ r ≡ commonOf earlier rack (take count (now (quantities .entry))) (take count (now (sets .entry))) ⌝ }
+    ensures rule { λ r. ⌜ CommonRule rack (take count (now (quantities .entry))) (take count (now (sets .entry)))
+        (r .refusal .number) (r .top) (r .off) (r .tips) ⌝ }
 {
     if earlier.number != 0 {
         return CommonAnswer {
@@ -46,20 +55,28 @@ pub fn common(earlier: Refusal, rack: usize, count: usize, sets: &[u64]) -> Comm
             tips: 0,
         };
     }
-    let busiest = common_tip::common_tip(rack, &sets[..count]);
+    let found = common_tip::common_tip(rack, &sets[..count], &quantities[..count]);
     CommonAnswer {
         refusal: earlier,
-        top: busiest.top,
-        off: count - busiest.top,
-        tips: busiest.tips,
+        top: found.top,
+        off: found.off,
+        tips: found.tips,
     }
 }
 
 // Where the margin is below zero the sets stay as they were.
-pub fn keep(earlier: Refusal, rack: usize, count: usize, sets: &mut [u64], k: u16) -> KeepAnswer
-    requires { ⌜ Given earlier rack count (now sets) ⌝ }
-    ensures answer { λ r. ⌜ r ≡ keepOf earlier rack (take count (now (sets .entry))) k ⌝ }
-    ensures sets { λ _. ⌜ now (sets .exit) ≡ keptSets earlier rack (take count (now (sets .entry))) k (now (sets .entry)) ⌝ }
+pub fn keep(
+    earlier: Refusal,
+    rack: usize,
+    count: usize,
+    sets: &mut [u64],
+    quantities: &[u8],
+    k: u16,
+) -> KeepAnswer
+    requires { ⌜ Given earlier rack count (now quantities) (now sets) ⌝ }
+    ensures answer { λ r. ⌜ r ≡ keepOf earlier rack (take count (now (quantities .entry))) (take count (now (sets .entry))) k ⌝ }
+    ensures sets { λ _. ⌜ now (sets .exit)
+        ≡ keptSets earlier rack (take count (now (quantities .entry))) (take count (now (sets .entry))) k (now (sets .entry)) ⌝ }
 {
     if earlier.number != 0 {
         return KeepAnswer {
@@ -67,7 +84,7 @@ pub fn keep(earlier: Refusal, rack: usize, count: usize, sets: &mut [u64], k: u1
             margin: 0,
         };
     }
-    let margin = common_tip::keep_lines(rack, &mut sets[..count], k);
+    let margin = common_tip::keep_lines(rack, &mut sets[..count], &quantities[..count], k);
     KeepAnswer {
         refusal: call_refusals::keep_refusal(earlier, margin),
         margin,
@@ -80,12 +97,16 @@ pub fn quick(
     rack: usize,
     count: usize,
     sets: &mut [u64],
+    quantities: &[u8],
     plan: &mut [u8],
 ) -> PlanAnswer
-    requires { ⌜ Given earlier rack count (now sets) ⌝ }
-    ensures answer { λ r. ⌜ r ≡ quickOf earlier rack (take count (now (sets .entry))) (length (now (plan .entry))) ⌝ }
-    ensures plan { λ _. ⌜ now (plan .exit) ≡ quickBuffer earlier rack (take count (now (sets .entry))) (now (plan .entry)) ⌝ }
-    ensures rule { λ r. ⌜ HalfRule (take count (now (sets .entry))) (now (plan .exit)) (r .refusal .number) (r .pairs) ⌝ }
+    requires { ⌜ Given earlier rack count (now quantities) (now sets) ⌝ }
+    ensures answer { λ r. ⌜ r ≡ quickOf earlier rack (take count (now (quantities .entry))) (take count (now (sets .entry)))
+        (length (now (plan .entry))) ⌝ }
+    ensures plan { λ _. ⌜ now (plan .exit)
+        ≡ quickBuffer earlier rack (take count (now (quantities .entry))) (take count (now (sets .entry))) (now (plan .entry)) ⌝ }
+    ensures rule { λ r. ⌜ HalfRule (take count (now (quantities .entry))) (take count (now (sets .entry)))
+        (now (plan .exit)) (r .refusal .number) (r .pairs) ⌝ }
 {
     let refusal = call_refusals::plan_refusal(earlier, count, plan.len());
     if refusal.number != 0 {
@@ -95,26 +116,30 @@ pub fn quick(
         rack,
         Mounted::Nothing,
         &mut sets[..count],
+        &quantities[..count],
         &mut plan[..count],
     );
     PlanAnswer { refusal, pairs }
 }
 
-pub fn best(
+pub fn best<'a>(
     earlier: Refusal,
     rack: usize,
     count: usize,
-    sets: &[u64],
+    sets: &'a [u64],
+    quantities: &'a [u8],
     plan: &mut [u8],
     table: &mut [u32],
 ) -> PlanAnswer
-    requires { ⌜ Given earlier rack count (now sets) ⌝ }
-    ensures answer { λ r. ⌜ r ≡ bestOf earlier rack (take count (now (sets .entry))) (length (now (plan .entry))) (length (now (table .entry))) ⌝ }
-    ensures plan { λ _. ⌜ now (plan .exit) ≡ bestBuffer earlier rack (take count (now (sets .entry)))
+    requires { ⌜ Given earlier rack count (now quantities) (now sets) ⌝ }
+    ensures answer { λ r. ⌜ r ≡ bestOf earlier rack (take count (now (quantities .entry))) (take count (now (sets .entry)))
+        (length (now (plan .entry))) (length (now (table .entry))) ⌝ }
+    ensures plan { λ _. ⌜ now (plan .exit) ≡ bestBuffer earlier rack (take count (now (quantities .entry))) (take count (now (sets .entry)))
         (now (plan .entry)) (length (now (table .entry))) ⌝ }
-    ensures table { λ _. ⌜ now (table .exit) ≡ bestTable earlier rack (take count (now (sets .entry)))
+    ensures table { λ _. ⌜ now (table .exit) ≡ bestTable earlier rack (take count (now (quantities .entry))) (take count (now (sets .entry)))
         (length (now (plan .entry))) (now (table .entry)) ⌝ }
-    ensures rule { λ r. ⌜ BestRule (take count (now (sets .entry))) (now (plan .exit)) (r .refusal .number) (r .pairs) ⌝ }
+    ensures rule { λ r. ⌜ BestRule (take count (now (quantities .entry))) (take count (now (sets .entry)))
+        (now (plan .exit)) (r .refusal .number) (r .pairs) ⌝ }
 {
     let refusal = call_refusals::best_refusal(earlier, rack, count, sets, plan.len(), table.len());
     if refusal.number != 0 {
@@ -124,28 +149,44 @@ pub fn best(
     let pairs = best::plan_lines(
         rack,
         &sets[..count],
+        &quantities[..count],
         &mut plan[..count],
         &mut table[..square],
     );
     PlanAnswer { refusal, pairs }
 }
 
-pub fn write(
+pub fn write<'a>(
     earlier: Refusal,
     rack: usize,
     count: usize,
-    sets: &[u64],
+    sets: &'a [u64],
+    quantities: &'a [u8],
     out: &mut [u8],
 ) -> FileAnswer
-    requires { ⌜ Given earlier rack count (now sets) ⌝ }
-    ensures answer { λ r. ⌜ r ≡ writeOf earlier (take count (now (sets .entry))) (length (now (out .entry))) ⌝ }
-    ensures buffer { λ _. ⌜ now (out .exit) ≡ writeBuffer earlier rack (take count (now (sets .entry))) (now (out .entry)) ⌝ }
+    requires { ⌜ Given earlier rack count (now quantities) (now sets) ⌝ }
+    ensures answer { λ r. ⌜ r ≡ writeOf earlier (take count (now (quantities .entry))) (take count (now (sets .entry)))
+        (length (now (out .entry))) ⌝ }
+    ensures buffer { λ _. ⌜ now (out .exit)
+        ≡ writeBuffer earlier rack (take count (now (quantities .entry))) (take count (now (sets .entry))) (now (out .entry)) ⌝ }
 {
-    let refusal = call_refusals::write_refusal(earlier, count, out.len());
+    if earlier.number != 0 {
+        return FileAnswer {
+            refusal: earlier,
+            bytes: 0,
+        };
+    }
+    let version = job_write::version_for(&quantities[..count]);
+    let refusal = call_refusals::write_refusal(earlier, version, count, out.len());
     if refusal.number != 0 {
         return FileAnswer { refusal, bytes: 0 };
     }
-    let bytes = job::file_length(count);
-    job_write::write_file(rack, &sets[..count], &mut out[..bytes]);
+    let bytes = job::file_length(version, count);
+    job_write::write_file(
+        rack,
+        &quantities[..count],
+        &sets[..count],
+        &mut out[..bytes],
+    );
     FileAnswer { refusal, bytes }
 }

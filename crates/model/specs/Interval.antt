@@ -98,9 +98,13 @@ pub record Line (ok : ℕ → Bool) (m s : ℕ) : Type 0 where
   pub run : (c : ℕ) → T (ok c) → low s ≤ c → c ≤ high s → T (has s c)
   pub fits : (c : ℕ) → T (has s c) → T (ok c)
 
--- each line on the tip that takes it when each interval is split at its pick, a tip that is ok
+-- each set on the tip that takes it when each interval is split at its pick, a tip that is ok, for the pairs of the lines
+abbrev pub planFor : Mounted → (ℕ → Bool) → ℕ → List ℕ → List ℕ → List ℕ
+planFor mounted ok m lines sets = map (tipBy (pickOf mounted ok lines) m 0 m) sets
+
+-- and so the lines themselves
 abbrev pub planOf : Mounted → (ℕ → Bool) → ℕ → List ℕ → List ℕ
-planOf mounted ok m lines = map (tipBy (pickOf mounted ok lines) m 0 m) lines
+planOf mounted ok m lines = planFor mounted ok m lines lines
 
 -- the table D is at least each split of each interval at a tip that is ok
 abbrev pub Dominates : (ℕ → Bool) → ℕ → List ℕ → (ℕ → ℕ → ℕ) → Type 0

@@ -13,17 +13,17 @@ mostTips = 64
 abbrev pub mostLines : ℕ
 mostLines = 512
 
--- the most placements of a board: one a line
+-- the most placements of a board: the sum of its lines' quantities
 abbrev pub mostPlacements : ℕ
-mostPlacements = mostLines
+mostPlacements = 2048
 
 -- the most pairs of a plan: those of all placements on one tip
 abbrev pub mostPairs : ℕ
 mostPairs = mostPlacements * (mostPlacements - 1) / 2
 
--- good lines in a rack of m tips: each has a tip, and none outside the rack
-pub record GoodLines (m : ℕ) (lines : List ℕ) : Type 0 where
+-- good placements in a rack of m tips, each given by the set of its line: each has a tip, and none outside the rack
+pub record GoodPlacements (m : ℕ) (lines : List ℕ) : Type 0 where
   pub some : 1 ≤ m
   pub most : m ≤ mostTips
-  pub few : length lines ≤ mostLines
+  pub few : length lines ≤ mostPlacements
   pub domains : All (Domain m) lines

@@ -64,7 +64,7 @@ at-none number i n h = by (ltb i n) refl
     by false e z = ltb-false i n e
 
 -- THE SCAN: it refuses nothing exactly where each element passes
-module _ (test : ℕ → Bool) (number : ℕ → ℕ) (xs : List ℕ) where
+module _ {A : Type 0} (test : A → Bool) (number : ℕ → ℕ) (xs : List A) where
   pub scan-none : ((i : ℕ) → number i ≡ 0 → ⊥) → (scan test number xs) .number ≡ 0 → All (λ x. T (test x)) xs
   unfolding scan
   scan-none h z = none-fails test xs (at-none (number (firstFail test xs)) (firstFail test xs) (length xs) (h (firstFail test xs)) z)

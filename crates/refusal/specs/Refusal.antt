@@ -6,7 +6,7 @@ use mathlib.Core.List.{List, _++_}
 use lib.Dec.{eqb, ltb}
 use lib.ListN.{length, take, drop}
 use Rattle.model.specs.Count.{firstFail}
-use Rattle.model.specs.Limits.{GoodLines}
+use Rattle.placements.specs.Good.{GoodLines}
 use Rattle.refusal.specs.declared.Refusal.{Refusal}
 
 -- nothing is refused: number 0 and place 0
@@ -44,7 +44,8 @@ told r x = cond (accepts r) x 0
 abbrev pub lentBy : Refusal → ℕ → List ℕ → List ℕ → List ℕ
 lentBy r n new old = cond (accepts r) (new ++ drop n old) old
 
--- where nothing is refused earlier, the lines are the first n of the sets, and good
-pub record Given (earlier : Refusal) (m n : ℕ) (sets : List ℕ) : Type 0 where
+-- where nothing is refused earlier, the lines are the first n of the sets, each with its quantity, and good
+pub record Given (earlier : Refusal) (m n : ℕ) (qs sets : List ℕ) : Type 0 where
   pub room : earlier .number ≡ 0 → n ≤ length sets
-  pub good : earlier .number ≡ 0 → GoodLines m (take n sets)
+  pub quantity-room : earlier .number ≡ 0 → n ≤ length qs
+  pub good : earlier .number ≡ 0 → GoodLines m (take n qs) (take n sets)

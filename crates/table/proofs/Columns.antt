@@ -8,7 +8,7 @@ use mathlib.Core.List.{List}
 use lib.Arith.{digits-lt, digits-div, digits-mod}
 use lib.ListN.{length, getD, set, replicate, length-set, length-replicate, getD-replicate}
 use lib.Seq.{getD-set-same, getD-set-other}
-use Rattle.model.specs.Limits.{mostPlacements, GoodLines}
+use Rattle.model.specs.Limits.{mostPlacements, GoodPlacements}
 use Rattle.model.specs.Interval.{inside, split, C, table}
 use Rattle.model.proofs.Tests.{le-or-lt}
 use Rattle.model.proofs.ListOf.{list-is}
@@ -71,7 +71,7 @@ abbrev pub RowsBy : ℕ → List ℕ → List ℕ → List ℕ → ℕ → ℕ �
 RowsBy m xs table column b a = (lines : List ℕ) → RunSums m lines xs → Rows m lines table column b a
 
 module _ {m : ℕ} {lines xs : List ℕ} (k : RunSums m lines xs) (b : ℕ) (ends : b < m) where
-  good : GoodLines m lines
+  good : GoodPlacements m lines
   good = k .runs .good
 
   pub rows-first : {table : List ℕ} → Columns m lines table b → Rows m lines table zeros b (b + 1)

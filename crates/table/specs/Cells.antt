@@ -5,7 +5,7 @@ use mathlib.Core.Path.{_≡_}
 use mathlib.Core.List.{List, _++_}
 use lib.Dec.{T}
 use lib.ListN.{length, getD, drop, replicate}
-use Rattle.model.specs.Limits.{mostTips, mostPlacements, mostPairs, GoodLines}
+use Rattle.model.specs.Limits.{mostTips, mostPlacements, mostPairs, GoodPlacements}
 use Rattle.model.specs.Count.{All, listOf, largest}
 use Rattle.model.specs.Plan.{choose2}
 use Rattle.model.specs.Interval.{isRun, C}
@@ -90,9 +90,9 @@ pub record Cell (m a b : ℕ) (xs allows column table : List ℕ) : Type 0 where
   pub small : (i : ℕ) → i < b + 1 - a
       → Small (sumAt xs a (b + 1)) (getD allows (a + i) 0) (sumAt xs a (a + i)) (leftOf m table a i) (getD column (a + i + 1) 0)
 
--- good lines in a rack of m tips, each an unbroken run
+-- good placements in a rack of m tips, each an unbroken run
 pub record Runs (m : ℕ) (lines : List ℕ) : Type 0 where
-  pub good : GoodLines m lines
+  pub good : GoodPlacements m lines
   pub runs : All (λ s. T (isRun s)) lines
 
 -- the sums are those of the lines, which are such runs

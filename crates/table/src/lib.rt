@@ -1,4 +1,4 @@
-// The table of best sharing: the most pairs of each interval of tips, from the lines summed by lowest and highest tip.
+// The table of best sharing: the most pairs of each interval of tips, from the lines summed by lowest and highest tip, one for each placement.
 ghost use mathlib.Core.Path.{_≡_};
 ghost use Prim.Native.Nat.{ℕ, _+_, _*_, _-_, _^_, _≤_, _<_, max};
 ghost use lib.ListN.{length};
@@ -8,7 +8,7 @@ ghost use Rattle.model.specs.Limits.{mostPlacements};
 ghost use Rattle.table.specs.Cells.{splitOf, Small, largestAt, SplitLists, allowsOf, zeros, cellBy, Cell, Differences, RunSums, ColumnsBy};
 
 // A power of two that is more than the most placements.
-const SHORT: u32 = 1024;
+const SHORT: u32 = 4096;
 
 // A column has a place for each tip, and one more.
 const COLUMN_SIZE: usize = model::MOST_TIPS + 1;

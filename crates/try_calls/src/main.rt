@@ -1,4 +1,5 @@
-// Boards B11 to B14, refusals of every call, their order, and what refused and accepted calls leave in lent buffers.
+// Boards B11 to B14, refusals of every call, their order, and what refused and accepted calls leave in lent buffers; then quantities: added, held in
+// a record, and counted by every call.
 use board::Answer;
 use board::Board;
 use board::Shared;
@@ -8,9 +9,12 @@ use try_lib::changed_bytes;
 use try_lib::changed_places;
 use try_lib::closed_board;
 use try_lib::differences;
+use try_lib::filled;
 use try_lib::junk_file;
 use try_lib::junk_plan;
 use try_lib::junk_table;
+use try_lib::ones;
+use try_lib::placed_board;
 use try_lib::show;
 use try_lib::show_answer;
 use try_lib::show_board;
@@ -18,6 +22,8 @@ use try_lib::size;
 use try_lib::sum;
 use try_lib::text;
 use try_lib::three_lines;
+use try_lib::tips_of;
+use try_lib::with_quantity;
 use try_lib::with_set;
 ghost use Prim.Native.Nat.{_≤_};
 ghost use lib.ListN.{length};
@@ -85,34 +91,25 @@ fn b12() {
 
 fn b13() {
     let board = Board::open(3).board;
-    show_answer(b"B13 add {3}", board.add(8));
-    show_answer(b"B13 add {2}", board.add(4));
-    show_answer(b"B13 add {}", board.add(0));
-    show_answer(b"B13 add {2,63}", board.add(9223372036854775812));
+    show_answer(b"B13 add {3}", board.add(8, 1));
+    show_answer(b"B13 add {2}", board.add(4, 1));
+    show_answer(b"B13 add {}", board.add(0, 1));
+    show_answer(b"B13 add {2,63}", board.add(9223372036854775812, 1));
     show_answer(
         b"B13 rack 64 add {63}",
-        Board::open(64).board.add(9223372036854775808),
+        Board::open(64).board.add(9223372036854775808, 1),
     );
 }
 
-// An open board of rack 3 after n times add {0}.
-fn filled(n: usize) -> Board {
-    let mut board = Board::open(3).board;
-    for _ in 0..n {
-        board = board.add(1).board;
-    }
-    board
-}
-
 fn b14() {
-    let nearly = filled(511);
-    let full = filled(512);
-    show_answer(b"B14 add the 512th", nearly.add(1));
-    show_answer(b"B14 add the 513th {0}", full.add(1));
-    show_answer(b"B14 add the 513th {}", full.add(0));
-    show_answer(b"B14 add the 513th {3}", full.add(8));
+    let nearly = filled(511, 1);
+    let full = filled(512, 1);
+    show_answer(b"B14 add the 512th", nearly.add(1, 1));
+    show_answer(b"B14 add the 513th {0}", full.add(1, 1));
+    show_answer(b"B14 add the 513th {}", full.add(0, 1));
+    show_answer(b"B14 add the 513th {3}", full.add(8, 1));
     let closed = full.close().board;
-    show_answer(b"B14 closed, add the 513th {}", closed.add(0));
+    show_answer(b"B14 closed, add the 513th {}", closed.add(0, 1));
     show_write(b"B14 closed", closed, 4103);
     show_write(b"B14 closed", closed, 4112);
 }
@@ -171,7 +168,7 @@ fn both(a: Seen, b: Seen) -> Seen {
 
 // The numbers of the seven calls on a board, and over all of them what was told and changed.
 fn each_call(board: Board) {
-    let add = seen_answer(board, board.add(1));
+    let add = seen_answer(board, board.add(1, 1));
     let close = seen_answer(board, board.close());
     let common = seen_common(board);
     let keep = seen_keep(board);
@@ -197,7 +194,8 @@ fn each_call(board: Board) {
     );
 }
 
-fn each_stage(words: &[u8], rack: usize, count: usize, sets: [u64; 512]) {
+// Both stages of a record.
+fn each_record(words: &[u8], rack: usize, count: usize, sets: [u64; 512], quantities: [u8; 512]) {
     text(words);
     text(b", open:");
     each_call(Board {
@@ -205,6 +203,7 @@ fn each_stage(words: &[u8], rack: usize, count: usize, sets: [u64; 512]) {
         stage: Stage::Open,
         count,
         sets,
+        quantities,
     });
     text(words);
     text(b", closed:");
@@ -213,16 +212,24 @@ fn each_stage(words: &[u8], rack: usize, count: usize, sets: [u64; 512]) {
         stage: Stage::Closed,
         count,
         sets,
+        quantities,
     });
+}
+
+// The same with each line of quantity 1.
+fn each_stage(words: &[u8], rack: usize, count: usize, sets: [u64; 512]) {
+    each_record(words, rack, count, sets, ones(count));
 }
 
 fn opened(board: Board) -> Board {
     let sets = board.sets;
+    let quantities = board.quantities;
     Board {
         rack: board.rack,
         stage: Stage::Open,
         count: board.count,
         sets,
+        quantities,
     }
 }
 
@@ -242,7 +249,7 @@ fn ranges() {
     each_stage(b"rack 0", 0, 0, none);
     each_stage(b"rack 1 without lines", 1, 0, none);
     each_stage(b"rack 65", 65, 0, none);
-    let full = filled(512);
+    let full = filled(512, 1);
     let sets = full.sets;
     each_stage(b"count 512", 3, 512, sets);
     each_stage(b"count 513", 3, 513, sets);
@@ -452,6 +459,260 @@ fn keeps() {
     show_keep(b"open keep", opened(three), 0);
 }
 
+// A quantity of 0, which goes after 24, 2 and 3, and the largest.
+fn quantities() {
+    let board = Board::open(3).board;
+    show_answer(b"add 0 of {0}", board.add(1, 0));
+    show_answer(b"add 0 of {}", board.add(0, 0));
+    show_answer(b"add 0 of {3}", board.add(8, 0));
+    show_answer(b"add 255 of {0}", board.add(1, 255));
+    show_answer(b"512 lines, add 0 of {0}", filled(512, 1).add(1, 0));
+    show_answer(b"closed, add 0 of {0}", three_lines().add(1, 0));
+}
+
+// Eight lines of 255 placements, and one of the rest.
+fn most() -> Board {
+    filled(8, 255).add(1, 8).board
+}
+
+// Up to 2,048 placements, and one more, which goes after 24, 2, 3 and 15.
+fn totals() {
+    let nearly = filled(8, 255);
+    show_answer(b"2040 placements, add 8 of {0}", nearly.add(1, 8));
+    show_answer(b"2040 placements, add 9 of {0}", nearly.add(1, 9));
+    show_answer(b"2040 placements, add 255 of {0}", nearly.add(1, 255));
+    let all = most();
+    show_answer(b"2048 placements, add 1 of {0}", all.add(1, 1));
+    show_answer(b"2048 placements, add 1 of {}", all.add(0, 1));
+    show_answer(b"2048 placements, add 1 of {3}", all.add(8, 1));
+    show_answer(b"2048 placements, add 0 of {0}", all.add(1, 0));
+    show_answer(b"512 lines of 4, add 1 of {0}", filled(512, 4).add(1, 1));
+}
+
+// Records with one quantity wrong.
+fn wrong_quantities() {
+    let three = three_lines();
+    let sets = three.sets;
+    let quantities = three.quantities;
+    each_record(
+        b"quantity 0 of a line",
+        3,
+        3,
+        sets,
+        with_quantity(quantities, 1, 0),
+    );
+    each_record(
+        b"quantity behind the lines",
+        3,
+        3,
+        sets,
+        with_quantity(quantities, 3, 1),
+    );
+    each_record(
+        b"last quantity behind the lines",
+        3,
+        3,
+        sets,
+        with_quantity(quantities, 511, 1),
+    );
+}
+
+// Records with the most placements, and with one more.
+fn most_placements() {
+    let all = most();
+    let sets = all.sets;
+    let quantities = all.quantities;
+    each_record(b"2048 placements", 3, 9, sets, quantities);
+    each_record(
+        b"2049 placements",
+        3,
+        9,
+        sets,
+        with_quantity(quantities, 8, 9),
+    );
+    let full = filled(512, 4);
+    let full_sets = full.sets;
+    let full_quantities = full.quantities;
+    each_record(b"512 lines of 4", 3, 512, full_sets, full_quantities);
+}
+
+fn show_value(value: u64) {
+    show(b" #", &[value]);
+}
+
+fn show_file_byte(byte: u8) {
+    show_value(byte as u64);
+}
+
+fn show_table_place(place: u32) {
+    show_value(place as u64);
+}
+
+// The first n bytes.
+fn show_bytes(words: &[u8], bytes: &[u8], n: usize)
+    requires { ⌜ n ≤ length (now bytes) ⌝ }
+{
+    text(words);
+    for i in 0..n {
+        show_file_byte(bytes[i]);
+    }
+}
+
+fn show_places(words: &[u8], places: &[u32], n: usize)
+    requires { ⌜ n ≤ length (now places) ⌝ }
+{
+    text(words);
+    for i in 0..n {
+        show_table_place(places[i]);
+    }
+}
+
+fn show_counted_common(words: &[u8], board: Board) {
+    let answer = board.common_tip();
+    text(words);
+    show(
+        b" common tip: number # place # top # off # tips #\n",
+        &[
+            answer.number as u64,
+            answer.place as u64,
+            answer.top as u64,
+            answer.off as u64,
+            answer.tips,
+        ],
+    );
+}
+
+// The first four sets after it.
+fn show_counted_keep(words: &[u8], board: Board, k: u16) {
+    let answer = board.keep(k);
+    let back = answer.board;
+    let sets = back.sets;
+    text(words);
+    show(
+        b" keep k #: number # place #",
+        &[k as u64, answer.number as u64, answer.place as u64],
+    );
+    show_margin(answer.margin);
+    show(b"; board changed #", &[differences(board, back)]);
+    show(b"; sets # # # #\n", &sets);
+}
+
+fn show_shared(words: &[u8], answer: Shared, plan: [u8; 520]) {
+    text(words);
+    show(
+        b": number # place # pairs #",
+        &[
+            answer.number as u64,
+            answer.place as u64,
+            answer.pairs as u64,
+        ],
+    );
+    let tips = tips_of(plan);
+    show(b"; tips # # # # # # # #", &tips);
+}
+
+fn show_counted_quick(words: &[u8], board: Board) {
+    let mut plan = junk_plan();
+    let answer = board.quick(&mut plan);
+    text(words);
+    show_shared(b" quick", answer, plan);
+    text(b"\n");
+}
+
+// The first twelve places of the table.
+fn show_counted_best(words: &[u8], board: Board) {
+    let mut plan = junk_plan();
+    let mut table = junk_table();
+    let answer = board.best(&mut plan, &mut table);
+    text(words);
+    show_shared(b" best", answer, plan);
+    show_places(b"; table", &table, 12);
+    text(b"\n");
+}
+
+fn read_in(file: &[u8], room: usize) -> Answer
+    requires { ⌜ room ≤ length (now file) ⌝ }
+{
+    Board::read(&file[..room])
+}
+
+// The first 48 bytes of the file; the first `room` bytes are read.
+fn show_counted_file(words: &[u8], board: Board, room: usize)
+    requires { ⌜ room ≤ 4112 ⌝ }
+{
+    let mut file = junk_file();
+    let answer = board.write(&mut file);
+    text(words);
+    show(
+        b" write: number # place # bytes #",
+        &[
+            answer.number as u64,
+            answer.place as u64,
+            answer.bytes as u64,
+        ],
+    );
+    show_bytes(b"; file", &file, 48);
+    text(b"\n");
+    let read = read_in(&file, room);
+    let back = read.board;
+    text(words);
+    show(
+        b" read back: number # place #; board changed #\n",
+        &[
+            read.number as u64,
+            read.place as u64,
+            differences(board, back),
+        ],
+    );
+}
+
+// A board of four lines through every call that counts placements: keep for each bound, and its file of so many bytes. Of each buffer some junk
+// behind what is written is shown.
+fn show_counted(words: &[u8], lines: [u64; 8], quantities: [u8; 8], bounds: [u16; 3], room: usize)
+    requires { ⌜ room ≤ 4112 ⌝ }
+{
+    let board = placed_board(3, lines, quantities, 4);
+    show_counted_common(words, board);
+    show_counted_keep(words, board, bounds[0]);
+    show_counted_keep(words, board, bounds[1]);
+    show_counted_keep(words, board, bounds[2]);
+    show_counted_quick(words, board);
+    show_counted_best(words, board);
+    show_counted_file(words, board, room);
+}
+
+// B7 with its equal lines as one each, B4 with a line of many, a board that loses tips above margin zero, and one whose quantities are all 1.
+fn counted_boards() {
+    show_counted(
+        b"2, 3, 3, 2 of B7",
+        [1, 3, 6, 4, 0, 0, 0, 0],
+        [2, 3, 3, 2, 0, 0, 0, 0],
+        [3, 4, 5],
+        44,
+    );
+    show_counted(
+        b"1, 10, 1, 255 of B4",
+        [2, 4, 3, 5, 0, 0, 0, 0],
+        [1, 10, 1, 255, 0, 0, 0, 0],
+        [1, 2, 11],
+        44,
+    );
+    show_counted(
+        b"3, 2, 1, 1",
+        [7, 3, 2, 4, 0, 0, 0, 0],
+        [3, 2, 1, 1, 0, 0, 0, 0],
+        [0, 1, 2],
+        44,
+    );
+    show_counted(
+        b"1, 1, 1, 1",
+        [1, 3, 6, 4, 0, 0, 0, 0],
+        [1, 1, 1, 1, 0, 0, 0, 0],
+        [1, 2, 3],
+        40,
+    );
+}
+
 fn main() {
     b11();
     b12();
@@ -462,4 +723,9 @@ fn main() {
     buffers();
     gaps();
     keeps();
+    quantities();
+    totals();
+    wrong_quantities();
+    most_placements();
+    counted_boards();
 }

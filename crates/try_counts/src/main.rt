@@ -24,7 +24,7 @@ fn counted(before: Counts, code: u64, n: usize, rack: usize, bound: u16) -> Coun
     let board = closed_board(rack, with_tips([0; 8], values), n);
     let common = board.common_tip();
     let keep = board.keep(bound);
-    let within = off(values, n, rack as u64) <= bound as u64;
+    let within = off(values, [1; 8], n, rack as u64) <= bound as u64;
     let accepted = common.number == 0 && common.off <= bound as usize;
     Counts {
         within: sum(before.within, one_if(within)),

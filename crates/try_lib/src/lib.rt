@@ -86,37 +86,60 @@ pub fn with_tips(given: [u64; 8], plan: [u64; 8]) -> [u64; 8] {
     lines
 }
 
-// The board that open, add for each of the first n lines, and close give.
-pub fn closed_board(rack: usize, lines: [u64; 8], n: usize) -> Board
+// The board that open, add for each of the first n lines with its quantity, and close give.
+pub fn placed_board(rack: usize, lines: [u64; 8], quantities: [u8; 8], n: usize) -> Board
     requires { ⌜ n ≤ 8 ⌝ }
 {
     let mut board = Board::open(rack).board;
     for i in 0..n {
-        board = board.add(lines[i]).board;
+        board = board.add(lines[i], quantities[i]).board;
     }
     board.close().board
 }
 
-// How many of the first n lines a plan puts on the tip.
-pub fn uses(plan: [u64; 8], n: usize, tip: u64) -> u64
+// The same with each line of quantity 1.
+pub fn closed_board(rack: usize, lines: [u64; 8], n: usize) -> Board
+    requires { ⌜ n ≤ 8 ⌝ }
+{
+    placed_board(rack, lines, [1; 8], n)
+}
+
+// The quantity where the test holds, 0 where it does not.
+fn placed_if(test: bool, quantity: u8) -> u64 {
+    if test { quantity as u64 } else { 0 }
+}
+
+// How many placements the first n lines have.
+pub fn placements(quantities: [u8; 8], n: usize) -> u64
     requires { ⌜ n ≤ 8 ⌝ }
 {
     let mut count: u64 = 0;
     for i in 0..n {
-        count = sum(count, one_if(plan[i] == tip));
+        count = sum(count, wide(quantities[i]));
     }
     count
 }
 
-// How many of the first n lines are off the tip that a plan uses most.
-pub fn off(plan: [u64; 8], n: usize, rack: u64) -> u64
+// How many placements of the first n lines a plan puts on the tip.
+pub fn uses(plan: [u64; 8], quantities: [u8; 8], n: usize, tip: u64) -> u64
+    requires { ⌜ n ≤ 8 ⌝ }
+{
+    let mut count: u64 = 0;
+    for i in 0..n {
+        count = sum(count, placed_if(plan[i] == tip, quantities[i]));
+    }
+    count
+}
+
+// How many placements of the first n lines are off the tip that a plan uses most.
+pub fn off(plan: [u64; 8], quantities: [u8; 8], n: usize, rack: u64) -> u64
     requires { ⌜ n ≤ 8 ⌝ }
 {
     let mut most: u64 = 0;
     for tip in 0..rack {
-        most = larger(most, uses(plan, n, tip));
+        most = larger(most, uses(plan, quantities, n, tip));
     }
-    std::num::wrapping_sub_u64(n as u64, most)
+    std::num::wrapping_sub_u64(placements(quantities, n), most)
 }
 
 fn is_closed(stage: Stage) -> bool {
@@ -138,16 +161,38 @@ pub fn different(a: &[u64], b: &[u64]) -> u64 {
     count
 }
 
-// How many of rack, stage, count and the 512 sets differ between two boards.
+// 1 where two lines differ in their set or their quantity, 0 where in neither.
+fn different_line(a_set: u64, a_quantity: u8, b_set: u64, b_quantity: u8) -> u64 {
+    one_if(a_set != b_set || a_quantity != b_quantity)
+}
+
+// How many of the 512 sets, each with its quantity, differ.
+fn different_lines(
+    a_sets: [u64; 512],
+    a_quantities: [u8; 512],
+    b_sets: [u64; 512],
+    b_quantities: [u8; 512],
+) -> u64 {
+    let mut count: u64 = 0;
+    for i in 0..512 {
+        let differs = different_line(a_sets[i], a_quantities[i], b_sets[i], b_quantities[i]);
+        count = sum(count, differs);
+    }
+    count
+}
+
+// How many of rack, stage, count and the 512 sets, each with its quantity, differ between two boards.
 pub fn differences(a: Board, b: Board) -> u64 {
     let a_sets = a.sets;
+    let a_quantities = a.quantities;
     let b_sets = b.sets;
-    let sets = different(&a_sets, &b_sets);
+    let b_quantities = b.quantities;
+    let lines = different_lines(a_sets, a_quantities, b_sets, b_quantities);
     let a_stage = a.stage;
     let b_stage = b.stage;
     let stage = one_if(is_closed(a_stage) != is_closed(b_stage));
     let numbers = sum(one_if(a.rack != b.rack), one_if(a.count != b.count));
-    sum(sum(sets, stage), numbers)
+    sum(sum(lines, stage), numbers)
 }
 
 // The sets with another at a place.
@@ -157,6 +202,28 @@ pub fn with_set(given: [u64; 512], at: usize, set: u64) -> [u64; 512]
     let mut sets = given;
     sets[at] = set;
     sets
+}
+
+// The quantities with another at a place.
+pub fn with_quantity(given: [u8; 512], at: usize, quantity: u8) -> [u8; 512]
+    requires { ⌜ at < 512 ⌝ }
+{
+    let mut quantities = given;
+    quantities[at] = quantity;
+    quantities
+}
+
+fn byte_if(test: bool) -> u8 {
+    if test { 1 } else { 0 }
+}
+
+// Quantity 1 for each of the first n lines, 0 after them.
+pub fn ones(n: usize) -> [u8; 512] {
+    let mut quantities = [0u8; 512];
+    for i in 0..512 {
+        quantities[i] = byte_if(i < n);
+    }
+    quantities
 }
 
 // Eight bytes more than a plan of 512 lines.
@@ -169,9 +236,14 @@ pub fn junk_table() -> [u32; 4100] {
     [JUNK_PLACE; 4100]
 }
 
-// Eight bytes more than the job file of 512 lines.
+// Eight bytes more than the job file of 512 lines of quantity 1.
 pub fn junk_file() -> [u8; 4112] {
     [JUNK; 4112]
+}
+
+// Eight bytes more than the job file of 512 lines with quantities.
+pub fn junk_long_file() -> [u8; 4624] {
+    [JUNK; 4624]
 }
 
 fn wide(x: u8) -> u64 {
@@ -208,6 +280,15 @@ pub fn changed_places(table: &[u32], from: usize) -> u64 {
 // Rack 3; {0}, {0,1}, {1,2}: all runs.
 pub fn three_lines() -> Board {
     closed_board(3, [1, 3, 6, 0, 0, 0, 0, 0], 3)
+}
+
+// An open board of rack 3 after n times adding so many of {0}.
+pub fn filled(n: usize, quantity: u8) -> Board {
+    let mut board = Board::open(3).board;
+    for _ in 0..n {
+        board = board.add(1, quantity).board;
+    }
+    board
 }
 
 pub fn show_board(board: Board) {

@@ -4,18 +4,23 @@ use try_lib::larger;
 use try_lib::off;
 use try_lib::one_if;
 use try_lib::only;
+use try_lib::placements;
 use try_lib::sum;
 use try_lib::uses;
 use try_lib::with_tips;
 ghost use Prim.Native.Nat.{_≤_};
 
-// The first n lines over the rack; every plan, valid or not, is a number below `plans`, with the lines' tips as its digits.
+// The first n lines over the rack, each with its quantity; every plan, valid or not, is a number below `plans`, with the lines' tips as its digits.
 pub struct Small {
     pub rack: u64,
     pub n: usize,
     pub plans: u64,
     pub lines: [u64; 8],
+    pub quantities: [u8; 8],
 }
+
+// As many placements as eight lines can have: every plan is within so many.
+const ALL: u64 = 2040;
 
 // Each line on another tip, and none on a tip of a rack.
 const NO_PLAN: [u64; 8] = [64, 65, 66, 67, 68, 69, 70, 71];
@@ -31,13 +36,23 @@ pub fn misses(lines: [u64; 8], plan: [u64; 8], n: usize) -> u64
     count
 }
 
-// The pairs of a plan: each of the first n lines with the lines before it on its tip.
-pub fn pairs(plan: [u64; 8], n: usize) -> u64
+// The pairs of a line's placements, each with those before it on its tip, of which there are `earlier` in other lines.
+fn pairs_of(quantity: u8, earlier: u64) -> u64 {
+    let mut count: u64 = 0;
+    for placement in 0..quantity {
+        count = sum(count, sum(earlier, placement as u64));
+    }
+    count
+}
+
+// The pairs of a plan: each placement of the first n lines with those before it on its tip.
+pub fn pairs(plan: [u64; 8], quantities: [u8; 8], n: usize) -> u64
     requires { ⌜ n ≤ 8 ⌝ }
 {
     let mut count: u64 = 0;
     for i in 0..n {
-        count = sum(count, uses(plan, i, plan[i]));
+        let earlier = uses(plan, quantities, i, plan[i]);
+        count = sum(count, pairs_of(quantities[i], earlier));
     }
     count
 }
@@ -48,11 +63,12 @@ fn plan_of(small: Small, code: u64, k: u64) -> [u64; 8]
 {
     let n = small.n;
     let lines = small.lines;
+    let quantities = small.quantities;
     let plan = digits(code, small.rack, 0);
     if misses(lines, plan, n) != 0 {
         return NO_PLAN;
     }
-    if k < off(plan, n, small.rack) {
+    if k < off(plan, quantities, n, small.rack) {
         return NO_PLAN;
     }
     plan
@@ -62,15 +78,17 @@ fn smaller(a: u64, b: u64) -> u64 {
     if a < b { a } else { b }
 }
 
-// The least number of lines off the most used tip, over all valid plans.
+// The least number of placements off the most used tip, over all valid plans.
 pub fn least_off(small: Small) -> u64
     requires { ⌜ small .n ≤ 8 ⌝ }
 {
     let n = small.n;
     let plans = small.plans;
-    let mut least = n as u64;
+    let quantities = small.quantities;
+    let mut least = placements(quantities, n);
     for code in 0..plans {
-        least = smaller(least, off(plan_of(small, code, 8), n, small.rack));
+        let plan = plan_of(small, code, ALL);
+        least = smaller(least, off(plan, quantities, n, small.rack));
     }
     least
 }
@@ -81,9 +99,10 @@ pub fn most_pairs(small: Small) -> u64
 {
     let n = small.n;
     let plans = small.plans;
+    let quantities = small.quantities;
     let mut most: u64 = 0;
     for code in 0..plans {
-        most = larger(most, pairs(plan_of(small, code, 8), n));
+        most = larger(most, pairs(plan_of(small, code, ALL), quantities, n));
     }
     most
 }
@@ -101,28 +120,30 @@ pub fn supported(small: Small, k: u64) -> [u64; 8]
     lines
 }
 
-// The tips of the rack on which a plan puts `top` lines.
-fn tips_used(plan: [u64; 8], n: usize, rack: u64, top: u64) -> u64
+// The tips of the rack on which a plan puts `top` placements.
+fn tips_used(plan: [u64; 8], quantities: [u8; 8], n: usize, rack: u64, top: u64) -> u64
     requires { ⌜ n ≤ 8 ⌝ }
 {
     let mut set: u64 = 0;
     for tip in 0..rack {
-        if uses(plan, n, tip) == top {
+        if uses(plan, quantities, n, tip) == top {
             set |= only(tip);
         }
     }
     set
 }
 
-// The tips on which some valid plan puts `top` lines.
+// The tips on which some valid plan puts `top` placements.
 pub fn busiest(small: Small, top: u64) -> u64
     requires { ⌜ small .n ≤ 8 ⌝ }
 {
     let n = small.n;
     let plans = small.plans;
+    let quantities = small.quantities;
     let mut set: u64 = 0;
     for code in 0..plans {
-        set |= tips_used(plan_of(small, code, 8), n, small.rack, top);
+        let plan = plan_of(small, code, ALL);
+        set |= tips_used(plan, quantities, n, small.rack, top);
     }
     set
 }
@@ -146,11 +167,14 @@ pub fn between(small: Small, low: u64, high: u64) -> Small
 {
     let n = small.n;
     let lines = small.lines;
+    let quantities = small.quantities;
     let interval = std::num::wrapping_sub_u64(only(sum(high, 1)), only(low));
     let mut inside = lines;
+    let mut placed = quantities;
     let mut count: usize = 0;
     for i in 0..n {
         inside[count] = lines[i];
+        placed[count] = quantities[i];
         count += one_if(lines[i] & interval == lines[i]) as usize;
     }
     Small {
@@ -158,5 +182,6 @@ pub fn between(small: Small, low: u64, high: u64) -> Small
         n: count,
         plans: small.plans,
         lines: inside,
+        quantities: placed,
     }
 }

@@ -1,4 +1,5 @@
-// Records made by hand (numbers up to 2^64 - 1, bad lines, sets left after them), and boards of 512 lines over 64 tips, through every call.
+// Records made by hand (numbers up to 2^64 - 1, bad lines, sets and quantities left after them), and boards of 512 lines over 64 tips, through every
+// call.
 use board::Answer;
 use board::Board;
 use board::Shared;
@@ -8,14 +9,18 @@ use try_lib::changed_bytes;
 use try_lib::changed_places;
 use try_lib::differences;
 use try_lib::junk_file;
+use try_lib::junk_long_file;
 use try_lib::junk_plan;
 use try_lib::junk_table;
+use try_lib::ones;
 use try_lib::only;
+use try_lib::placed_board;
 use try_lib::show;
 use try_lib::size;
 use try_lib::sum;
 use try_lib::text;
 use try_lib::three_lines;
+use try_lib::with_quantity;
 use try_lib::with_set;
 ghost use Prim.Native.Nat.{_≤_};
 ghost use lib.ListN.{length};
@@ -31,12 +36,21 @@ fn full() -> [u64; 512] {
     [1; 512]
 }
 
-fn longest_file() -> [u8; 4104] {
+// So many placements of each of 512 lines.
+fn each_of(quantity: u8) -> [u8; 512] {
+    [quantity; 512]
+}
+
+fn plain_file() -> [u8; 4104] {
     [0; 4104]
 }
 
+fn longest_file() -> [u8; 4616] {
+    [0; 4616]
+}
+
 // Both stages of a record.
-fn each_stage(words: &[u8], rack: usize, count: usize, sets: [u64; 512]) {
+fn each_record(words: &[u8], rack: usize, count: usize, sets: [u64; 512], quantities: [u8; 512]) {
     text(words);
     show(b"rack # lines #, open\n", &[rack as u64, count as u64]);
     each_call(Board {
@@ -44,6 +58,7 @@ fn each_stage(words: &[u8], rack: usize, count: usize, sets: [u64; 512]) {
         stage: Stage::Open,
         count,
         sets,
+        quantities,
     });
     text(words);
     show(b"rack # lines #, closed\n", &[rack as u64, count as u64]);
@@ -52,7 +67,13 @@ fn each_stage(words: &[u8], rack: usize, count: usize, sets: [u64; 512]) {
         stage: Stage::Closed,
         count,
         sets,
+        quantities,
     });
+}
+
+// The same with each line of quantity 1.
+fn each_stage(words: &[u8], rack: usize, count: usize, sets: [u64; 512]) {
+    each_record(words, rack, count, sets, ones(count));
 }
 
 // In 64 bits the square of 2^32 is 0, and 8 + 8·2^63 is 8.
@@ -97,6 +118,109 @@ fn wrong_ends() {
     each_stage(b"sets 0 to 511 left, ", 3, 0, sets);
 }
 
+// A line of quantity 0, and several faults in the lines.
+fn wrong_lines() {
+    let three = three_lines();
+    let sets = three.sets;
+    let quantities = three.quantities;
+    let first = with_quantity(quantities, 0, 0);
+    let next = with_quantity(quantities, 1, 0);
+    each_record(b"line 0 of 0, ", 3, 3, sets, first);
+    each_record(
+        b"line 2 of 0, ",
+        3,
+        3,
+        sets,
+        with_quantity(quantities, 2, 0),
+    );
+    each_record(
+        b"lines 1 and 2 of 0, ",
+        3,
+        3,
+        sets,
+        with_quantity(next, 2, 0),
+    );
+    each_record(
+        b"line 0 of 0 and line 1 empty, ",
+        3,
+        3,
+        with_set(sets, 1, 0),
+        first,
+    );
+    each_record(
+        b"line 0 empty and line 1 of 0, ",
+        3,
+        3,
+        with_set(sets, 0, 0),
+        next,
+    );
+}
+
+// A quantity left after the lines, and several faults at once.
+fn wrong_rest() {
+    let three = three_lines();
+    let sets = three.sets;
+    let quantities = three.quantities;
+    let next = with_quantity(quantities, 3, 1);
+    each_record(b"quantity 3 left, ", 3, 3, sets, next);
+    each_record(
+        b"quantity 511 left, ",
+        3,
+        3,
+        sets,
+        with_quantity(quantities, 511, 255),
+    );
+    each_record(
+        b"quantity 3 and set 4 left, ",
+        3,
+        3,
+        with_set(sets, 4, 1),
+        next,
+    );
+    each_record(
+        b"set 3 and quantity 4 left, ",
+        3,
+        3,
+        with_set(sets, 3, 1),
+        with_quantity(quantities, 4, 1),
+    );
+    let both = with_quantity(next, 1, 0);
+    each_record(b"line 1 of 0 and quantity 3 left, ", 3, 3, sets, both);
+    each_record(b"line 1 of 0 and quantity 3 left, ", 0, 3, sets, both);
+    each_record(b"line 1 of 0 and quantity 3 left, ", 3, 513, sets, both);
+}
+
+// More than 2,048 placements in lines {0}: the place is the line with which they pass, or an earlier fault.
+fn wrong_totals() {
+    let sets = full();
+    let most = each_of(255);
+    each_record(
+        b"2049 placements, ",
+        3,
+        512,
+        sets,
+        with_quantity(each_of(4), 511, 5),
+    );
+    each_record(b"each line of 255, ", 3, 512, sets, most);
+    each_record(
+        b"each line of 255, line 3 of 0, ",
+        3,
+        512,
+        sets,
+        with_quantity(most, 3, 0),
+    );
+    each_record(
+        b"each line of 255, line 9 of 0, ",
+        3,
+        512,
+        sets,
+        with_quantity(most, 9, 0),
+    );
+    let eight = placed_board(3, [1; 8], [255; 8], 8);
+    let eight_sets = eight.sets;
+    each_record(b"quantities 8 to 511 left, ", 3, 8, eight_sets, most);
+}
+
 // The sets of 512 lines.
 enum Lines {
     AllTips,
@@ -125,11 +249,28 @@ fn set_of(lines: Lines, line: u64) -> u64 {
     }
 }
 
+// The quantities of 512 lines.
+enum Quantities {
+    One,
+    Four,
+    UpToSeven,
+}
+
+fn quantity_of(quantities: Quantities, line: u64) -> u8 {
+    match quantities {
+        Quantities::One => 1,
+        Quantities::Four => 4,
+        Quantities::UpToSeven => (line % 7) as u8 + 1,
+    }
+}
+
 // The closed board of 512 lines over 64 tips, by open, add and close.
-fn board_of(lines: Lines) -> Board {
+fn board_of(lines: Lines, quantities: Quantities) -> Board {
     let mut board = Board::open(64).board;
     for i in 0..512 {
-        board = board.add(set_of(lines, i)).board;
+        board = board
+            .add(set_of(lines, i), quantity_of(quantities, i))
+            .board;
     }
     board.close().board
 }
@@ -300,8 +441,28 @@ fn show_write(board: Board, room: usize)
     text(b"\n");
 }
 
+// Into a buffer longer than the file of 512 lines with quantities.
+fn show_long_write(board: Board, room: usize)
+    requires { ⌜ room ≤ 4624 ⌝ }
+{
+    let mut file = junk_long_file();
+    let answer = write_in(board, &mut file, room);
+    let back = answer.board;
+    show(b"write, room #", &[room as u64]);
+    show_number(answer.number, answer.place, differences(board, back));
+    show(b"; bytes #; file", &[answer.bytes as u64]);
+    show_bytes(&file, 4616);
+    text(b"\n");
+}
+
 // The written file is read, and the board compared.
 fn show_read(board: Board) {
+    let mut file = plain_file();
+    board.write(&mut file);
+    show_answer(b"read back", board, Board::read(&file));
+}
+
+fn show_long_read(board: Board) {
     let mut file = longest_file();
     board.write(&mut file);
     show_answer(b"read back", board, Board::read(&file));
@@ -309,7 +470,7 @@ fn show_read(board: Board) {
 
 // The seven calls, with buffers longer than any call needs.
 fn each_call(board: Board) {
-    show_answer(b"add {0}", board, board.add(1));
+    show_answer(b"add {0}", board, board.add(1, 1));
     show_answer(b"close", board, board.close());
     show_common(board);
     show_keep(board, 5);
@@ -333,7 +494,7 @@ fn show_lent(board: Board) {
 }
 
 fn show_calls(words: &[u8], lines: Lines, bounds: [u16; 3]) {
-    let board = board_of(lines);
+    let board = board_of(lines, Quantities::One);
     text(words);
     show_common(board);
     show_keep(board, bounds[0]);
@@ -359,9 +520,63 @@ fn large_boards() {
     );
 }
 
+// The calls on the board of 512 lines with quantities.
+fn show_placed(words: &[u8], lines: Lines, quantities: Quantities, bounds: [u16; 3]) {
+    let board = board_of(lines, quantities);
+    text(words);
+    show_common(board);
+    show_keep(board, bounds[0]);
+    show_keep(board, bounds[1]);
+    show_keep(board, bounds[2]);
+    show_quick(board, 512);
+    show_best(board, 512, 4096);
+    show_long_write(board, 4615);
+    show_long_write(board, 4616);
+    show_long_write(board, 4624);
+    show_long_read(board);
+}
+
+// The same sets, with four placements a line or with one to seven.
+fn large_placed_boards() {
+    show_placed(
+        b"each line {0..63}, 4 of it\n",
+        Lines::AllTips,
+        Quantities::Four,
+        [0, 1, 65535],
+    );
+    show_placed(
+        b"line i {i mod 64}, 1 + i mod 7 of it\n",
+        Lines::OneTip,
+        Quantities::UpToSeven,
+        [2009, 2010, 2016],
+    );
+    show_placed(
+        b"line i {i mod 63, i mod 63 + 1}, 4 of it\n",
+        Lines::TwoTips,
+        Quantities::Four,
+        [1975, 1976, 1979],
+    );
+    show_placed(
+        b"line i {i mod 64..63}, 1 + i mod 7 of it\n",
+        Lines::Upwards,
+        Quantities::UpToSeven,
+        [0, 3, 6],
+    );
+    show_placed(
+        b"line i {i mod 64..63}, line 511 {0, 63}, 4 of it\n",
+        Lines::LastNoRun,
+        Quantities::Four,
+        [0, 3, 4],
+    );
+}
+
 fn main() {
     out_of_range();
     wrong_sets();
     wrong_ends();
     large_boards();
+    wrong_lines();
+    wrong_rest();
+    wrong_totals();
+    large_placed_boards();
 }

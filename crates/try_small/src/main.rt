@@ -1,4 +1,4 @@
-// Small boards solved by trying every plan, compared with what common tip, keep, quick and best sharing answer.
+// Small boards solved by trying every plan by lines, counted in placements, compared with what common tip, keep, quick and best sharing answer.
 // A tally is the boards and those made wrong, and for common tip, keep, quick and best the calls, for keep and best the
 // refusals, and the facts that do not hold.
 use board::Board;
@@ -8,7 +8,6 @@ use board::Stage;
 use try_lib::JUNK_PLACE;
 use try_lib::changed_bytes;
 use try_lib::changed_places;
-use try_lib::closed_board;
 use try_lib::differences;
 use try_lib::different;
 use try_lib::digits;
@@ -16,6 +15,8 @@ use try_lib::junk_plan;
 use try_lib::junk_table;
 use try_lib::one_if;
 use try_lib::only;
+use try_lib::placed_board;
+use try_lib::placements;
 use try_lib::show;
 use try_lib::size;
 use try_lib::sum;
@@ -46,32 +47,38 @@ fn wrong_common(small: Small, board: Board) -> u64
     let place = answer.place as u64;
     let top = answer.top as u64;
     let off = answer.off as u64;
+    let quantities = small.quantities;
+    let all = placements(quantities, small.n);
     let least = least_off(small);
     let tips = if top == 0 { 0 } else { busiest(small, top) };
     sum(
         wrong_told(
             [number, place, sum(top, off), off, answer.tips],
-            [0, 0, small.n as u64, least, tips],
+            [0, 0, all, least, tips],
         ),
         differences(board, back),
     )
 }
 
-// The closed board of the first n lines.
+// The closed board of the first n lines with their quantities.
 fn board_of(small: Small, lines: [u64; 8]) -> Board
     requires { ⌜ small .n ≤ 8 ⌝ }
 {
     let n = small.n;
+    let placed = small.quantities;
     let empty = Board::open(1).board;
     let mut sets = empty.sets;
+    let mut quantities = empty.quantities;
     for i in 0..n {
         sets[i] = lines[i];
+        quantities[i] = placed[i];
     }
     Board {
         rack: small.rack as usize,
         stage: Stage::Closed,
         count: n,
         sets,
+        quantities,
     }
 }
 
@@ -110,14 +117,20 @@ fn added(a: [u64; 12], b: [u64; 12]) -> [u64; 12] {
     tally
 }
 
-// Keep for each k from 0 to n + 1.
+// The numbers of placements that are a bound of keep: all up to one more than eight lines can have.
+fn bound(k: u64) -> u16 {
+    if k < 2048 { k as u16 } else { 2048 }
+}
+
+// Keep for each k from 0 to one more than there are placements.
 fn try_keeps(small: Small, board: Board) -> [u64; 12]
     requires { ⌜ small .n ≤ 8 ⌝ }
 {
-    let bounds = small.n as u16 + 2;
+    let quantities = small.quantities;
+    let bounds = sum(placements(quantities, small.n), 2);
     let mut tally = [0u64; 12];
     for k in 0..bounds {
-        let more = added(tally, try_keep(small, board, k));
+        let more = added(tally, try_keep(small, board, bound(k)));
         tally = more;
     }
     tally
@@ -129,10 +142,14 @@ fn wrong_plan(small: Small, plan: [u8; 520], shared: u64) -> u64
 {
     let n = small.n;
     let lines = small.lines;
+    let quantities = small.quantities;
     let tips = tips_of(plan);
     sum(
         misses(lines, tips, n),
-        sum(one_if(pairs(tips, n) != shared), changed_bytes(&plan, n)),
+        sum(
+            one_if(pairs(tips, quantities, n) != shared),
+            changed_bytes(&plan, n),
+        ),
     )
 }
 
@@ -226,7 +243,8 @@ fn try_board(small: Small) -> [u64; 12]
     requires { ⌜ small .n ≤ 8 ⌝ }
 {
     let lines = small.lines;
-    let board = closed_board(small.rack as usize, lines, small.n);
+    let quantities = small.quantities;
+    let board = placed_board(small.rack as usize, lines, quantities, small.n);
     let made = differences(board_of(small, lines), board);
     let common = wrong_common(small, board);
     let quick = wrong_quick(small, board);
@@ -236,8 +254,8 @@ fn try_board(small: Small) -> [u64; 12]
     )
 }
 
-// Every board of n lines over the rack: `boards` of them, with the lines' sets without the empty one as their digits.
-fn try_boards(rack: u64, n: usize, boards: u64, plans: u64) -> [u64; 12]
+// Every board of n lines over the rack with these quantities: `boards` of them, with the lines' sets without the empty one as their digits.
+fn try_boards(rack: u64, n: usize, boards: u64, plans: u64, quantities: [u8; 8]) -> [u64; 12]
     requires { ⌜ n ≤ 8 ⌝ }
 {
     let sets = std::num::wrapping_sub_u64(only(rack), 1);
@@ -251,6 +269,7 @@ fn try_boards(rack: u64, n: usize, boards: u64, plans: u64) -> [u64; 12]
                 n,
                 plans,
                 lines,
+                quantities,
             }),
         );
         tally = more;
@@ -268,13 +287,70 @@ fn show_tally(tally: [u64; 12]) {
 fn try_all(rack: u64, n: usize, boards: u64, plans: u64, total: [u64; 12]) -> [u64; 12]
     requires { ⌜ n ≤ 8 ⌝ }
 {
-    let tally = try_boards(rack, n, boards, plans);
+    let tally = try_boards(rack, n, boards, plans, [1; 8]);
     show(b"rack # lines # plans #", &[rack, n as u64, plans]);
     show_tally(tally);
     added(total, tally)
 }
 
-fn main() {
+fn byte(x: u64) -> u8 {
+    if x < 256 { x as u8 } else { 255 }
+}
+
+// The quantities of the code: 1, 2 or 3 of each line.
+fn quantities_of(code: u64) -> [u8; 8] {
+    let values = digits(code, 3, 1);
+    let mut quantities = [0u8; 8];
+    for i in 0..8 {
+        quantities[i] = byte(values[i]);
+    }
+    quantities
+}
+
+// Every board of n lines, each with every quantity from 1 to 3: `counts` ways.
+fn try_placed(
+    rack: u64,
+    n: usize,
+    boards: u64,
+    counts: u64,
+    plans: u64,
+    total: [u64; 12],
+) -> [u64; 12]
+    requires { ⌜ n ≤ 8 ⌝ }
+{
+    let mut tally = [0u64; 12];
+    for code in 0..counts {
+        let more = added(
+            tally,
+            try_boards(rack, n, boards, plans, quantities_of(code)),
+        );
+        tally = more;
+    }
+    show(
+        b"rack # lines # plans # quantities 1 to 3",
+        &[rack, n as u64, plans],
+    );
+    show_tally(tally);
+    added(total, tally)
+}
+
+fn by_placements() {
+    let total = try_placed(1, 1, 1, 3, 1, [0; 12]);
+    let total = try_placed(1, 2, 1, 3 * 3, 1, total);
+    let total = try_placed(2, 1, 3, 3, 2, total);
+    let total = try_placed(2, 2, 3 * 3, 3 * 3, 2 * 2, total);
+    let total = try_placed(2, 3, 3 * 3 * 3, 3 * 3 * 3, 2 * 2 * 2, total);
+    let total = try_placed(2, 4, 3 * 3 * 3 * 3, 3 * 3 * 3 * 3, 2 * 2 * 2 * 2, total);
+    let total = try_placed(3, 1, 7, 3, 3, total);
+    let total = try_placed(3, 2, 7 * 7, 3 * 3, 3 * 3, total);
+    let total = try_placed(3, 3, 7 * 7 * 7, 3 * 3 * 3, 3 * 3 * 3, total);
+    let total = try_placed(4, 1, 15, 3, 4, total);
+    let total = try_placed(4, 2, 15 * 15, 3 * 3, 4 * 4, total);
+    text(b"all quantities 1 to 3");
+    show_tally(total);
+}
+
+fn by_lines() {
     let total = try_all(1, 0, 1, 1, [0; 12]);
     let total = try_all(1, 1, 1, 1, total);
     let total = try_all(1, 2, 1, 1, total);
@@ -294,4 +370,9 @@ fn main() {
     let total = try_all(4, 3, 15 * 15 * 15, 4 * 4 * 4, total);
     text(b"all");
     show_tally(total);
+}
+
+fn main() {
+    by_lines();
+    by_placements();
 }

@@ -1,16 +1,16 @@
 //! Small boards, and every call on them held to every plan.
 
-use second::{pairs_in, try_every_plan, Answer, Board, Tried};
+use second::{pairs_in, try_every_plan, Answer, Board, Line, Tried};
 
-/// Runs the check on every board of these lines, each line having one of the sets.
-pub fn every_board(rack: usize, sets: &[u64], lines: usize, check: &mut dyn FnMut(&Board)) -> usize {
+/// Runs the check on every board of this many lines, each line being one of those given.
+pub fn every_board(rack: usize, choices: &[Line], lines: usize, check: &mut dyn FnMut(&Board)) -> usize {
     let mut chosen = vec![0; lines];
     let mut boards = 0;
     loop {
-        let lines_of_board: Vec<u64> = chosen.iter().map(|&set| sets[set]).collect();
+        let lines_of_board: Vec<Line> = chosen.iter().map(|&line| choices[line]).collect();
         check(&Board::of_lines(rack, &lines_of_board));
         boards += 1;
-        let Some(line) = (0..lines).find(|&line| chosen[line] + 1 < sets.len()) else {
+        let Some(line) = (0..lines).find(|&line| chosen[line] + 1 < choices.len()) else {
             return boards;
         };
         chosen[..line].fill(0);
@@ -32,15 +32,26 @@ pub fn all_runs(rack: usize) -> Vec<u64> {
     runs
 }
 
+/// Each set with each quantity.
+pub fn counted(sets: &[u64], quantities: &[u8]) -> Vec<Line> {
+    sets.iter().flat_map(|&set| quantities.iter().map(move |&quantity| Line { set, quantity })).collect()
+}
+
+/// Each set with quantity 1.
+pub fn single(sets: &[u64]) -> Vec<Line> {
+    counted(sets, &[1])
+}
+
 /// Every call on the board against every plan of it.
 pub fn check(board: &Board) {
     let tried = try_every_plan(board);
     check_common(board, &tried);
-    for k in (0..=board.count + 2).chain([65_535]) {
+    for k in (0..=board.placements().len() + 2).chain([65_535]) {
         check_keep(board, &tried, k);
     }
     check_quick(board, &tried);
     check_best(board, &tried);
+    check_files(board);
 }
 
 /// Whether the call gives the number and place and hands the board back as given.
@@ -49,29 +60,65 @@ fn assert_answer<T>(answer: &Answer<T>, board: &Board, number: u32, place: usize
     assert_eq!(&answer.board, board);
 }
 
+/// The board with every line put as often as its quantity says, each time with quantity 1.
+fn repeated(board: &Board) -> Board {
+    Board::of_sets(board.rack, &board.placements())
+}
+
+/// Whether the repeated board, made only where it has few enough lines, gives the same.
+fn assert_repeated(board: &Board, check: impl Fn(Board)) {
+    if board.placements().len() <= 512 {
+        check(repeated(board));
+    }
+}
+
 fn check_common(board: &Board, tried: &Tried) {
     let answer = board.clone().common_tip();
     assert_answer(&answer, board, 0, 0);
     let common = answer.value;
-    assert_eq!((common.top, common.off), (board.count - tried.least_off, tried.least_off), "{board:?}");
-    assert_eq!(common.tips, tried.common_tips);
+    let off = tried.least_off();
+    assert_eq!((common.top, common.off), (board.placements().len() - off, off), "{board:?}");
+    assert_eq!(common.tips, tried.common_tips());
+    assert_repeated(board, |repeated| assert_eq!(repeated.common_tip().value, common));
+}
+
+/// The tips of the set.
+fn tips_in(set: u64) -> impl Iterator<Item = usize> {
+    (0..64).filter(move |tip| (set >> tip) & 1 == 1)
+}
+
+/// The placements whose line has the tip.
+fn placements_with(board: &Board, tip: usize) -> usize {
+    board.placements().iter().filter(|&&set| (set >> tip) & 1 == 1).count()
 }
 
 fn check_keep(board: &Board, tried: &Tried, k: usize) {
     let kept = board.clone().keep_within(k as u16);
-    assert_eq!(kept.value, k as i64 - tried.least_off as i64);
-    let within = k.min(board.count);
-    if tried.plans_within[within] == 0 {
+    let margin = k as i64 - tried.least_off() as i64;
+    assert_eq!(kept.value, margin);
+    let Some(used) = tried.used_within(k) else {
         assert_answer(&kept, board, 26, 0);
+        assert!(margin < 0 && tried.plans_within(k) == 0);
         return;
+    };
+    let mut expected = board.clone();
+    expected.sets[..board.count].copy_from_slice(&used);
+    assert_answer(&kept, &expected, 0, 0);
+    // In words: V has the tips of some line that k leaves enough placements; a line of more placements than the margin
+    // that has all of V keeps only V, and any other line is unchanged.
+    let needed = board.placements().len().saturating_sub(k).max(1);
+    let v = (0..board.rack).filter(|&tip| placements_with(board, tip) >= needed).fold(0, |set, tip| set | 1 << tip);
+    for (line, given) in board.lines().enumerate() {
+        let loses = margin < i64::from(given.quantity) && given.set & v == v;
+        assert_eq!(kept.board.sets[line], if loses { v } else { given.set });
     }
-    assert_answer(&kept, &Board::of_lines(board.rack, &tried.used_within[within]), 0, 0);
-    // The published rule: at margin zero a line with all common tips keeps only those, else nothing changes.
-    for line in 0..board.count {
-        let set = board.sets[line];
-        let has_all = set & tried.common_tips == tried.common_tips;
-        let expected = if kept.value == 0 && has_all { tried.common_tips } else { set };
-        assert_eq!(kept.board.sets[line], expected);
+    // The published rule, where every quantity is 1: common tips at margin zero, and nothing above.
+    if board.lines().all(|line| line.quantity == 1) {
+        for (line, given) in board.lines().enumerate() {
+            let has_all = given.set & tried.common_tips() == tried.common_tips();
+            let expected = if margin == 0 && has_all { tried.common_tips() } else { given.set };
+            assert_eq!(kept.board.sets[line], expected);
+        }
     }
 }
 
@@ -85,11 +132,16 @@ fn junk_plan(board: &Board) -> Vec<u8> {
     vec![JUNK_BYTE; board.count + 2]
 }
 
-/// Each line on a tip of its own, these pairs, and nothing written behind the lines.
+/// Each line on a tip of its own, these pairs of placements, and nothing written behind the lines.
 fn check_plan(board: &Board, plan: &[u8], pairs: u32) {
     let (laid, behind) = plan.split_at(board.count);
-    assert!(laid.iter().zip(&board.sets).all(|(&tip, &set)| tip < 64 && (set >> tip) & 1 == 1));
-    assert_eq!(pairs_in(laid), pairs);
+    assert!(laid.iter().zip(board.lines()).all(|(&tip, line)| tips_in(line.set).any(|own| own == usize::from(tip))));
+    let mut on_one_tip = 0;
+    let placed = board.placed(laid);
+    for (place, tip) in placed.iter().enumerate() {
+        on_one_tip += placed[..place].iter().filter(|&earlier| earlier == tip).count();
+    }
+    assert_eq!((on_one_tip, pairs_in(&placed)), (pairs as usize, pairs));
     assert!(behind.iter().all(|&byte| byte == JUNK_BYTE));
 }
 
@@ -99,6 +151,11 @@ fn check_quick(board: &Board, tried: &Tried) {
     assert_answer(&quick, board, 0, 0);
     check_plan(board, &plan, quick.value);
     assert!(2 * quick.value >= tried.most_pairs && quick.value <= tried.most_pairs);
+    assert_repeated(board, |repeated| {
+        let mut by_placement = vec![JUNK_BYTE; repeated.count];
+        assert_eq!(repeated.quick(&mut by_placement).value, quick.value);
+        assert_eq!(by_placement, board.placed(&plan));
+    });
 }
 
 fn check_best(board: &Board, tried: &Tried) {
@@ -106,7 +163,7 @@ fn check_best(board: &Board, tried: &Tried) {
     let mut table = vec![JUNK_PAIRS; board.rack * board.rack + 2];
     let best = board.clone().best(&mut plan, &mut table);
     let runs = all_runs(board.rack);
-    match board.lines().iter().position(|set| !runs.contains(set)) {
+    match board.lines().position(|line| !runs.contains(&line.set)) {
         Some(line) => {
             assert_answer(&best, board, 25, line);
             assert_eq!(best.value, 0);
@@ -118,6 +175,12 @@ fn check_best(board: &Board, tried: &Tried) {
             check_plan(board, &plan, best.value);
             assert_eq!(best.value, tried.most_pairs);
             check_table(board, &table);
+            assert_repeated(board, |repeated| {
+                let mut by_placement = vec![JUNK_BYTE; repeated.count];
+                let mut by_placement_table = vec![JUNK_PAIRS; table.len()];
+                assert_eq!(repeated.best(&mut by_placement, &mut by_placement_table).value, best.value);
+                assert_eq!((by_placement, &by_placement_table), (board.placed(&plan), &table));
+            });
         }
     }
 }
@@ -127,16 +190,20 @@ fn check_table(board: &Board, table: &[u32]) {
     let (stretches, behind) = table.split_at(board.rack * board.rack);
     for a in 0..board.rack {
         for b in 0..board.rack {
-            let mut within = Board { count: 0, sets: [0; 512], ..board.clone() };
-            for &set in board.lines() {
-                if (0..64).all(|tip| (set >> tip) & 1 == 0 || (a <= tip && tip <= b)) {
-                    within.sets[within.count] = set;
-                    within.count += 1;
-                }
-            }
-            let most = if a > b { 0 } else { try_every_plan(&within).most_pairs };
+            let is_within = |line: &Line| tips_in(line.set).all(|tip| a <= tip && tip <= b);
+            let within: Vec<Line> = board.lines().filter(is_within).collect();
+            let most = if a > b { 0 } else { try_every_plan(&Board::of_lines(board.rack, &within)).most_pairs };
             assert_eq!(stretches[a * board.rack + b], most);
         }
     }
     assert!(behind.iter().all(|&pairs| pairs == JUNK_PAIRS));
+}
+
+/// What is written is read back, in the first version exactly where every quantity is 1.
+fn check_files(board: &Board) {
+    let file = board.file();
+    let version = if board.lines().all(|line| line.quantity == 1) { 1 } else { 2 };
+    assert_eq!((file[3], file[4], file.len()), (0, version, 8 + (7 + usize::from(version)) * board.count));
+    assert_answer(&second::read(&file), board, 0, 0);
+    assert_answer(&second::read(&board.file_in(second::Version::Two)), board, 0, 0);
 }

@@ -2,12 +2,12 @@
 
 use second::{try_every_plan, Board};
 
-use crate::every_plan::every_board;
+use crate::every_plan::{every_board, single};
 
 /// The assignments within the bound: the plans of lines that allow every tip, tried one by one.
 fn within(variables: usize, bound: usize) -> u64 {
     let rack = variables + 1;
-    try_every_plan(&Board::of_lines(rack, &vec![(1 << rack) - 1; variables])).plans_within[bound]
+    try_every_plan(&Board::of_sets(rack, &vec![(1 << rack) - 1; variables])).plans_within(bound)
 }
 
 /// The assignments whose boards, of one tip to a line, pass the test.
@@ -15,7 +15,7 @@ fn passing(variables: usize, test: impl Fn(&Board) -> bool) -> usize {
     let rack = variables + 1;
     let single_tips: Vec<u64> = (0..rack).map(|tip| 1 << tip).collect();
     let mut count = 0;
-    every_board(rack, &single_tips, variables, &mut |board| count += usize::from(test(board)));
+    every_board(rack, &single(&single_tips), variables, &mut |board| count += usize::from(test(board)));
     count
 }
 

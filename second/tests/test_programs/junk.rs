@@ -25,9 +25,14 @@ pub fn table() -> [u32; 4100] {
     [Junk::JUNK; 4100]
 }
 
-/// Eight bytes more than the job file of 512 lines.
+/// Eight bytes more than the job file of 512 lines of quantity 1.
 pub fn file() -> [u8; 4112] {
     [Junk::JUNK; 4112]
+}
+
+/// Eight bytes more than the job file of 512 lines with quantities.
+pub fn long_file() -> [u8; 4624] {
+    [Junk::JUNK; 4624]
 }
 
 pub fn changed<T: Junk>(buffer: &[T]) -> usize {

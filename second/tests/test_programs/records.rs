@@ -1,8 +1,8 @@
 //! The lines about records that are not sound, and about boards of 512 lines over 64 tips.
 
-use second::{Answer, Board, Stage, LONGEST_FILE, MOST_LINES, MOST_TIPS};
+use second::{Answer, Board, Line, Stage, Version, MOST_LINES, MOST_TIPS};
 
-use crate::boards::{closed_board, differences, show_number, three_lines};
+use crate::boards::{closed_board, differences, ones, placed_board, show_number, three_lines, with};
 use crate::junk::{self, changed, Junk};
 
 /// A prime: a set with one tip more or less has another remainder.
@@ -73,15 +73,19 @@ fn show_best(board: &Board, room: usize, places: usize) -> String {
     )
 }
 
-fn show_write(board: &Board, room: usize) -> String {
-    let mut file = junk::file();
+/// Writes into the first `room` bytes of a buffer longer than the longest file of this version.
+fn show_write(board: &Board, version: Version, room: usize) -> String {
+    let mut file = match version {
+        Version::One => junk::file().to_vec(),
+        Version::Two => junk::long_file().to_vec(),
+    };
     let answer = board.clone().write(&mut file[..room]);
     format!(
         "write, room {room}: {}; board changed {}; bytes {}; file {}",
         show_number(&answer),
         differences(board, &answer.board),
         answer.value,
-        show_changed(&file, LONGEST_FILE)
+        show_changed(&file, version.length_of(MOST_LINES))
     )
 }
 
@@ -92,24 +96,35 @@ fn show_answer(words: &str, board: &Board, answer: Answer<()>) -> String {
 /// The seven calls, with buffers longer than any call needs.
 fn each_call(board: &Board) -> Vec<String> {
     vec![
-        show_answer("add {0}", board, board.clone().add(1)),
+        show_answer("add {0}", board, board.clone().add(1, 1)),
         show_answer("close", board, board.clone().close()),
         show_common(board),
         show_keep(board, 5),
         show_quick(board, 520),
         show_best(board, 520, 4100),
-        show_write(board, 4112),
+        show_write(board, Version::One, 4112),
     ]
 }
 
 /// Both stages of a record.
-fn each_stage(words: &str, rack: usize, count: usize, sets: [u64; MOST_LINES]) -> Vec<String> {
+fn each_record(
+    words: &str,
+    rack: usize,
+    count: usize,
+    sets: [u64; MOST_LINES],
+    quantities: [u8; MOST_LINES],
+) -> Vec<String> {
     let mut printed = Vec::new();
     for (name, stage) in [("open", Stage::Open), ("closed", Stage::Closed)] {
         printed.push(format!("{words}rack {rack} lines {count}, {name}"));
-        printed.extend(each_call(&Board { rack, stage, count, sets }));
+        printed.extend(each_call(&Board { rack, stage, count, sets, quantities }));
     }
     printed
+}
+
+/// The same with each line of quantity 1.
+fn each_stage(words: &str, rack: usize, count: usize, sets: [u64; MOST_LINES]) -> Vec<String> {
+    each_record(words, rack, count, sets, ones(count))
 }
 
 /// Rack size and number of lines out of range, one of them or both; all sets are {0}.
@@ -131,13 +146,6 @@ fn out_of_range() -> Vec<String> {
 
 /// A bad line, a set left after the lines, and several faults at once: in the board of three lines, and at the ends of 512 sets {0}.
 fn wrong_sets() -> Vec<String> {
-    let with = |sets: [u64; MOST_LINES], changes: &[(usize, u64)]| {
-        let mut sets = sets;
-        for &(place, set) in changes {
-            sets[place] = set;
-        }
-        sets
-    };
     let three = three_lines().sets;
     let full = [1; MOST_LINES];
     let both = with(three, &[(1, 0), (3, 1)]);
@@ -160,24 +168,79 @@ fn wrong_sets() -> Vec<String> {
     .concat()
 }
 
-/// The pairs of so many lines on one tip.
-fn pairs_of(lines: u32) -> u32 {
-    lines * (lines - 1) / 2
+/// A line of quantity 0, a quantity left after the lines, and several faults at once, in the board of three lines.
+fn wrong_quantities() -> Vec<String> {
+    let three = three_lines().sets;
+    let both = with(ones(3), &[(1, 0), (3, 1)]);
+    let several = "line 1 of 0 and quantity 3 left, ";
+    [
+        each_record("line 0 of 0, ", 3, 3, three, with(ones(3), &[(0, 0)])),
+        each_record("line 2 of 0, ", 3, 3, three, with(ones(3), &[(2, 0)])),
+        each_record("lines 1 and 2 of 0, ", 3, 3, three, with(ones(3), &[(1, 0), (2, 0)])),
+        each_record("line 0 of 0 and line 1 empty, ", 3, 3, with(three, &[(1, 0)]), with(ones(3), &[(0, 0)])),
+        each_record("line 0 empty and line 1 of 0, ", 3, 3, with(three, &[(0, 0)]), with(ones(3), &[(1, 0)])),
+        each_record("quantity 3 left, ", 3, 3, three, with(ones(3), &[(3, 1)])),
+        each_record("quantity 511 left, ", 3, 3, three, with(ones(3), &[(511, 255)])),
+        each_record("quantity 3 and set 4 left, ", 3, 3, with(three, &[(4, 1)]), with(ones(3), &[(3, 1)])),
+        each_record("set 3 and quantity 4 left, ", 3, 3, with(three, &[(3, 1)]), with(ones(3), &[(4, 1)])),
+        each_record(several, 3, 3, three, both),
+        each_record(several, 0, 3, three, both),
+        each_record(several, 3, 513, three, both),
+    ]
+    .concat()
 }
 
-/// The calls on the board of 512 lines, with keep for each bound; the pairs of its plans are known by a formula.
-fn show_calls(words: &str, set_of: impl Fn(usize) -> u64, bounds: [u16; 3], pairs: u32) -> Vec<String> {
-    let lines: Vec<u64> = (0..MOST_LINES).map(set_of).collect();
-    let board = closed_board(MOST_TIPS, &lines);
+/// More than 2,048 placements in lines {0}: the place is the line with which they pass, or an earlier fault.
+fn wrong_totals() -> Vec<String> {
+    let full = [1; MOST_LINES];
+    let eight = closed_board(3, &[1; 8]).sets;
+    let most = [255; MOST_LINES];
+    [
+        each_record("2049 placements, ", 3, 512, full, with([4; MOST_LINES], &[(511, 5)])),
+        each_record("each line of 255, ", 3, 512, full, most),
+        each_record("each line of 255, line 3 of 0, ", 3, 512, full, with(most, &[(3, 0)])),
+        each_record("each line of 255, line 9 of 0, ", 3, 512, full, with(most, &[(9, 0)])),
+        each_record("quantities 8 to 511 left, ", 3, 8, eight, most),
+    ]
+    .concat()
+}
+
+/// The pairs of so many placements on one tip.
+fn pairs_of(placements: u32) -> u32 {
+    placements * (placements - 1) / 2
+}
+
+/// The closed board of 512 lines over 64 tips; the pairs of its quick plan are known by a formula.
+fn large_board(set_of: impl Fn(usize) -> u64, quantity_of: impl Fn(usize) -> u8, pairs: u32) -> Board {
+    let line_of = |line| Line { set: set_of(line), quantity: quantity_of(line) };
+    let lines: Vec<Line> = (0..MOST_LINES).map(line_of).collect();
+    let board = placed_board(MOST_TIPS, &lines);
     assert_eq!((board.count, board.is_sound()), (MOST_LINES, true));
     assert_eq!(board.clone().quick(&mut junk::plan()).value, pairs);
+    board
+}
+
+/// The calls on the board of 512 lines of quantity 1, with keep for each bound.
+fn show_calls(words: &str, set_of: impl Fn(usize) -> u64, bounds: [u16; 3], pairs: u32) -> Vec<String> {
+    let board = large_board(set_of, |_| 1, pairs);
     let mut printed = vec![words.to_string(), show_common(&board)];
     printed.extend(bounds.map(|k| show_keep(&board, k)));
     printed.extend([511, 512, 520].map(|room| show_quick(&board, room)));
     let rooms = [(511, 4096), (512, 4095), (512, 4096), (520, 4100)];
     printed.extend(rooms.map(|(room, places)| show_best(&board, room, places)));
-    printed.extend([4103, 4104, 4112].map(|room| show_write(&board, room)));
+    printed.extend([4103, 4104, 4112].map(|room| show_write(&board, Version::One, room)));
     printed.push(show_answer("read back", &board, second::read(&board.file())));
+    printed
+}
+
+/// The calls on the board of 512 lines with quantities, with keep for each bound.
+fn show_placed(words: &str, board: &Board, bounds: [u16; 3]) -> Vec<String> {
+    let mut printed = vec![words.to_string(), show_common(board)];
+    printed.extend(bounds.map(|k| show_keep(board, k)));
+    printed.push(show_quick(board, 512));
+    printed.push(show_best(board, 512, 4096));
+    printed.extend([4615, 4616, 4624].map(|room| show_write(board, Version::Two, room)));
+    printed.push(show_answer("read back", board, second::read(&board.file())));
     printed
 }
 
@@ -201,6 +264,31 @@ fn large_boards() -> Vec<String> {
     .concat()
 }
 
+/// The same sets, with four placements a line or with one to seven.
+fn large_placed_boards() -> Vec<String> {
+    let upwards_by_line = |line: usize| upwards(line % 64);
+    let last_no_run = |line| if line == 511 { 1 | 1 << 63 } else { upwards_by_line(line) };
+    let four = |_| 4;
+    let up_to_seven = |line| 1 + (line % 7) as u8;
+    // Of eight lines with i mod 64 equal, seven have one to seven placements, and the last as many as the first.
+    let one_tip = (0..64).map(|tip| pairs_of(29 + tip % 7)).sum();
+    let two_tips = 4 * pairs_of(4 * 18) + 27 * pairs_of(4 * 16) + pairs_of(4 * 8);
+    let all_tips = large_board(|_| u64::MAX, four, pairs_of(2048));
+    let one_tip = large_board(|line| 1 << (line % 64), up_to_seven, one_tip);
+    let two_tips = large_board(|line| 0b11 << (line % 63), four, two_tips);
+    let upwards = large_board(upwards_by_line, up_to_seven, pairs_of(2045));
+    let last_no_run = large_board(last_no_run, four, pairs_of(2048));
+    [
+        show_placed("each line {0..63}, 4 of it", &all_tips, [0, 1, 65_535]),
+        show_placed("line i {i mod 64}, 1 + i mod 7 of it", &one_tip, [2009, 2010, 2016]),
+        show_placed("line i {i mod 63, i mod 63 + 1}, 4 of it", &two_tips, [1975, 1976, 1979]),
+        show_placed("line i {i mod 64..63}, 1 + i mod 7 of it", &upwards, [0, 3, 6]),
+        show_placed("line i {i mod 64..63}, line 511 {0, 63}, 4 of it", &last_no_run, [0, 3, 4]),
+    ]
+    .concat()
+}
+
 pub fn lines() -> Vec<String> {
-    [out_of_range(), wrong_sets(), large_boards()].concat()
+    let by_lines = [out_of_range(), wrong_sets(), large_boards()].concat();
+    [by_lines, wrong_quantities(), wrong_totals(), large_placed_boards()].concat()
 }

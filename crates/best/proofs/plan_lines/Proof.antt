@@ -1,40 +1,52 @@
-use Prim.Native.Nat.{_-_}
-use mathlib.Core.Path.{_≡_, ap, sym, _∙_}
+use Prim.Native.Nat.{ℕ, _-_}
+use mathlib.Core.Path.{_≡_, ap, _∙_}
+use mathlib.Core.List.{List}
 use native.Mathlib.Omega.{arith}
 use lib.ListN.{length, getD}
 use Rattle.model.specs.Interval.{table as tableOf}
 use Rattle.model.proofs.Table.{length-table, table-last}
-use Rattle.model.proofs.Unbroken.{unbroken-plan}
+use Rattle.placements.specs.Repeated.{repeated}
+use Rattle.table.specs.Cells.{Runs}
+use Rattle.layout.specs.Picks.{Ready}
 use Rattle.best.proofs.Ranges.{wider, first-row}
+use Rattle.best.proofs.Placed.{placed-runs, plan-placed}
 use borrow.Author.Needs.{needs}
 use Rattle.best.proofs.plan_lines.Statement.{statement}
 use Rattle.best.proofs.plan_lines.Tie as tie
 
--- the lines planned, from the end; and from each place the one before: the table filled, the lines summed, the call's start
-abbrev planned : tie.After-slice-known5 → tie.After-plan-lines
-planned c = c .before .before .before
+-- the table filled, from the end; and the call's start from there
+abbrev filled : tie.After-slice-known5 → tie.After-fill-table
+filled c = c .before .before .before .before .before .before .before .before .before
 
-abbrev filled : tie.After-plan-lines-arg2 → tie.After-fill-table
-filled c = c .before .before .before .before .before
+abbrev start : tie.After-fill-table → tie.Start
+start c = c .before .before .before .before .before .before .before .before .before .before
 
-abbrev summed : tie.After-fill-table → tie.After-sum-spans
-summed c = c .before .before .before .before
+-- the placements of the lines
+abbrev placed : tie.Start → List ℕ
+placed c = repeated (c .args .quantities .now) (c .args .sets .now)
 
-abbrev start : tie.After-sum-spans → tie.Start
-start c = c .before .before .before .before .before
+runs : (c : tie.Start) → Runs (c .args .m) (placed c)
+runs c = placed-runs (c .pre .0) (c .pre .1)
 
--- the sums are those of the lines, and so is the table
-table-is : (c : tie.After-fill-table) → let a = start (summed c) .args in c .fill-table .last .1 .1 .0 ≡ tableOf (a .m) (a .lines .now)
+-- the sums are those of the placements, and so is the table
+table-is : (c : tie.After-fill-table) → c .fill-table .last .1 .1 .0 ≡ tableOf (start c .args .m) (placed (start c))
 table-is c =
-    let s = start (summed c) in
-    c .fill-table .ensures (s .args .lines .now) (record { runs = s .pre .0; summed = summed c .sum-spans .ensures })
+    let summed = c .before .before .before .before .sum-spans .ensures in
+    c .fill-table .ensures (placed (start c)) (record { runs = runs (start c); summed = summed })
+
+ready : (c : tie.After-fill-table)
+    → Ready (start c .args .m) (placed (start c)) (c .before .before .before .before .sum-spans .last .1 .1 .0) (c .fill-table .last .1 .1 .0)
+ready c =
+    let r = runs (start c) in
+    let summed = c .before .before .before .before .sum-spans .ensures in
+    record { good = r .good; runs = r .runs; summed = summed; filled = table-is c }
 
 slice-aggregate-sum-spans : tie.Need-slice-aggregate-sum-spans
 slice-aggregate-sum-spans c = search needs
 
 sum-spans-requires : tie.Need-sum-spans-requires
 sum-spans-requires c κs =
-    record { size = search needs; good = wider (c .before .before .before .before .pre .0 .good) }
+    record { size = search needs; good = wider (c .before .before .before .before .before .pre .0) }
 
 slice-aggregate-fill-table : tie.Need-slice-aggregate-fill-table
 slice-aggregate-fill-table c = search needs
@@ -42,18 +54,17 @@ slice-aggregate-fill-table c = search needs
 fill-table-requires : tie.Need-fill-table-requires
 fill-table-requires c κs =
     let b = c .before .before .before in
-    let s = start b in
-    ((s .args .lines .now, record { runs = s .pre .0; summed = b .sum-spans .ensures }), s .pre .2)
+    let s = b .before .before .before .before .before .before in
+    ((placed s, record { runs = runs s; summed = b .sum-spans .ensures }), s .pre .3)
 
 slice-aggregate-plan-lines : tie.Need-slice-aggregate-plan-lines
 slice-aggregate-plan-lines c = search needs
 
 plan-lines-requires : tie.Need-plan-lines-requires
 plan-lines-requires c κs =
-    let f = filled c in
-    let s = start (summed f) in
-    let r = s .pre .0 in
-    (record { good = r .good; runs = r .runs; summed = summed f .sum-spans .ensures; filled = table-is f }, s .pre .1)
+    let f = c .before .before .before .before .before in
+    let p = start f .pre in
+    ((placed (start f), ready f), p .0 .domains, p .1, p .2)
 
 sub-result : tie.Need-sub-result
 sub-result c = search needs
@@ -63,11 +74,9 @@ mul-result c = search needs
 
 slice-read-result : tie.Need-slice-read-result
 slice-read-result c =
-    let f = filled (planned c .before) in
-    let s = start (summed f) in
-    let a = s .args in
-    let g = s .pre .0 .good in
-    omega (arith, ap length (table-is f), length-table (a .m) (a .lines .now), first-row (a .m) (g .some))
+    let f = filled c in
+    let m = start f .args .m in
+    omega (arith, ap length (table-is f), length-table m (placed (start f)), first-row m (start f .pre .0 .some))
 
 same-length : tie.Need-same-length
 same-length c = search needs
@@ -77,13 +86,12 @@ same-length-2 c = search needs
 
 returns : tie.Need-returns
 returns c =
-    let f = filled (planned c .before) in
-    let s = start (summed f) in
-    let a = s .args in
-    let r = s .pre .0 in
-    let plan = planned c .plan-lines .ensures in (
-      ap (λ t. getD t (a .m - 1) 0) (table-is f) ∙ table-last (a .m) (a .lines .now) (r .good .some),
-      (plan ∙ sym (unbroken-plan (r .good .most) (r .good .domains) (r .runs)), table-is f),
+    let f = filled c in
+    let m = start f .args .m in
+    let p = start f .pre in
+    let plan = c .before .before .before .plan-lines .ensures (placed (start f)) (ready f) in (
+      ap (λ t. getD t (m - 1) 0) (table-is f) ∙ table-last m (placed (start f)) (p .0 .some),
+      (plan ∙ plan-placed (p .0) (p .1), table-is f),
     )
 
 pub plan-lines-spec : {M : Type 1} → statement M

@@ -1,6 +1,7 @@
 use mathlib.Core.Path.{refl, _∙_}
 use native.Mathlib.Omega.{arith}
 use Rattle.refusal.proofs.Laws.{or-first, or-next}
+use Rattle.job.proofs.Lines.{file-few}
 use Rattle.call_refusals.specs.Calls.{writeRefusal}
 use borrow.Author.Needs.{needs}
 use Rattle.call_refusals.proofs.write_refusal.Statement.{statement}
@@ -11,7 +12,9 @@ unfolding writeRefusal
 returns c = or-first refl _ (c .if1 .taken)
 
 file-length-requires : tie.Need-file-length-requires
-file-length-requires c κs = omega (arith, c .before .before .pre (c .if1 .left))
+file-length-requires c κs =
+    let s = c .before .before in
+    omega (arith, file-few (s .args .version) (s .args .count) (s .pre (c .if1 .left)))
 
 refuse-when-requires : tie.Need-refuse-when-requires
 refuse-when-requires c κs = search needs

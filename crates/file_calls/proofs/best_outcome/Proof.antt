@@ -6,14 +6,23 @@ use Rattle.file_calls.proofs.best_outcome.Tie as tie
 no-sets-requires : tie.Need-no-sets-requires
 no-sets-requires c κs = search needs
 
+no-quantities-requires : tie.Need-no-quantities-requires
+no-quantities-requires c κs = search needs
+
 slice-aggregate-read-lines : tie.Need-slice-aggregate-read-lines
 slice-aggregate-read-lines c = search needs
+
+slice-aggregate-read-lines-2 : tie.Need-slice-aggregate-read-lines-2
+slice-aggregate-read-lines-2 c = search needs
 
 read-lines-requires : tie.Need-read-lines-requires
 read-lines-requires c κs = search needs
 
 slice-aggregate-best : tie.Need-slice-aggregate-best
 slice-aggregate-best c = search needs
+
+slice-aggregate-best-2 : tie.Need-slice-aggregate-best-2
+slice-aggregate-best-2 c = search needs
 
 best-requires : tie.Need-best-requires
 best-requires c κs = search needs
@@ -30,7 +39,7 @@ same-length-2 c = search needs
 returns : tie.Need-returns
 returns c =
     let laid = c .before .before .before .before .before in
-    let (e, (lines, _)) = laid .before .before .before .before .before .read-lines .ensures in
+    let (e, (lines, _)) = laid .before .before .before .before .before .before .before .read-lines .ensures in
     let (answer, (plan, (table, rule))) = laid .best .ensures in
     rw (c .plan-outcome .ensures) (best-in _ e (λ z. same-lines (lines z)) _ _ answer plan table rule)
 
@@ -39,9 +48,12 @@ best-outcome-spec =
     tie.close
     (tie.spec
     no-sets-requires
+    no-quantities-requires
     slice-aggregate-read-lines
+    slice-aggregate-read-lines-2
     read-lines-requires
     slice-aggregate-best
+    slice-aggregate-best-2
     best-requires
     plan-outcome-requires
     same-length

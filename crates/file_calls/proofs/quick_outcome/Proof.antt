@@ -6,14 +6,23 @@ use Rattle.file_calls.proofs.quick_outcome.Tie as tie
 no-sets-requires : tie.Need-no-sets-requires
 no-sets-requires c κs = search needs
 
+no-quantities-requires : tie.Need-no-quantities-requires
+no-quantities-requires c κs = search needs
+
 slice-aggregate-read-lines : tie.Need-slice-aggregate-read-lines
 slice-aggregate-read-lines c = search needs
+
+slice-aggregate-read-lines-2 : tie.Need-slice-aggregate-read-lines-2
+slice-aggregate-read-lines-2 c = search needs
 
 read-lines-requires : tie.Need-read-lines-requires
 read-lines-requires c κs = search needs
 
 slice-aggregate-quick : tie.Need-slice-aggregate-quick
 slice-aggregate-quick c = search needs
+
+slice-aggregate-quick-2 : tie.Need-slice-aggregate-quick-2
+slice-aggregate-quick-2 c = search needs
 
 quick-requires : tie.Need-quick-requires
 quick-requires c κs = search needs
@@ -27,7 +36,7 @@ same-length c = search needs
 returns : tie.Need-returns
 returns c =
     let laid = c .before .before .before .before in
-    let (e, (lines, _)) = laid .before .before .before .before .read-lines .ensures in
+    let (e, (lines, _)) = laid .before .before .before .before .before .before .read-lines .ensures in
     let (answer, (plan, rule)) = laid .quick .ensures in
     rw (c .plan-outcome .ensures) (quick-in _ e (λ z. same-lines (lines z)) _ answer plan rule)
 
@@ -36,9 +45,12 @@ quick-outcome-spec =
     tie.close
     (tie.spec
     no-sets-requires
+    no-quantities-requires
     slice-aggregate-read-lines
+    slice-aggregate-read-lines-2
     read-lines-requires
     slice-aggregate-quick
+    slice-aggregate-quick-2
     quick-requires
     plan-outcome-requires
     same-length

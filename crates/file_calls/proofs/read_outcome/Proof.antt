@@ -26,10 +26,10 @@ good : (d : tie.Else1) → GoodHeader (begun d .args .file .now)
 good d = header-good _ (read-header _ (number-of (d .before .before .read-refusal .ensures) (d .if1 .left)))
 
 rack-in-requires : tie.Need-rack-in-requires
-rack-in-requires c κs = good c .long
+rack-in-requires c κs = good c .start .long
 
 count-in-requires : tie.Need-count-in-requires
-count-in-requires c κs = good (c .before) .long
+count-in-requires c κs = good (c .before) .start .long
 
 returns-2 : tie.Need-returns-2
 unfolding readIn

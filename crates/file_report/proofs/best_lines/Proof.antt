@@ -4,7 +4,7 @@ use Rattle.file_report.proofs.best_lines.Statement.{statement}
 use Rattle.file_report.proofs.best_lines.Tie as tie
 
 abbrev begun : tie.After-table → tie.Start
-begun c = c .before .before .before .before .before .before
+begun c = c .before .before .before .before .before .before .before
 
 table-buffer-requires : tie.Need-table-buffer-requires
 table-buffer-requires c κs = search needs
@@ -27,7 +27,7 @@ returns c =
     let asked = laid .before .before .before in
     let (good, size) = begun (laid .before) .pre in
     let (answer, (plan, _)) = laid .best .ensures in
-    best-is _ _ (asked .refuse .ensures) _ size (good .most) (asked .before .table-buffer .ensures) answer plan
+    best-is good (asked .refuse .ensures) _ size (asked .before .table-buffer .ensures) answer plan
 
 pub best-lines-spec : {M : Type 1} → statement M
 best-lines-spec =

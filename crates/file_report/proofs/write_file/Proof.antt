@@ -3,7 +3,9 @@ use mathlib.Core.Path.{_≡_, sym, _∙_}
 use native.Mathlib.Omega.{arith}
 use lib.ListN.{length, take}
 use lib.Seq.{length-take-le}
-use Rattle.model.specs.Limits.{mostLines, GoodLines}
+use Rattle.model.specs.Limits.{mostLines}
+use Rattle.placements.specs.Good.{GoodLines}
+use Rattle.refusal.specs.Refusal.{Given}
 use Rattle.file_report.proofs.Texts.{text-refused, text-accepted}
 use borrow.Author.Needs.{needs}
 use Rattle.file_report.proofs.write_file.Statement.{statement}
@@ -12,8 +14,14 @@ use Rattle.file_report.proofs.write_file.Tie as tie
 no-sets-requires : tie.Need-no-sets-requires
 no-sets-requires c κs = search needs
 
+no-quantities-requires : tie.Need-no-quantities-requires
+no-quantities-requires c κs = search needs
+
 slice-aggregate-read-lines : tie.Need-slice-aggregate-read-lines
 slice-aggregate-read-lines c = search needs
+
+slice-aggregate-read-lines-2 : tie.Need-slice-aggregate-read-lines-2
+slice-aggregate-read-lines-2 c = search needs
 
 read-lines-requires : tie.Need-read-lines-requires
 read-lines-requires c κs = search needs
@@ -28,7 +36,7 @@ returns : tie.Need-returns
 returns c =
     let written = c .before .before in
     let refused = written .before .before in
-    let read = refused .before .before .before .before in
+    let read = refused .before .before .before .before .before in
     rw (text-refused _ (read .read-lines .ensures .0) (refused .if1 .taken)) (written .write-refused .ensures)
 
 plan-buffer-requires : tie.Need-plan-buffer-requires
@@ -37,19 +45,25 @@ plan-buffer-requires c κs = search needs
 plan-buffer-requires-2 : tie.Need-plan-buffer-requires-2
 plan-buffer-requires-2 c κs = search needs
 
--- nothing is refused: the sets hold good lines
+-- nothing is refused: the sets and the quantities hold good lines
 abbrev read : tie.Else1 → tie.After-read-lines
-read d = d .before .before .before .before
+read d = d .before .before .before .before .before
 
-good : (d : tie.Else1) → let r = read d .read-lines in GoodLines (r .result .rack) (take (r .result .count) (r .last .1 .0))
-good d = let (_, (_, (_, given))) = read d .read-lines .ensures in given .good (d .if1 .left)
+given : (d : tie.Else1)
+    → let r = read d .read-lines in
+    Given (r .result .refusal) (r .result .rack) (r .result .count) (r .last .1 .1 .0) (r .last .1 .0)
+given d = let (_, (_, (_, g))) = read d .read-lines .ensures in g
+
+good : (d : tie.Else1) → let r = read d .read-lines in
+    GoodLines (r .result .rack) (take (r .result .count) (r .last .1 .1 .0)) (take (r .result .count) (r .last .1 .0))
+good d = given d .good (d .if1 .left)
 
 -- each of them is in the sets, and has a byte in a plan
 size : (d : tie.Else1) → let r = read d .read-lines in length (take (r .result .count) (r .last .1 .0)) ≡ r .result .count
-size d = let (_, (_, (_, given))) = read d .read-lines .ensures in length-take-le _ _ (given .room (d .if1 .left))
+size d = length-take-le _ _ (given d .room (d .if1 .left))
 
 few : (d : tie.Else1) → read d .read-lines .result .count ≤ mostLines
-few d = omega (arith, size d, good d .few)
+few d = omega (arith, size d, good d .few-lines)
 
 quick-bytes : (c : tie.After-plan-buffer) → read (c .before) .read-lines .result .count ≤ length (c .plan-buffer .result)
 quick-bytes c = omega (arith, few (c .before), c .plan-buffer .ensures)
@@ -58,31 +72,36 @@ best-bytes : (c : tie.After-plan-buffer2) → read (c .before .before) .read-lin
 best-bytes c = omega (arith, few (c .before .before), c .plan-buffer2 .ensures)
 
 array-borrow-prefix-sets : tie.Need-array-borrow-prefix-sets
-array-borrow-prefix-sets c =
-    let d = c .before .before in
-    let (_, (_, (_, given))) = read d .read-lines .ensures in
-    given .room (d .if1 .left)
+array-borrow-prefix-sets c = let d = c .before .before in given d .room (d .if1 .left)
 
 slice-aggregate-write-lines : tie.Need-slice-aggregate-write-lines
 slice-aggregate-write-lines c = sym (size (c .before .before .before))
 
-array-borrow-prefix-quick : tie.Need-array-borrow-prefix-quick
-array-borrow-prefix-quick c = quick-bytes (c .before .before)
+array-share-prefix-quantities : tie.Need-array-share-prefix-quantities
+array-share-prefix-quantities c = let d = c .before .before .before in given d .quantity-room (d .if1 .left)
 
 slice-aggregate-write-lines-2 : tie.Need-slice-aggregate-write-lines-2
-slice-aggregate-write-lines-2 c = sym (length-take-le _ _ (quick-bytes (c .before .before .before)))
+slice-aggregate-write-lines-2 c =
+    let d = c .before .before .before .before in
+    sym (length-take-le _ _ (given d .quantity-room (d .if1 .left)))
 
-array-borrow-prefix-best : tie.Need-array-borrow-prefix-best
-array-borrow-prefix-best c = best-bytes (c .before .before)
+array-borrow-prefix-quick : tie.Need-array-borrow-prefix-quick
+array-borrow-prefix-quick c = quick-bytes (c .before .before .before)
 
 slice-aggregate-write-lines-3 : tie.Need-slice-aggregate-write-lines-3
-slice-aggregate-write-lines-3 c = sym (length-take-le _ _ (best-bytes (c .before .before .before)))
+slice-aggregate-write-lines-3 c = sym (length-take-le _ _ (quick-bytes (c .before .before .before .before)))
+
+array-borrow-prefix-best : tie.Need-array-borrow-prefix-best
+array-borrow-prefix-best c = best-bytes (c .before .before .before)
+
+slice-aggregate-write-lines-4 : tie.Need-slice-aggregate-write-lines-4
+slice-aggregate-write-lines-4 c = sym (length-take-le _ _ (best-bytes (c .before .before .before .before)))
 
 write-lines-requires : tie.Need-write-lines-requires
 write-lines-requires c κs =
-    let laid = c .before .before .before .before in
+    let laid = c .before .before .before .before .before in
     let d = laid .before .before in
-    let s = read d .before .before .before .before .before in
+    let s = read d .before .before .before .before .before .before .before in
     let quick = length-take-le _ _ (quick-bytes (laid .before)) in
     let best = length-take-le _ _ (best-bytes laid) in
     ((good d, s .pre), (quick ∙ sym (size d), best ∙ sym (size d)))
@@ -93,7 +112,7 @@ same-length-2 c = search needs
 returns-2 : tie.Need-returns-2
 returns-2 c =
     let written = c .before .before .before .before .before in
-    let d = written .before .before .before .before .before .before .before in
+    let d = written .before .before .before .before .before .before .before .before in
     let (e, (lines, _)) = read d .read-lines .ensures in
     rw (text-accepted _ e (d .if1 .left) (lines (d .if1 .left))) (written .write-lines .ensures)
 
@@ -102,7 +121,9 @@ write-file-spec =
     tie.close
     (tie.spec
     no-sets-requires
+    no-quantities-requires
     slice-aggregate-read-lines
+    slice-aggregate-read-lines-2
     read-lines-requires
     write-refused-requires
     same-length
@@ -111,10 +132,12 @@ write-file-spec =
     plan-buffer-requires-2
     array-borrow-prefix-sets
     slice-aggregate-write-lines
-    array-borrow-prefix-quick
+    array-share-prefix-quantities
     slice-aggregate-write-lines-2
-    array-borrow-prefix-best
+    array-borrow-prefix-quick
     slice-aggregate-write-lines-3
+    array-borrow-prefix-best
+    slice-aggregate-write-lines-4
     write-lines-requires
     same-length-2
     returns-2)

@@ -7,7 +7,7 @@ use Rattle.file_report.proofs.write_lines.Tie as tie
 
 -- the start, before common tip; best sharing, before quick sharing; quick sharing, before the text
 abbrev begun : tie.After-refuse → tie.Start
-begun c = c .before .before .before .before .before
+begun c = c .before .before .before .before .before .before
 
 abbrev common : tie.After-best-lines → tie.After-common
 common c = c .before .before .before
@@ -38,10 +38,10 @@ write-report-requires c κs =
     let laid = quick c in
     let shared = best (laid .before .before .before) in
     let ((good, room), (quick-size, best-size)) = begun (common shared .before .before) .pre in
-    let size = laid .quick .kept .1 .1 .1 .1 .0 ∙ quick-size in
+    let size = laid .quick .kept .1 .1 .1 .1 .1 .0 ∙ quick-size in
     record {
-      same-lines = shared .best-lines .kept .1 .1 .0 ∙ best-size ∙ sym size;
-      few-lines = omega (arith, size, good .few);
+      same-lines = shared .best-lines .kept .1 .1 .1 .0 ∙ best-size ∙ sym size;
+      few-lines = omega (arith, size, good .few-lines);
       room = room;
     }
 
@@ -68,9 +68,10 @@ returns c =
     let s = begun asked in
     let (quick-answer, (plan, _)) = laid .quick .ensures in
     let (runs, facts) = shared .best-lines .ensures in
-    let off = common-is (s .args .rack) (s .args .lines .now) (asked .refuse .ensures) (busiest .common .ensures .0) in
-    let pairs = quick-is (s .args .rack) (s .args .lines .now) (free .refuse2 .ensures) _ (s .pre .1 .0) quick-answer plan in
-    rw (← (same-report (s .args .rack) (s .args .lines .now) off pairs runs facts)) (written .write-report .ensures)
+    let good = s .pre .0 .0 in
+    let off = common-is good (asked .refuse .ensures) (busiest .common .ensures .0) in
+    let pairs = quick-is good (free .refuse2 .ensures) _ (s .pre .1 .0) quick-answer plan in
+    rw (← (same-report (s .args .rack) (s .args .quantities .now) (s .args .lines .now) off pairs runs facts)) (written .write-report .ensures)
 
 pub write-lines-spec : {M : Type 1} → statement M
 write-lines-spec =

@@ -3,22 +3,21 @@ use native.Mathlib.Omega.{arith}
 use lib.ListN.{length}
 use Rattle.head.specs.OnHead.{onHead, chosen as chosenOf}
 use borrow.Author.Needs.{needs}
-use Rattle.greedy.proofs.Unplanned.{unplanned}
-use Rattle.greedy.proofs.Round.{Ongoing, Begun, Chosen, start, few-lines, tip-takeable, end-left, end-plan, end-pairs}
+use Rattle.greedy.proofs.Round.{toPlan, Ongoing, Begun, Chosen, start, few-placements, tip-takeable, end-left, end-plan, end-pairs}
 use Rattle.greedy.proofs.Round.{pairs-fit, next, next-fewer}
 use Rattle.greedy.proofs.take_rounds.Statement.{statement}
 use Rattle.greedy.proofs.take_rounds.Tie as tie
 
 abbrev Inv-loop : tie.InvT-loop
-Inv-loop rack mounted unions₀ blocks₀ places₀ left₀ plan₀ counts₀ shared₀ unions blocks places left plan counts shared =
-    Ongoing (onHead mounted) rack shared left₀ left plan counts unions₀ unions blocks₀ blocks places₀ places
+Inv-loop rack mounted unions₀ blocks₀ places₀ qs left₀ plan₀ counts₀ shared₀ unions blocks places left plan counts shared =
+    Ongoing (onHead mounted) rack shared qs left₀ left plan counts unions₀ unions blocks₀ blocks places₀ places
 
 abbrev μ-loop : tie.MeasureT-loop
-μ-loop rack mounted unions₀ blocks₀ places₀ left₀ plan₀ counts₀ shared₀ unions blocks places left plan counts shared = length (unplanned left)
+μ-loop rack mounted unions₀ blocks₀ places₀ qs left₀ plan₀ counts₀ shared₀ unions blocks places left plan counts shared = length (toPlan qs left)
 
 -- the places that the answers speak of: the call, a round's busiest tips, its choice, its pairs, and the round done
 abbrev begins : tie.After-slice-known6 Inv-loop μ-loop → tie.Start Inv-loop μ-loop
-begins c = c .before .before .before .before .before .before
+begins c = c .before .before .before .before .before .before .before
 
 abbrev called : tie.At-loop Inv-loop μ-loop → tie.Start Inv-loop μ-loop
 called c = begins (c .before)
@@ -38,7 +37,8 @@ done c = c .before .before .before .before .before .before .before .before .befo
 begun : (c : tie.After-busiest-tips Inv-loop μ-loop)
     → let s = called (looped c) .args in
     let l = looped c .loop in
-    Begun (onHead (s .mounted)) (s .rack) (s .left .now) (l .left) (l .plan) (l .counts) (l .shared) (c .busiest-tips .result .top)
+    let top = c .busiest-tips .result .top in
+    Begun (onHead (s .mounted)) (s .rack) (s .quantities .now) (s .left .now) (l .left) (l .plan) (l .counts) (l .shared) top
 begun c =
     let l = looped c in
     record { state = l .loop .inv .state; good = called l .pre .shareable .good; is-most = c .busiest-tips .ensures .0 }
@@ -48,7 +48,7 @@ chosen : (c : tie.After-choose Inv-loop μ-loop)
     let s = called (looped b) .args in
     let l = looped b .loop in
     let top = b .busiest-tips .result .top in
-    Chosen (onHead (s .mounted)) (s .rack) (s .left .now) (l .left) (l .plan) (l .counts) (l .shared) top (c .choose .result)
+    Chosen (onHead (s .mounted)) (s .rack) (s .quantities .now) (s .left .now) (l .left) (l .plan) (l .counts) (l .shared) top (c .choose .result)
 chosen c =
     let b = counted c in
     let mounted = onHead (called (looped b) .args .mounted) in
@@ -59,7 +59,7 @@ loop-holds c =
     let p = begins c .pre in
     let s = p .shareable in
     record {
-      state = start (s .good .domains) (s .size) (p .counts-are);
+      state = start _ (s .good .domains) (s .size) (p .counts-are);
       covers = p .covers;
       unions-size = refl;
       blocks-size = refl;
@@ -104,7 +104,7 @@ choose-requires : tie.Need-choose-requires Inv-loop μ-loop
 choose-requires c κs = search needs
 
 pairs-among-requires : tie.Need-pairs-among-requires Inv-loop μ-loop
-pairs-among-requires c κs = few-lines (begun (counted c))
+pairs-among-requires c κs = few-placements (begun (counted c))
 
 add-shared : tie.Need-add-shared Inv-loop μ-loop
 add-shared c = record { fits = omega (arith, pairs-fit (chosen (c .before)) (c .pairs-among .ensures)) }

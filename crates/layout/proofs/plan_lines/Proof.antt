@@ -5,6 +5,10 @@ use borrow.Author.Needs.{needs}
 use Rattle.layout.proofs.plan_lines.Statement.{statement}
 use Rattle.layout.proofs.plan_lines.Tie as tie
 
+-- the call's start, from the owners laid
+abbrev start : tie.After-lay-interval → tie.Start
+start c = c .before .before .before .before .before .before .before
+
 no-owners-requires : tie.Need-no-owners-requires
 no-owners-requires c κs = search needs
 
@@ -18,7 +22,9 @@ slice-aggregate-plan-owners : tie.Need-slice-aggregate-plan-owners
 slice-aggregate-plan-owners c = search needs
 
 plan-owners-requires : tie.Need-plan-owners-requires
-plan-owners-requires c κs = search needs
+plan-owners-requires c κs =
+    let p = start (c .before .before .before) .pre in
+    (p .0 .1 .good .most, p .1, search needs, p .3)
 
 same-length : tie.Need-same-length
 same-length c = search needs
@@ -27,8 +33,10 @@ returns : tie.Need-returns
 returns c =
     let laid = c .before .before .before .before .before .before in
     let none = laid .before .before in
-    let s = none .before .before .before .before .before in
-    let planned = plan-laid (onHead (s .args .mounted)) (s .pre .0) (none .no-owners .result) (none .no-owners .ensures) in
+    let s = start laid in
+    let p = s .pre in
+    λ lines r.
+    let planned = plan-laid (onHead (s .args .mounted)) r (none .no-owners .result) (none .no-owners .ensures) (p .1) (p .2) in
     c .before .before .plan-owners .ensures ∙ rw (laid .lay-interval .ensures) planned
 
 pub plan-lines-spec : {M : Type 1} → statement M

@@ -3,22 +3,22 @@ use mathlib.Core.Path.{_≡_, sym, _∙_}
 use native.Mathlib.Omega.{arith}
 use lib.ListN.{length, take}
 use lib.Seq.{length-take-le}
-use Rattle.table.specs.Cells.{Runs}
+use Rattle.placements.specs.Good.{GoodLines}
 use Rattle.refusal.proofs.Laws.{number-of}
 use Rattle.call_refusals.proofs.Calls.{Bestable, best-none, square-most}
-use Rattle.line_calls.proofs.Plans.{best-runs, best-refused, best-accepted}
+use Rattle.line_calls.proofs.Plans.{best-refused, best-accepted}
 use borrow.Author.Needs.{needs}
 use Rattle.line_calls.proofs.best.Statement.{statement}
 use Rattle.line_calls.proofs.best.Tie as tie
 
 best-refusal-requires : tie.Need-best-refusal-requires
-best-refusal-requires c κs = let s = c .before .before .before in λ z. (s .pre .good z .most, s .pre .room z)
+best-refusal-requires c κs = let s = c .before .before .before .before in λ z. (s .pre .good z .most, s .pre .room z)
 
 returns : tie.Need-returns
-returns c = best-refused _ _ _ _ _ (c .before .before .best-refusal .ensures) (c .if1 .taken)
+returns c = best-refused _ _ _ _ _ _ (c .before .before .best-refusal .ensures) (c .if1 .taken)
 
 abbrev begun : tie.Else1 → tie.Start
-begun d = d .before .before .before .before .before .before
+begun d = d .before .before .before .before .before .before .before
 
 -- nothing is refused: both buffers have room, and the lines are runs
 asked : (d : tie.Else1) →
@@ -26,10 +26,8 @@ asked : (d : tie.Else1) →
     Bestable (a .earlier) (a .rack) (take (a .count) (a .sets .now)) (length (a .plan .now)) (length (a .table .now))
 asked d = best-none _ _ _ _ _ (number-of (d .before .before .best-refusal .ensures) (d .if1 .left))
 
-runs : (d : tie.Else1) → let a = begun d .args in Runs (a .rack) (take (a .count) (a .sets .now))
-runs d =
-    let a = begun d .args in
-    best-runs _ _ _ (a .plan .now) (a .table .now) (d .before .before .best-refusal .ensures) (begun d .pre .good) (d .if1 .left)
+good : (d : tie.Else1) → let a = begun d .args in GoodLines (a .rack) (take (a .count) (a .quantities .now)) (take (a .count) (a .sets .now))
+good d = begun d .pre .good (asked d .free)
 
 count : (d : tie.Else1) → let a = begun d .args in a .count ≡ length (take (a .count) (a .sets .now))
 count d = sym (length-take-le _ _ (begun d .pre .room (asked d .free)))
@@ -38,27 +36,32 @@ bytes : (d : tie.Else1) → let a = begun d .args in a .count ≤ length (a .pla
 bytes d = omega (arith, count d, asked d .bytes)
 
 mul-square : tie.Need-mul-square
-mul-square c = omega (arith, square-most (runs c .good .most))
+mul-square c = omega (arith, square-most (good c .most))
 
 slice-aggregate-plan-lines : tie.Need-slice-aggregate-plan-lines
 slice-aggregate-plan-lines c = count (c .before)
 
-slice-relend-prefix-plan-lines : tie.Need-slice-relend-prefix-plan-lines
-slice-relend-prefix-plan-lines c = bytes (c .before)
-
 slice-aggregate-plan-lines-2 : tie.Need-slice-aggregate-plan-lines-2
-slice-aggregate-plan-lines-2 c = sym (length-take-le _ _ (bytes (c .before .before)))
+slice-aggregate-plan-lines-2 c =
+    let d = c .before .before in
+    sym (length-take-le _ _ (begun d .pre .quantity-room (asked d .free)))
 
-slice-relend-prefix-plan-lines-2 : tie.Need-slice-relend-prefix-plan-lines-2
-slice-relend-prefix-plan-lines-2 c = asked (c .before .before) .cells
+slice-relend-prefix-plan-lines : tie.Need-slice-relend-prefix-plan-lines
+slice-relend-prefix-plan-lines c = bytes (c .before .before)
 
 slice-aggregate-plan-lines-3 : tie.Need-slice-aggregate-plan-lines-3
-slice-aggregate-plan-lines-3 c = sym (length-take-le _ _ (asked (c .before .before .before) .cells))
+slice-aggregate-plan-lines-3 c = sym (length-take-le _ _ (bytes (c .before .before .before)))
+
+slice-relend-prefix-plan-lines-2 : tie.Need-slice-relend-prefix-plan-lines-2
+slice-relend-prefix-plan-lines-2 c = asked (c .before .before .before) .cells
+
+slice-aggregate-plan-lines-4 : tie.Need-slice-aggregate-plan-lines-4
+slice-aggregate-plan-lines-4 c = sym (length-take-le _ _ (asked (c .before .before .before .before) .cells))
 
 plan-lines-requires : tie.Need-plan-lines-requires
 plan-lines-requires c κs =
-    let d = c .before .before .before in
-    (runs d, length-take-le _ _ (bytes d) ∙ count d, length-take-le _ _ (asked d .cells))
+    let d = c .before .before .before .before in
+    (good d, asked d .runs, length-take-le _ _ (bytes d) ∙ count d, length-take-le _ _ (asked d .cells))
 
 same-length : tie.Need-same-length
 same-length c = search needs
@@ -69,9 +72,9 @@ same-length-2 c = search needs
 returns-2 : tie.Need-returns-2
 returns-2 c =
     let laid = c .before .before .before .before in
-    let d = laid .before .before .before .before in
+    let d = laid .before .before .before .before .before in
     let e = laid .plan-lines .ensures in
-    best-accepted _ _ _ _ _ (d .before .before .best-refusal .ensures) (d .if1 .left) (runs d) (count d) (e .0) (e .1 .0) (e .1 .1)
+    best-accepted _ _ _ _ _ _ (d .before .before .best-refusal .ensures) (d .if1 .left) (good d) (count d) (e .0) (e .1 .0) (e .1 .1)
 
 pub best-spec : {M : Type 1} → statement M
 best-spec =
@@ -81,10 +84,11 @@ best-spec =
     returns
     mul-square
     slice-aggregate-plan-lines
-    slice-relend-prefix-plan-lines
     slice-aggregate-plan-lines-2
-    slice-relend-prefix-plan-lines-2
+    slice-relend-prefix-plan-lines
     slice-aggregate-plan-lines-3
+    slice-relend-prefix-plan-lines-2
+    slice-aggregate-plan-lines-4
     plan-lines-requires
     same-length
     same-length-2

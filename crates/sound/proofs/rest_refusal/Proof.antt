@@ -1,13 +1,10 @@
 use borrow.Author.Needs.{needs}
-use Prim.Native.Nat.{ℕ}
 use native.Mathlib.Omega.{arith}
-use mathlib.Core.Path.{_≡_, ap, _∙_}
-use mathlib.Core.List.{List}
+use mathlib.Core.Path.{_≡_, ap₂, _∙_}
 use lib.ListN.{drop, length-drop}
-use Rattle.model.specs.Count.{firstFail}
-use Rattle.model.specs.Plan.{isEmpty}
-use Rattle.model.proofs.Fails.{fails-most}
 use Rattle.model.proofs.Loops.{part-rest}
+use Rattle.sound.specs.Sound.{firstHeld}
+use Rattle.sound.proofs.First.{held-most}
 use Rattle.sound.proofs.rest_refusal.Statement.{statement}
 use Rattle.sound.proofs.rest_refusal.Tie as tie
 
@@ -23,20 +20,33 @@ part-first-held-start c = search needs
 part-first-held-end : tie.Need-part-first-held-end
 part-first-held-end c = search needs
 
+sub-first-held-2 : tie.Need-sub-first-held-2
+sub-first-held-2 c = search needs
+
+part-first-held-start-2 : tie.Need-part-first-held-start-2
+part-first-held-start-2 c = search needs
+
+part-first-held-end-2 : tie.Need-part-first-held-end-2
+part-first-held-end-2 c = search needs
+
 first-held-requires : tie.Need-first-held-requires
 first-held-requires c κs = search needs
 
--- the sets after the lines
-abbrev restOf : tie.After-first-held → List ℕ
-restOf c = let a = c .before .before .before .args in drop (a .count) (a .sets .now)
+-- what stands after the lines
+abbrev begun : tie.After-first-held → tie.Start
+begun c = c .before .before .before .before .before
 
-held : (c : tie.After-first-held) → c .first-held .result ≡ firstFail isEmpty (restOf c)
-held c = let a = c .before .before .before .args in c .first-held .ensures ∙ ap (firstFail isEmpty) (part-rest (a .sets .now) (a .count))
+held : (c : tie.After-first-held) → let a = begun c .args in
+    c .first-held .result ≡ firstHeld (drop (a .count) (a .quantities .now)) (drop (a .count) (a .sets .now))
+held c =
+    let a = begun c .args in
+    c .first-held .ensures ∙ ap₂ firstHeld (part-rest (a .quantities .now) (a .count)) (part-rest (a .sets .now) (a .count))
 
 add-refuse-at : tie.Need-add-refuse-at
 add-refuse-at c =
-    let a = c .before .before .before .args in
-    omega (arith, held c, fails-most isEmpty (restOf c), length-drop (a .count) (a .sets .now))
+    let a = begun c .args in
+    let sets = drop (a .count) (a .sets .now) in
+    omega (arith, held c, held-most (drop (a .count) (a .quantities .now)) sets, length-drop (a .count) (a .sets .now))
 
 refuse-at-requires : tie.Need-refuse-at-requires
 refuse-at-requires c κs = search needs
@@ -52,6 +62,9 @@ rest-refusal-spec =
     sub-first-held
     part-first-held-start
     part-first-held-end
+    sub-first-held-2
+    part-first-held-start-2
+    part-first-held-end-2
     first-held-requires
     add-refuse-at
     refuse-at-requires

@@ -4,10 +4,10 @@ use Rattle.try_lib.proofs.off.Statement.{statement}
 use Rattle.try_lib.proofs.off.Tie as tie
 
 abbrev Inv-loop : tie.InvT-loop
-Inv-loop plan n rack most₀ tip₀ most tip = tip ≤ rack
+Inv-loop plan quantities n rack most₀ tip₀ most tip = tip ≤ rack
 
 abbrev μ-loop : tie.MeasureT-loop
-μ-loop plan n rack most₀ tip₀ most tip = rack - tip
+μ-loop plan quantities n rack most₀ tip₀ most tip = rack - tip
 
 loop-holds : tie.Need-loop-holds Inv-loop μ-loop
 loop-holds c = search needs
@@ -27,6 +27,9 @@ loop-less c = search needs
 loop-again : tie.Need-loop-again Inv-loop μ-loop
 loop-again c = search needs
 
+placements-requires : tie.Need-placements-requires Inv-loop μ-loop
+placements-requires c κs = search needs
+
 wrapping-sub-u64-requires : tie.Need-wrapping-sub-u64-requires Inv-loop μ-loop
 wrapping-sub-u64-requires c κs = search needs
 
@@ -45,5 +48,6 @@ off-spec =
     add-tip
     loop-less
     loop-again
+    placements-requires
     wrapping-sub-u64-requires
     returns)

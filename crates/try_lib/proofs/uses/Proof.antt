@@ -4,22 +4,25 @@ use Rattle.try_lib.proofs.uses.Statement.{statement}
 use Rattle.try_lib.proofs.uses.Tie as tie
 
 abbrev Inv-loop : tie.InvT-loop
-Inv-loop n tip plan count₀ i₀ count i = i ≤ n
+Inv-loop n tip plan quantities count₀ i₀ count i = i ≤ n
 
 abbrev μ-loop : tie.MeasureT-loop
-μ-loop n tip plan count₀ i₀ count i = n - i
+μ-loop n tip plan quantities count₀ i₀ count i = n - i
 
 loop-holds : tie.Need-loop-holds Inv-loop μ-loop
 loop-holds c = search needs
 
-mul-one-if : tie.Need-mul-one-if Inv-loop μ-loop
-mul-one-if c = search needs
+mul-placed-if : tie.Need-mul-placed-if Inv-loop μ-loop
+mul-placed-if c = search needs
 
-array-read-one-if : tie.Need-array-read-one-if Inv-loop μ-loop
-array-read-one-if c = search needs
+array-read-placed-if : tie.Need-array-read-placed-if Inv-loop μ-loop
+array-read-placed-if c = search needs
 
-one-if-requires : tie.Need-one-if-requires Inv-loop μ-loop
-one-if-requires c κs = search needs
+array-read-placed-if-2 : tie.Need-array-read-placed-if-2 Inv-loop μ-loop
+array-read-placed-if-2 c = search needs
+
+placed-if-requires : tie.Need-placed-if-requires Inv-loop μ-loop
+placed-if-requires c κs = search needs
 
 sum-requires : tie.Need-sum-requires Inv-loop μ-loop
 sum-requires c κs = search needs
@@ -43,9 +46,10 @@ uses-spec =
     Inv-loop
     μ-loop
     loop-holds
-    mul-one-if
-    array-read-one-if
-    one-if-requires
+    mul-placed-if
+    array-read-placed-if
+    array-read-placed-if-2
+    placed-if-requires
     sum-requires
     add-i
     loop-less

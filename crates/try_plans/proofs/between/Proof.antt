@@ -6,10 +6,12 @@ use Rattle.try_plans.proofs.between.Statement.{statement}
 use Rattle.try_plans.proofs.between.Tie as tie
 
 abbrev Inv-loop : tie.InvT-loop
-Inv-loop small low high n lines interval inside₀ count₀ i₀ inside count i = (i ≤ n) × (count ≤ i) × (length inside ≡ 8)
+Inv-loop small low high n lines quantities interval inside₀ placed₀ count₀ i₀ inside placed count i =
+    (i ≤ n) × (count ≤ i) × (length inside ≡ 8) × (length placed ≡ 8)
 
 abbrev μ-loop : tie.MeasureT-loop
-μ-loop small low high n lines interval inside₀ count₀ i₀ inside count i = n - i
+μ-loop small low high n lines quantities interval inside₀ placed₀ count₀ i₀ inside placed count i =
+    n - i
 
 sum-requires : tie.Need-sum-requires Inv-loop μ-loop
 sum-requires c κs = search needs
@@ -37,6 +39,12 @@ mul-inside-2 c = search needs
 
 array-write-inside : tie.Need-array-write-inside Inv-loop μ-loop
 array-write-inside c = search needs
+
+array-read-placed : tie.Need-array-read-placed Inv-loop μ-loop
+array-read-placed c = search needs
+
+array-write-placed : tie.Need-array-write-placed Inv-loop μ-loop
+array-write-placed c = search needs
 
 mul-one-if : tie.Need-mul-one-if Inv-loop μ-loop
 mul-one-if c = search needs
@@ -83,6 +91,8 @@ between-spec =
     array-read-inside
     mul-inside-2
     array-write-inside
+    array-read-placed
+    array-write-placed
     mul-one-if
     array-read-one-if
     mul-one-if-2

@@ -4,10 +4,10 @@ use Rattle.try_plans.proofs.busiest.Statement.{statement}
 use Rattle.try_plans.proofs.busiest.Tie as tie
 
 abbrev Inv-loop : tie.InvT-loop
-Inv-loop small top n plans set₀ code₀ set code = code ≤ plans
+Inv-loop small top n plans quantities set₀ code₀ set code = code ≤ plans
 
 abbrev μ-loop : tie.MeasureT-loop
-μ-loop small top n plans set₀ code₀ set code = plans - code
+μ-loop small top n plans quantities set₀ code₀ set code = plans - code
 
 loop-holds : tie.Need-loop-holds Inv-loop μ-loop
 loop-holds c = search needs

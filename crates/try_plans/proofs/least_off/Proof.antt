@@ -4,10 +4,13 @@ use Rattle.try_plans.proofs.least_off.Statement.{statement}
 use Rattle.try_plans.proofs.least_off.Tie as tie
 
 abbrev Inv-loop : tie.InvT-loop
-Inv-loop small n plans least₀ code₀ least code = code ≤ plans
+Inv-loop small n plans quantities least₀ code₀ least code = code ≤ plans
 
 abbrev μ-loop : tie.MeasureT-loop
-μ-loop small n plans least₀ code₀ least code = plans - code
+μ-loop small n plans quantities least₀ code₀ least code = plans - code
+
+placements-requires : tie.Need-placements-requires Inv-loop μ-loop
+placements-requires c κs = search needs
 
 loop-holds : tie.Need-loop-holds Inv-loop μ-loop
 loop-holds c = search needs
@@ -39,6 +42,7 @@ least-off-spec =
     (tie.spec
     Inv-loop
     μ-loop
+    placements-requires
     loop-holds
     plan-of-requires
     off-requires

@@ -4,10 +4,10 @@ use Rattle.try_plans.proofs.most_pairs.Statement.{statement}
 use Rattle.try_plans.proofs.most_pairs.Tie as tie
 
 abbrev Inv-loop : tie.InvT-loop
-Inv-loop small n plans most₀ code₀ most code = code ≤ plans
+Inv-loop small n plans quantities most₀ code₀ most code = code ≤ plans
 
 abbrev μ-loop : tie.MeasureT-loop
-μ-loop small n plans most₀ code₀ most code = plans - code
+μ-loop small n plans quantities most₀ code₀ most code = plans - code
 
 loop-holds : tie.Need-loop-holds Inv-loop μ-loop
 loop-holds c = search needs

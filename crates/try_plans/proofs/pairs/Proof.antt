@@ -4,10 +4,10 @@ use Rattle.try_plans.proofs.pairs.Statement.{statement}
 use Rattle.try_plans.proofs.pairs.Tie as tie
 
 abbrev Inv-loop : tie.InvT-loop
-Inv-loop n plan count₀ i₀ count i = i ≤ n
+Inv-loop n plan quantities count₀ i₀ count i = i ≤ n
 
 abbrev μ-loop : tie.MeasureT-loop
-μ-loop n plan count₀ i₀ count i = n - i
+μ-loop n plan quantities count₀ i₀ count i = n - i
 
 loop-holds : tie.Need-loop-holds Inv-loop μ-loop
 loop-holds c = search needs
@@ -20,6 +20,12 @@ array-read-uses c = search needs
 
 uses-requires : tie.Need-uses-requires Inv-loop μ-loop
 uses-requires c κs = search needs
+
+array-read-pairs-of : tie.Need-array-read-pairs-of Inv-loop μ-loop
+array-read-pairs-of c = search needs
+
+pairs-of-requires : tie.Need-pairs-of-requires Inv-loop μ-loop
+pairs-of-requires c κs = search needs
 
 sum-requires : tie.Need-sum-requires Inv-loop μ-loop
 sum-requires c κs = search needs
@@ -46,6 +52,8 @@ pairs-spec =
     mul-uses
     array-read-uses
     uses-requires
+    array-read-pairs-of
+    pairs-of-requires
     sum-requires
     add-i
     loop-less

@@ -4,10 +4,10 @@ use Rattle.try_plans.proofs.tips_used.Statement.{statement}
 use Rattle.try_plans.proofs.tips_used.Tie as tie
 
 abbrev Inv-loop : tie.InvT-loop
-Inv-loop plan n rack top set₀ tip₀ set tip = tip ≤ rack
+Inv-loop plan quantities n rack top set₀ tip₀ set tip = tip ≤ rack
 
 abbrev μ-loop : tie.MeasureT-loop
-μ-loop plan n rack top set₀ tip₀ set tip = rack - tip
+μ-loop plan quantities n rack top set₀ tip₀ set tip = rack - tip
 
 loop-holds : tie.Need-loop-holds Inv-loop μ-loop
 loop-holds c = search needs

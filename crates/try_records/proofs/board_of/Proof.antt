@@ -4,10 +4,10 @@ use Rattle.try_records.proofs.board_of.Statement.{statement}
 use Rattle.try_records.proofs.board_of.Tie as tie
 
 abbrev Inv-loop : tie.InvT-loop
-Inv-loop lines board₀ i₀ board i = i ≤ 512
+Inv-loop lines quantities board₀ i₀ board i = i ≤ 512
 
 abbrev μ-loop : tie.MeasureT-loop
-μ-loop lines board₀ i₀ board i = 512 - i
+μ-loop lines quantities board₀ i₀ board i = 512 - i
 
 open-requires : tie.Need-open-requires Inv-loop μ-loop
 open-requires c κs = search needs
@@ -17,6 +17,9 @@ loop-holds c = search needs
 
 set-of-requires : tie.Need-set-of-requires Inv-loop μ-loop
 set-of-requires c κs = search needs
+
+quantity-of-requires : tie.Need-quantity-of-requires Inv-loop μ-loop
+quantity-of-requires c κs = search needs
 
 add-requires : tie.Need-add-requires Inv-loop μ-loop
 add-requires c κs = search needs
@@ -45,6 +48,7 @@ board-of-spec =
     open-requires
     loop-holds
     set-of-requires
+    quantity-of-requires
     add-requires
     add-i
     loop-less

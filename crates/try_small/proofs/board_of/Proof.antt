@@ -6,10 +6,10 @@ use Rattle.try_small.proofs.board_of.Statement.{statement}
 use Rattle.try_small.proofs.board_of.Tie as tie
 
 abbrev Inv-loop : tie.InvT-loop
-Inv-loop small lines n sets₀ i₀ sets i = (i ≤ n) × (length sets ≡ 512)
+Inv-loop small lines n placed sets₀ quantities₀ i₀ sets quantities i = (i ≤ n) × (length sets ≡ 512) × (length quantities ≡ 512)
 
 abbrev μ-loop : tie.MeasureT-loop
-μ-loop small lines n sets₀ i₀ sets i = n - i
+μ-loop small lines n placed sets₀ quantities₀ i₀ sets quantities i = n - i
 
 open-requires : tie.Need-open-requires Inv-loop μ-loop
 open-requires c κs = search needs
@@ -28,6 +28,12 @@ mul-sets-2 c = search needs
 
 array-write-sets : tie.Need-array-write-sets Inv-loop μ-loop
 array-write-sets c = search needs
+
+array-read-quantities : tie.Need-array-read-quantities Inv-loop μ-loop
+array-read-quantities c = search needs
+
+array-write-quantities : tie.Need-array-write-quantities Inv-loop μ-loop
+array-write-quantities c = search needs
 
 add-i : tie.Need-add-i Inv-loop μ-loop
 add-i c = search needs
@@ -53,6 +59,8 @@ board-of-spec =
     array-read-sets
     mul-sets-2
     array-write-sets
+    array-read-quantities
+    array-write-quantities
     add-i
     loop-less
     loop-again

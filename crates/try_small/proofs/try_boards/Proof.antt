@@ -6,10 +6,10 @@ use Rattle.try_small.proofs.try_boards.Statement.{statement}
 use Rattle.try_small.proofs.try_boards.Tie as tie
 
 abbrev Inv-loop : tie.InvT-loop
-Inv-loop rack n boards plans sets tally₀ code₀ tally code = (code ≤ boards) × (length tally ≡ 12)
+Inv-loop rack n boards plans quantities sets tally₀ code₀ tally code = (code ≤ boards) × (length tally ≡ 12)
 
 abbrev μ-loop : tie.MeasureT-loop
-μ-loop rack n boards plans sets tally₀ code₀ tally code = boards - code
+μ-loop rack n boards plans quantities sets tally₀ code₀ tally code = boards - code
 
 only-requires : tie.Need-only-requires Inv-loop μ-loop
 only-requires c κs = search needs

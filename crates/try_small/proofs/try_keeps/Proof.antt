@@ -11,14 +11,17 @@ Inv-loop small board bounds tally₀ k₀ tally k = (k ≤ bounds) × (length ta
 abbrev μ-loop : tie.MeasureT-loop
 μ-loop small board bounds tally₀ k₀ tally k = bounds - k
 
-cast-bounds : tie.Need-cast-bounds Inv-loop μ-loop
-cast-bounds c = search needs
+placements-requires : tie.Need-placements-requires Inv-loop μ-loop
+placements-requires c κs = search needs
 
-add-bounds : tie.Need-add-bounds Inv-loop μ-loop
-add-bounds c = search needs
+sum-requires : tie.Need-sum-requires Inv-loop μ-loop
+sum-requires c κs = search needs
 
 loop-holds : tie.Need-loop-holds Inv-loop μ-loop
 loop-holds c = search needs
+
+bound-requires : tie.Need-bound-requires Inv-loop μ-loop
+bound-requires c κs = search needs
 
 try-keep-requires : tie.Need-try-keep-requires Inv-loop μ-loop
 try-keep-requires c κs = search needs
@@ -44,9 +47,10 @@ try-keeps-spec =
     (tie.spec
     Inv-loop
     μ-loop
-    cast-bounds
-    add-bounds
+    placements-requires
+    sum-requires
     loop-holds
+    bound-requires
     try-keep-requires
     added-requires
     add-k

@@ -1,0 +1,14 @@
+pub mod Repeated
+pub mod Valid
+pub mod Totals
+pub mod Good
+pub mod Named
+pub mod Plans
+pub mod Renumbered
+pub mod CommonTip
+pub mod Scarce
+pub mod Exact
+pub mod Ones
+pub mod Bound
+pub mod Loops
+pub mod PairSum
