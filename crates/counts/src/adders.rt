@@ -1,9 +1,7 @@
 // The occurrences of all tips added up: sixteen lines by full adders, or one line by its quantity.
 ghost use mathlib.Core.Path.{_≡_};
-ghost use mathlib.Core.Bool.{cond};
 ghost use mathlib.Core.List.{[]};
 ghost use Prim.Native.Nat.{_+_, _^_, _≤_};
-ghost use lib.Dec.{eqb};
 ghost use lib.ListN.{length};
 ghost use Rattle.counts.specs.Counts.{planeCount, ifOdd, AddsThree, AddsEight, Addable, Added};
 ghost use Rattle.counts.specs.Counts.{Counts, CountedTo, OneEach, BlockFits, BlockAdded};
@@ -131,24 +129,18 @@ pub fn add_lines(from: usize, to: usize, lines: &[u64], quantities: &[u8], plane
     }
 }
 
-fn not_one(quantity: u8) -> u32
-    ensures { λ r. ⌜ r ≡ cond (eqb quantity 1) 0 1 ⌝ }
-{
-    if quantity == 1 { 0 } else { 1 }
-}
-
-// How many of the sixteen quantities from i on are not 1; no early end, so that the compiler can take them at once.
-fn others(i: usize, quantities: &[u8]) -> u32
+// The bits in which some of the sixteen quantities from i on is not 1. The loop has no branch and no end before the last: the compiler takes all at once.
+fn others(i: usize, quantities: &[u8]) -> u8
     requires { ⌜ i + 16 ≤ length (now quantities) ⌝ }
     ensures { λ r. ⌜ (r ≡ 0 → OneEach i (now (quantities .entry))) ⌝ }
 {
-    let mut sum = 0;
+    let mut bits = 0;
     let mut k = 0;
     while k < 16 {
-        sum += not_one(quantities[i + k]);
+        bits |= quantities[i + k] ^ 1;
         k += 1;
     }
-    sum
+    bits
 }
 
 // Sixteen lines more, from line i on: by full adders where each has quantity 1, else one by one.
