@@ -104,4 +104,7 @@ module _ (v : ℕ) (z : ℤ) {qs : List ℕ} (placed : All (λ q. 1 ≤ q) qs) (
   -- any other is not below a quantity of 1, and with as many placements as lines there is no other: no line changes
   pub prune-none : ltZ z (pos 1) ≡ false → total qs ≡ length qs → sets ≡ zipWith (keptBy v z) qs sets
   unfolding keptBy
-  prune-none f e = sym (zip-map (keptBy v z) (λ s. s) (λ q s o. ap (λ t. cond t (narrowBy v s) s) (ap (λ n. ltZ z (pos n)) o ∙ f)) (all-one placed (omega arith)) sets same ∙ map-id sets)
+  prune-none f e = sym (zip-map (keptBy v z) (λ s. s) one (all-one placed (omega arith)) sets same ∙ map-id sets)
+    where
+      one : (q s : ℕ) → q ≡ 1 → keptBy v z q s ≡ s
+      one q s o = ap (λ t. cond t (narrowBy v s) s) (ap (λ n. ltZ z (pos n)) o ∙ f)

@@ -100,8 +100,7 @@ fn kept(v: u64, margin: i32, quantity: u8, set: u64) -> u64
     set
 }
 
-// Where the margin is below its quantity, a line that has all of v keeps only v. No quantity is below 1; where the lines are as many as the
-// placements, none is above it.
+// Where the margin is below its quantity, a line that has all of v keeps only v. No quantity is 0, and with a placement a line each is 1.
 fn prune(margin: i32, n: usize, v: u64, lines: &mut [u64], quantities: &[u8])
     requires { ⌜ (n ≡ total (now quantities)) × (length (now quantities) ≡ length (now lines)) × All (λ q. 1 ≤ q) (now quantities) ⌝ }
     ensures { λ _. ⌜ now (lines .exit) ≡ zipWith (keptBy v margin) (now (quantities .entry)) (now (lines .entry)) ⌝ }

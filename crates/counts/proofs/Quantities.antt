@@ -9,7 +9,7 @@ use Rattle.model.specs.Plan.{has}
 use Rattle.counts.specs.Counts.{planeCount, countAt, share, DigitOf, Addable, Added, Removable, Removed}
 use Rattle.counts.proofs.Digits.{share-digit}
 
--- so much of q is left: the higher counts with it are the lower ones with all of q. Adding makes the higher ones of the lower, taking off the other way.
+-- so much of q is left: the higher counts with it are the lower ones with all of q; adding begins with the lower, taking off with the higher
 pub record Left (q set : ℕ) (low high : List ℕ) (left : ℕ) : Type 0 where
   pub sum : (t : ℕ) → countAt high t + share left set t ≡ countAt low t + share q set t
 

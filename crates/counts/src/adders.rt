@@ -100,13 +100,12 @@ fn carry_from(from: usize, set: u64, planes: &mut [u64])
     }
 }
 
-// The place of the highest binary digit, and the number without it.
+// The place of the highest binary digit of a number that is not 0, and the number without it.
 pub struct Digit {
     pub place: usize,
     pub rest: u8,
 }
 
-// For a number that is not 0.
 pub fn highest_digit(number: u8) -> Digit
     requires { ⌜ 1 ≤ number ⌝ }
     ensures { λ r. ⌜ DigitOf number (r .place) (r .rest) ⌝ }
@@ -143,7 +142,7 @@ pub fn add_lines(from: usize, to: usize, lines: &[u64], quantities: &[u8], plane
     }
 }
 
-// The bits in which some of the sixteen quantities from i on is not 1. The loop has no branch and no end before the last: the compiler takes all at once.
+// The bits in which some of the sixteen quantities from i on is not 1; no early end, so that the compiler can take them at once.
 fn others(i: usize, quantities: &[u8]) -> u8
     requires { ⌜ i + 16 ≤ length (now quantities) ⌝ }
     ensures { λ r. ⌜ (r ≡ 0 → OneEach i (now (quantities .entry))) ⌝ }
