@@ -3,14 +3,16 @@ use Prim.Native.Nat.{ℕ, _+_, _-_, _<_, _≤_, _^_, max}
 use native.Mathlib.Omega.{arith}
 use mathlib.Core.Path.{_≡_, refl, ap, ap₂, sym, _∙_}
 use mathlib.Core.Logic.{⊎-elim}
-use mathlib.Core.Bool.{cond, _&&_}
-use mathlib.Core.List.{List, [], _∷_, zipWith}
+use mathlib.Core.Bool.{true, false, cond, _&&_}
+use mathlib.Core.List.{List, [], _∷_, map, map-id, zipWith}
 use lib.Dec.{ltb, leb, ltb→lt, lt→ltb, leb→le, le→leb}
-use lib.IntN.{pos}
+use lib.IntN.{ℤ, pos, negsuc}
 use lib.ListN.{length}
 use lib.Signed.{ltZ}
 use mir.Syntax.{w32}
 use mir.Val.{SFits}
+use borrow.Author.Tests.{lt-ltb, ltb-true}
+use Rattle.model.specs.Count.{All}
 use Rattle.model.specs.Plan.{occ}
 use Rattle.model.specs.CommonTip.{top, margin, narrowed, setOf}
 use Rattle.model.proofs.Tests.{le-or-lt, same-test, true-T, and-left, and-right, and-in}
@@ -20,8 +22,9 @@ use Rattle.model.proofs.CommonTip.{margin-pos, margin-neg}
 use Rattle.model.specs.Limits.{mostPlacements}
 use Rattle.placements.specs.Repeated.{total, repeated}
 use Rattle.placements.specs.Keep.{commonWithin, scarce, keptQ, pruneQ}
-use Rattle.placements.proofs.Repeated.{length-repeated}
-use Rattle.placements.proofs.Scarce.{scarce-iff, scarce-margin}
+use Rattle.placements.proofs.Repeated.{length-repeated, zip-map}
+use Rattle.placements.proofs.Totals.{all-one}
+use Rattle.placements.proofs.Scarce.{scarce-iff, scarce-margin, common-lt}
 use Rattle.counts.specs.Counts.{countAt, Counts, Countable}
 use Rattle.common_tip.specs.Common.{marginBy, leastCount, narrowBy, keptBy}
 use Rattle.common_tip.proofs.Signed.{margin-fits}
@@ -81,8 +84,27 @@ zip-cong f g h (q ∷ qs) (s ∷ sets) = ap₂ _∷_ (h q s) (zip-cong f g h qs 
 
 -- PRUNING by the margin and the tips common within k
 pub prune-by : (m : ℕ) (qs sets : List ℕ) (k : ℕ)
-    → zipWith (keptBy m (commonWithin m (repeated qs sets) k) (margin m (repeated qs sets) k)) qs sets ≡ pruneQ m qs sets k
+    → zipWith (keptBy (commonWithin m (repeated qs sets) k) (margin m (repeated qs sets) k)) qs sets ≡ pruneQ m qs sets k
 unfolding pruneQ keptBy keptQ
 prune-by m qs sets k =
-    let v = commonWithin m (repeated qs sets) k in
-    zip-cong _ _ (λ q s. ap (λ b. cond b (narrowed m v s) s) (scarce-by m (repeated qs sets) k q)) qs sets
+    let lines = repeated qs sets in
+    let below = common-lt m lines k in
+    zip-cong _ _ (λ q s. ap₂ (λ b w. cond b w s) (scarce-by m lines k q) (narrow-by m (commonWithin m lines k) s below)) qs sets
+
+module _ (v : ℕ) (z : ℤ) {qs : List ℕ} (placed : All (λ q. 1 ≤ q) qs) (sets : List ℕ) (same : length qs ≡ length sets) where
+  -- a margin below 1 is below every quantity: each line is narrowed
+  pub prune-each : ltZ z (pos 1) ≡ true → map (narrowBy v) sets ≡ zipWith (keptBy v z) qs sets
+  unfolding keptBy
+  prune-each t = sym (zip-map (keptBy v z) (narrowBy v) (λ q s o. rw (below z q t o)) placed sets same)
+    where
+      below : (z : ℤ) (q : ℕ) → ltZ z (pos 1) ≡ true → 1 ≤ q → ltZ z (pos q) ≡ true
+      below (pos a) q t o = lt-ltb a q (omega (arith, ltb-true a 1 t))
+      below (negsuc a) q t o = refl
+
+  -- any other is not below a quantity of 1, and with as many placements as lines there is no other: no line changes
+  pub prune-none : ltZ z (pos 1) ≡ false → total qs ≡ length qs → sets ≡ zipWith (keptBy v z) qs sets
+  unfolding keptBy
+  prune-none f e = sym (zip-map (keptBy v z) (λ s. s) one (all-one placed (omega arith)) sets same ∙ map-id sets)
+    where
+      one : (q s : ℕ) → q ≡ 1 → keptBy v z q s ≡ s
+      one q s o = ap (λ t. cond t (narrowBy v s) s) (ap (λ n. ltZ z (pos n)) o ∙ f)

@@ -1,10 +1,9 @@
 // The common tip of lines and their pruning, counted in placements: the occurrences of all tips are counted in one pass.
 ghost use mathlib.Core.Path.{_≡_};
-ghost use mathlib.Core.List.{zipWith};
-ghost use Prim.Native.Nat.{_-_, _≤_, _<_, _^_};
-ghost use lib.IntN.{pos};
+ghost use mathlib.Core.List.{map, zipWith};
+ghost use Prim.Native.Nat.{_-_, _≤_};
 ghost use lib.ListN.{length};
-ghost use lib.Signed.{ltZ};
+ghost use Rattle.model.specs.Count.{All};
 ghost use Rattle.model.specs.CommonTip.{top, W, margin as marginOf};
 ghost use Rattle.placements.specs.Repeated.{total, repeated};
 ghost use Rattle.placements.specs.Keep.{commonWithin};
@@ -51,15 +50,17 @@ fn least_count(n: usize, k: u16) -> usize
     if n <= k { 1 } else { n - k }
 }
 
-// The margin, and the set V of the tips in some line that all but at most k of the placements allow.
+// The margin, the number of placements, and the set V of the tips in some line that all but at most k of the placements allow.
 struct Bound {
     margin: i32,
+    n: usize,
     tips: u64,
 }
 
 fn within(rack: usize, k: u16, lines: &[u64], quantities: &[u8]) -> Bound
     requires { ⌜ (rack ≤ 64) × Countable (now quantities) (now lines) ⌝ }
     ensures margin { λ r. ⌜ r .margin ≡ marginOf rack (repeated (now (quantities .entry)) (now (lines .entry))) k ⌝ }
+    ensures n { λ r. ⌜ r .n ≡ total (now (quantities .entry)) ⌝ }
     ensures tips { λ r. ⌜ r .tips ≡ commonWithin rack (repeated (now (quantities .entry)) (now (lines .entry))) k ⌝ }
 {
     let mut planes = [0u64; counts::PLANES];
@@ -68,6 +69,7 @@ fn within(rack: usize, k: u16, lines: &[u64], quantities: &[u8]) -> Bound
     let n = placements::total(quantities);
     Bound {
         margin: margin(busiest.top as usize, n, k),
+        n,
         tips: counts::tips_with(&planes, rack, least_count(n, k)),
     }
 }
@@ -78,37 +80,48 @@ fn narrow(set: u64, v: u64) -> u64
     if set & v == v { v } else { set }
 }
 
-fn is_below(margin: i32, quantity: u8) -> bool
-    ensures { λ r. ⌜ r ≡ ltZ margin (pos quantity) ⌝ }
+// A line that has all of v keeps only v.
+fn narrow_all(v: u64, lines: &mut [u64])
+    ensures { λ _. ⌜ now (lines .exit) ≡ map (narrowBy v) (now (lines .entry)) ⌝ }
 {
-    margin < (quantity as i32)
+    let mut i = 0;
+    while i < lines.len() {
+        lines[i] = narrow(lines[i], v);
+        i += 1;
+    }
 }
 
-fn kept(rack: usize, v: u64, margin: i32, quantity: u8, set: u64) -> u64
-    requires { ⌜ v < 2 ^ rack ⌝ }
-    ensures { λ r. ⌜ r ≡ keptBy rack v margin quantity set ⌝ }
+fn kept(v: u64, margin: i32, quantity: u8, set: u64) -> u64
+    ensures { λ r. ⌜ r ≡ keptBy v margin quantity set ⌝ }
 {
-    if is_below(margin, quantity) {
+    if margin < (quantity as i32) {
         return narrow(set, v);
     }
     set
 }
 
-// Where the margin is below its quantity, a line that has all of v keeps only v.
-fn prune(rack: usize, margin: i32, v: u64, lines: &mut [u64], quantities: &[u8])
-    requires { ⌜ (v < 2 ^ rack) × (length (now quantities) ≡ length (now lines)) ⌝ }
-    ensures { λ _. ⌜ now (lines .exit) ≡ zipWith (keptBy rack v margin) (now (quantities .entry)) (now (lines .entry)) ⌝ }
+// Where the margin is below its quantity, a line that has all of v keeps only v. No quantity is 0, and with a placement a line each is 1.
+fn prune(margin: i32, n: usize, v: u64, lines: &mut [u64], quantities: &[u8])
+    requires { ⌜ (n ≡ total (now quantities)) × (length (now quantities) ≡ length (now lines)) × All (λ q. 1 ≤ q) (now quantities) ⌝ }
+    ensures { λ _. ⌜ now (lines .exit) ≡ zipWith (keptBy v margin) (now (quantities .entry)) (now (lines .entry)) ⌝ }
 {
+    if margin < 1 {
+        narrow_all(v, lines);
+        return;
+    }
+    if n == lines.len() {
+        return;
+    }
     let mut i = 0;
     while i < lines.len() {
-        lines[i] = kept(rack, v, margin, quantities[i], lines[i]);
+        lines[i] = kept(v, margin, quantities[i], lines[i]);
         i += 1;
     }
 }
 
 // Keep within k: gives the margin. Where it is not below zero the lines are pruned.
 pub fn keep_lines(rack: usize, lines: &mut [u64], quantities: &[u8], k: u16) -> i32
-    requires { ⌜ (rack ≤ 64) × Countable (now quantities) (now lines) ⌝ }
+    requires { ⌜ (rack ≤ 64) × Countable (now quantities) (now lines) × All (λ q. 1 ≤ q) (now quantities) ⌝ }
     ensures margin { λ r. ⌜ r ≡ marginOf rack (repeated (now (quantities .entry)) (now (lines .entry))) k ⌝ }
     ensures lines { λ _. ⌜ now (lines .exit) ≡ keptLines rack (now (quantities .entry)) (now (lines .entry)) k ⌝ }
 {
@@ -117,6 +130,6 @@ pub fn keep_lines(rack: usize, lines: &mut [u64], quantities: &[u8], k: u16) -> 
     if margin < 0 {
         return margin;
     }
-    prune(rack, margin, bound.tips, lines, quantities);
+    prune(margin, bound.n, bound.tips, lines, quantities);
     margin
 }

@@ -1,11 +1,9 @@
 // The occurrences of all tips added up: sixteen lines by full adders, or one line by its quantity.
 ghost use mathlib.Core.Path.{_≡_};
-ghost use mathlib.Core.Bool.{cond};
 ghost use mathlib.Core.List.{[]};
-ghost use Prim.Native.Nat.{_+_, _^_, _≤_};
-ghost use lib.Dec.{eqb};
+ghost use Prim.Native.Nat.{_+_, _^_, _≤_, _<_};
 ghost use lib.ListN.{length};
-ghost use Rattle.counts.specs.Counts.{planeCount, ifOdd, AddsThree, AddsEight, Addable, Added};
+ghost use Rattle.counts.specs.Counts.{planeCount, DigitOf, AddsThree, AddsEight, Addable, Added};
 ghost use Rattle.counts.specs.Counts.{Counts, CountedTo, OneEach, BlockFits, BlockAdded};
 
 // The two binary digits of a small count of each tip.
@@ -86,23 +84,37 @@ fn add_block(i: usize, lines: &[u64], planes: &mut [u64])
 
 // 2 ^ from more for each tip of the set, until no carry is left: soon, for a line.
 fn carry_from(from: usize, set: u64, planes: &mut [u64])
-    requires { ⌜ Addable (2 ^ from) set (now planes) × (from ≤ planeCount) ⌝ }
+    requires { ⌜ Addable (2 ^ from) set (now planes) × (from < planeCount) ⌝ }
     ensures { λ _. ⌜ Added (2 ^ from) set (now (planes .entry)) (now (planes .exit)) ⌝ }
 {
     let mut carry = set;
     let mut j = from;
-    while carry != 0 {
+    loop {
         let plane = planes[j];
         planes[j] = plane ^ carry;
         carry = plane & carry;
         j += 1;
+        if carry == 0 {
+            return;
+        }
     }
 }
 
-pub fn if_odd(number: u8, set: u64) -> u64
-    ensures { λ r. ⌜ r ≡ ifOdd number set ⌝ }
+// The place of the highest binary digit of a number that is not 0, and the number without it.
+pub struct Digit {
+    pub place: usize,
+    pub rest: u8,
+}
+
+pub fn highest_digit(number: u8) -> Digit
+    requires { ⌜ 1 ≤ number ⌝ }
+    ensures { λ r. ⌜ DigitOf number (r .place) (r .rest) ⌝ }
 {
-    if number % 2 == 1 { set } else { 0 }
+    let place = 7 - u8::leading_zeros(number);
+    Digit {
+        place: place as usize,
+        rest: number - (1 << place),
+    }
 }
 
 // As many more for each tip of the set as the quantity says, one binary digit after the other.
@@ -111,11 +123,10 @@ fn add_line(set: u64, quantity: u8, planes: &mut [u64])
     ensures { λ _. ⌜ Added quantity set (now (planes .entry)) (now (planes .exit)) ⌝ }
 {
     let mut left = quantity;
-    let mut j = 0;
     while left != 0 {
-        carry_from(j, if_odd(left, set), planes);
-        left /= 2;
-        j += 1;
+        let digit = highest_digit(left);
+        carry_from(digit.place, set, planes);
+        left = digit.rest;
     }
 }
 
@@ -131,24 +142,18 @@ pub fn add_lines(from: usize, to: usize, lines: &[u64], quantities: &[u8], plane
     }
 }
 
-fn not_one(quantity: u8) -> u32
-    ensures { λ r. ⌜ r ≡ cond (eqb quantity 1) 0 1 ⌝ }
-{
-    if quantity == 1 { 0 } else { 1 }
-}
-
-// How many of the sixteen quantities from i on are not 1; no early end, so that the compiler can take them at once.
-fn others(i: usize, quantities: &[u8]) -> u32
+// The bits in which some of the sixteen quantities from i on is not 1; no early end, so that the compiler can take them at once.
+fn others(i: usize, quantities: &[u8]) -> u8
     requires { ⌜ i + 16 ≤ length (now quantities) ⌝ }
     ensures { λ r. ⌜ (r ≡ 0 → OneEach i (now (quantities .entry))) ⌝ }
 {
-    let mut sum = 0;
+    let mut bits = 0;
     let mut k = 0;
     while k < 16 {
-        sum += not_one(quantities[i + k]);
+        bits |= quantities[i + k] ^ 1;
         k += 1;
     }
-    sum
+    bits
 }
 
 // Sixteen lines more, from line i on: by full adders where each has quantity 1, else one by one.

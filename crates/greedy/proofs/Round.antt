@@ -234,6 +234,7 @@ module _ {mounted : Mounted} {m : ℕ} {qs lines left plan counts : List ℕ} {s
   pub tip-takeable : Takeable tip qs left plan counts
   tip-takeable = record {
     inside = omega (arith, busiest-is, busiest-lt mounted m (toPlan qs left) (r .begun .good .some), r .begun .good .most);
+    some = r .begun .good .placed;
     same = same (r .begun);
     size = was .plan-size;
     counts-are = was .counts-are;

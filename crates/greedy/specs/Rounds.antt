@@ -1,10 +1,11 @@
 -- Quick sharing over a working copy of the lines, in which a planned line is the empty set.
-use Prim.Native.Nat.{ℕ, _<_}
+use Prim.Native.Nat.{ℕ, _≤_, _<_}
 use mathlib.Core.Path.{_≡_}
 use mathlib.Core.Logic.{_⊎_}
 use mathlib.Core.Bool.{cond}
 use mathlib.Core.List.{List, [], _∷_, map}
 use lib.ListN.{length, getD, set, replicate}
+use Rattle.model.specs.Count.{All}
 use Rattle.model.specs.Limits.{mostTips}
 use Rattle.model.specs.Plan.{has, pairs}
 use Rattle.model.specs.Choice.{Mounted}
@@ -42,6 +43,7 @@ pub record QuickShared (mounted : Mounted) (rack : ℕ) (qs lines : List ℕ) (r
 -- a tip to take for lines whose occurrences are counted, in placements
 pub record Takeable (tip : ℕ) (qs left plan counts : List ℕ) : Type 0 where
   pub inside : tip < mostTips
+  pub some : All (λ q. 1 ≤ q) qs
   pub same : length qs ≡ length left
   pub size : length plan ≡ length left
   pub counts-are : Counts (repeated qs left) counts

@@ -10,7 +10,7 @@ pub fn wide(quantity: u8) -> usize
     quantity as usize
 }
 
-// The number of placements.
+// The number of placements, summed in 16 bits, which hold it: the compiler adds eight at once, and of wider numbers fewer.
 pub fn total(quantities: &[u8]) -> usize
     requires { ⌜ total (now quantities) ≤ mostPlacements ⌝ }
     ensures { λ r. ⌜ r ≡ total (now (quantities .entry)) ⌝ }
@@ -18,8 +18,8 @@ pub fn total(quantities: &[u8]) -> usize
     let mut sum = 0;
     let mut i = 0;
     while i < quantities.len() {
-        sum += wide(quantities[i]);
+        sum += quantities[i] as u16;
         i += 1;
     }
-    sum
+    sum as usize
 }

@@ -7,7 +7,6 @@ use mir.Val.{toZ, ofZ}
 use mir.ValLaws.{toZ-ofZ}
 use Rattle.model.specs.CommonTip.{margin}
 use Rattle.placements.specs.Repeated.{repeated}
-use Rattle.placements.proofs.Scarce.{common-lt}
 use Rattle.common_tip.specs.Common.{keptBy, keptLines}
 use Rattle.common_tip.proofs.Laws.{margin-small, prune-by}
 use borrow.Author.Needs.{needs}
@@ -40,11 +39,7 @@ returns c =
     (margin-is w, rw t)
 
 prune-requires : tie.Need-prune-requires
-prune-requires c κs =
-    let w = c .before .before .before in
-    let s = start w in
-    let below = common-lt (s .args .rack) (repeated (s .args .quantities .now) (s .args .lines .now)) (s .args .k) in
-    (rw (w .within .ensures .1) below, s .pre .1 .same)
+prune-requires c κs = search needs
 
 same-length-2 : tie.Need-same-length-2
 same-length-2 c = search needs
@@ -60,7 +55,7 @@ returns-2 c =
     let t = ap (λ z. ltZ z (pos 0)) (sym (margin-is w)) ∙ e .if1 .left in (
       margin-is w,
       rw t (
-          c .before .before .prune .ensures ∙ ap₂ (λ v z. zipWith (keptBy (s .args .rack) v z) qs lines) (w .within .ensures .1) (margin-is w)
+          c .before .before .prune .ensures ∙ ap₂ (λ v z. zipWith (keptBy v z) qs lines) (w .within .ensures .1 .1) (margin-is w)
           ∙ prune-by (s .args .rack) qs lines (s .args .k)
           ),
     )

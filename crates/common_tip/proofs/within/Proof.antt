@@ -72,7 +72,10 @@ returns c =
     let all = m .before .before .total .ensures ∙ sym (length-repeated qs lines (s .pre .1 .same)) in
     let e = m .margin .ensures ∙ ap₂ (λ t x. marginBy t x k) (top-is b) all ∙ margin-by (s .args .rack) (repeated qs lines) k in (
       toZ-ofZ w32 (m .margin .result) (rw e (margin-small (s .args .rack) k (s .pre .1) (s .fits .k .fits))) ∙ e,
-      c .tips-with .ensures ∙ least-common (s .args .rack) k counted (c .before .least-count .ensures ∙ ap (λ x. leastCount x k) all),
+      (
+        m .before .before .total .ensures,
+        c .tips-with .ensures ∙ least-common (s .args .rack) k counted (c .before .least-count .ensures ∙ ap (λ x. leastCount x k) all),
+      ),
     )
 
 pub within-spec : {M : Type 1} → statement M

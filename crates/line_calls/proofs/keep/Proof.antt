@@ -36,7 +36,7 @@ slice-aggregate-keep-lines-2 c =
     sym (length-take-le _ _ (begun d .pre .quantity-room (d .if1 .left)))
 
 keep-lines-requires : tie.Need-keep-lines-requires
-keep-lines-requires c κs = let g = good (c .before .before) in (g .most, record { same = g .same; few = g .few })
+keep-lines-requires c κs = let g = good (c .before .before) in (g .most, record { same = g .same; few = g .few }, g .placed)
 
 keep-refusal-requires : tie.Need-keep-refusal-requires
 keep-refusal-requires c κs = search needs

@@ -24,26 +24,26 @@ none qs = refl
 
 -- the sum with one quantity more, and its bound
 more : (c : tie.In-loop Inv-loop μ-loop)
-    → let qs = c .before .before .before .args .quantities .now in
+    → let qs = c .before .before .args .quantities .now in
     let i = c .before .loop .i in
     (total (take (i + 1) qs) ≡ c .before .loop .sum + getD qs i 0) × (total (take (i + 1) qs) ≤ mostPlacements)
 more c =
-    let s = c .before .before .before in
+    let s = c .before .before in
     let qs = s .args .quantities .now in
     let i = c .before .loop .i in
     (omega (arith, total-more qs i (c .loop-test .taken), c .before .loop .inv .1), omega (arith, total-take-le qs (i + 1), s .pre))
 
 loop-holds : tie.Need-loop-holds Inv-loop μ-loop
-loop-holds c = (search needs, none (c .before .args .quantities .now))
+loop-holds c = (search needs, none (c .args .quantities .now))
 
-shared-slice-read-wide : tie.Need-shared-slice-read-wide Inv-loop μ-loop
-shared-slice-read-wide c = search needs
+shared-slice-read-sum : tie.Need-shared-slice-read-sum Inv-loop μ-loop
+shared-slice-read-sum c = search needs
 
-wide-requires : tie.Need-wide-requires Inv-loop μ-loop
-wide-requires c κs = search needs
+cast-sum : tie.Need-cast-sum Inv-loop μ-loop
+cast-sum c = record { fits = omega (arith, more (c .before)) }
 
 add-sum : tie.Need-add-sum Inv-loop μ-loop
-add-sum c = record { fits = omega (arith, more (c .before .before), c .wide .ensures) }
+add-sum c = record { fits = omega (arith, more (c .before)) }
 
 add-i : tie.Need-add-i Inv-loop μ-loop
 add-i c = search needs
@@ -52,11 +52,16 @@ loop-less : tie.Need-loop-less Inv-loop μ-loop
 loop-less c = search needs
 
 loop-again : tie.Need-loop-again Inv-loop μ-loop
-loop-again c = (search needs, omega (arith, more (c .before .before), c .wide .ensures))
+loop-again c = (search needs, omega (arith, more (c .before)))
+
+cast-result : tie.Need-cast-result Inv-loop μ-loop
+cast-result c =
+    let s = c .before .before in
+    record { fits = omega (arith, c .before .loop .inv .1, total-take-le (s .args .quantities .now) (c .before .loop .i), s .pre) }
 
 returns : tie.Need-returns Inv-loop μ-loop
 returns c =
-    let qs = c .before .before .before .args .quantities .now in
+    let qs = c .before .before .args .quantities .now in
     c .before .loop .inv .1 ∙ ap total (take-all (c .before .loop .i) qs (c .loop-test .left))
 
 pub total-spec : {M : Type 1} → statement M
@@ -66,10 +71,11 @@ total-spec =
     Inv-loop
     μ-loop
     loop-holds
-    shared-slice-read-wide
-    wide-requires
+    shared-slice-read-sum
+    cast-sum
     add-sum
     add-i
     loop-less
     loop-again
+    cast-result
     returns)

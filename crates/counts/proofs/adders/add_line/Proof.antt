@@ -1,50 +1,53 @@
-use Prim.Native.Nat.{_<_}
+use mathlib.Core.Path.{_≡_}
 use native.Mathlib.Omega.{arith}
+use lib.ListN.{length}
+use lib.Pow.{pow-pos}
 use borrow.Author.Needs.{needs}
-use Rattle.counts.proofs.Quantities.{Adding, adding-start, adding-fits, adding-step, adding-end, byte-digits}
+use Rattle.counts.specs.Counts.{planeCount}
+use Rattle.counts.proofs.Quantities.{Left, all-left, digit-fits, digit-added, all-added}
 use Rattle.counts.proofs.adders.add_line.Statement.{statement}
 use Rattle.counts.proofs.adders.add_line.Tie as tie
 
 abbrev Inv-loop : tie.InvT-loop
-Inv-loop set quantity planes₀ left₀ j₀ planes left j = Adding quantity set planes₀ j left planes
+Inv-loop set quantity planes₀ left₀ planes left = (length planes ≡ planeCount) × Left quantity set planes₀ planes left
 
 abbrev μ-loop : tie.MeasureT-loop
-μ-loop set quantity planes₀ left₀ j₀ planes left j = left
+μ-loop set quantity planes₀ left₀ planes left = left
 
--- a digit of the quantity is left, so plane j is one of the first eight
-inside : (c : tie.In-loop Inv-loop μ-loop) → c .before .loop .j < 8
-inside c = byte-digits (c .before .loop .inv .part) (c .before .before .before .fits .quantity .fits) (c .loop-test .taken)
+abbrev called : tie.At-loop Inv-loop μ-loop → tie.Start Inv-loop μ-loop
+called c = c .before .before
+
+abbrev looped : tie.After-highest-digit Inv-loop μ-loop → tie.At-loop Inv-loop μ-loop
+looped c = c .before .before
 
 loop-holds : tie.Need-loop-holds Inv-loop μ-loop
-loop-holds c = adding-start (c .before .pre)
+loop-holds c = (c .before .pre .size, all-left)
 
-if-odd-requires : tie.Need-if-odd-requires Inv-loop μ-loop
-if-odd-requires c κs = search needs
+highest-digit-requires : tie.Need-highest-digit-requires Inv-loop μ-loop
+highest-digit-requires c κs = search needs
 
 carry-from-requires : tie.Need-carry-from-requires Inv-loop μ-loop
 carry-from-requires c κs =
-    let turn = c .before .before in
-    let inv = turn .before .loop .inv in
-    (rw (c .before .if-odd .ensures) (adding-fits (turn .before .before .before .pre) inv), omega (arith, inside turn))
-
-add-j : tie.Need-add-j Inv-loop μ-loop
-add-j c = record { fits = omega (arith, inside (c .before .before .before .before .before)) }
+    let digit = c .before .highest-digit .ensures in
+    let (size, left) = looped (c .before) .loop .inv in
+    (digit-fits left digit (called (looped (c .before)) .pre) size, omega (arith, digit .inside))
 
 loop-less : tie.Need-loop-less Inv-loop μ-loop
-loop-less c = omega arith
+loop-less c =
+    let digit = (c .before .before .before .before .highest-digit .ensures) in
+    omega (arith, digit .parts, pow-pos (c .before .before .before .before .highest-digit .result .place))
 
 loop-again : tie.Need-loop-again Inv-loop μ-loop
 loop-again c =
-    let turn = c .before .before .before .before .before in
-    let step = c .before .before .carry-from .ensures in
-    let odd = c .before .before .before .before .if-odd .ensures in
-    adding-step (turn .before .before .before .pre) (turn .before .loop .inv) (rw odd at step)
+    let added = c .before .before .carry-from .ensures in
+    let d = c .before .before .before .before in
+    (added .size, digit-added (looped d .loop .inv .1) (d .highest-digit .ensures) added)
 
 same-length : tie.Need-same-length Inv-loop μ-loop
-same-length c = omega (arith, c .before .loop .inv .size, c .before .before .before .pre .size)
+same-length c = omega (arith, c .before .loop .inv .0, called (c .before) .pre .size)
 
 returns : tie.Need-returns Inv-loop μ-loop
-returns c = adding-end (c .before .before .before .pre) (c .before .loop .inv) (c .loop-test .left)
+returns c = let (size, left) = c .before .loop .inv in all-added left (c .loop-test .left) size
 
 pub add-line-spec : {M : Type 1} → statement M
 add-line-spec =
@@ -53,9 +56,8 @@ add-line-spec =
     Inv-loop
     μ-loop
     loop-holds
-    if-odd-requires
+    highest-digit-requires
     carry-from-requires
-    add-j
     loop-less
     loop-again
     same-length

@@ -1,10 +1,7 @@
 use Prim.Native.Nat.{ℕ, _+_, _≤_, _<_, _-_}
 use mathlib.Core.Path.{_≡_}
-use mathlib.Core.Logic.{⊎-elim}
-use mathlib.Core.Bool.{cond}
-use lib.Dec.{eqb, eqb→eq}
-use Rattle.model.proofs.Tests.{test, true-T, false-T}
 use native.Mathlib.Omega.{arith}
+use lib.Bits.{bitOr, bitXor, or-add-and, xor-add-and, and-le-l, and-le-r}
 use lib.ListN.{getD}
 use borrow.Author.Count.{below-none, below-more}
 use borrow.Author.Needs.{needs}
@@ -12,38 +9,26 @@ use Rattle.counts.proofs.adders.others.Statement.{statement}
 use Rattle.counts.proofs.adders.others.Tie as tie
 
 abbrev Inv-loop : tie.InvT-loop
-Inv-loop i quantities sum₀ k₀ sum k = (k ≤ 16) × (sum ≤ k) × (sum ≡ 0 → (n : ℕ) → n < k → getD quantities (i + n) 0 ≡ 1)
+Inv-loop i quantities bits₀ k₀ bits k = (k ≤ 16) × (bits ≡ 0 → (n : ℕ) → n < k → getD quantities (i + n) 0 ≡ 1)
 
 abbrev μ-loop : tie.MeasureT-loop
-μ-loop i quantities sum₀ k₀ sum k = 16 - k
+μ-loop i quantities bits₀ k₀ bits k = 16 - k
 
-one-or : (r q : ℕ) → r ≡ cond (eqb q 1) 0 1 → (r ≤ 1) × (r ≡ 0 → q ≡ 1)
-one-or r q e =
-    ⊎-elim
-    (λ y. (omega (arith, rw (true-T (eqb q 1) y) at e), λ _. eqb→eq q 1 y))
-    (λ n. (omega (arith, rw (false-T (eqb q 1) n) at e), λ z. absurd (omega (arith, rw (false-T (eqb q 1) n) at e))))
-    (test (eqb q 1))
-
--- a quantity adds 0 or 1, and 0 only where it is 1
-one-more : (c : tie.After-not-one Inv-loop μ-loop)
-    → let s = c .before .before .before .before .before .args in
-    (c .not-one .result ≤ 1) × (c .not-one .result ≡ 0 → getD (s .quantities .now) (s .i + c .before .before .before .loop .k) 0 ≡ 1)
-one-more c = one-or (c .not-one .result) _ (c .not-one .ensures)
+-- a quantity adds no bit only where it is 1
+no-bit : (bits q : ℕ) → bitOr bits (bitXor q 1) ≡ 0 → (bits ≡ 0) × (q ≡ 1)
+no-bit bits q z =
+    let b = bitXor q 1 in
+    let or = or-add-and bits b in
+    (omega (arith, or, and-le-r bits b), omega (arith, or, and-le-l bits b, xor-add-and q 1, and-le-r q 1))
 
 loop-holds : tie.Need-loop-holds Inv-loop μ-loop
-loop-holds c = (search needs, search needs, λ _. below-none _)
+loop-holds c = (search needs, λ _. below-none _)
 
-add-not-one : tie.Need-add-not-one Inv-loop μ-loop
-add-not-one c = search needs
+add-bits : tie.Need-add-bits Inv-loop μ-loop
+add-bits c = search needs
 
-shared-slice-read-not-one : tie.Need-shared-slice-read-not-one Inv-loop μ-loop
-shared-slice-read-not-one c = search needs
-
-not-one-requires : tie.Need-not-one-requires Inv-loop μ-loop
-not-one-requires c κs = search needs
-
-add-sum : tie.Need-add-sum Inv-loop μ-loop
-add-sum c = record { fits = omega (arith, one-more c .0) }
+shared-slice-read-bits : tie.Need-shared-slice-read-bits Inv-loop μ-loop
+shared-slice-read-bits c = search needs
 
 add-k : tie.Need-add-k Inv-loop μ-loop
 add-k c = search needs
@@ -52,13 +37,10 @@ loop-less : tie.Need-loop-less Inv-loop μ-loop
 loop-less c = search needs
 
 loop-again : tie.Need-loop-again Inv-loop μ-loop
-loop-again c =
-    let inv = c .before .before .before .loop .inv in
-    let (small, one) = one-more c in
-    (search needs, omega arith, λ z. below-more _ _ (inv .2 (omega arith)) (one (omega arith)))
+loop-again c = (search needs, λ z. let (none, one) = no-bit _ _ z in below-more _ _ (c .before .before .loop .inv .1 none) one)
 
 returns : tie.Need-returns Inv-loop μ-loop
-returns c = λ z. record { one = λ k l. c .before .loop .inv .2 z k (omega arith) }
+returns c = λ z. record { one = λ k l. c .before .loop .inv .1 z k (omega arith) }
 
 pub others-spec : {M : Type 1} → statement M
 others-spec =
@@ -67,10 +49,8 @@ others-spec =
     Inv-loop
     μ-loop
     loop-holds
-    add-not-one
-    shared-slice-read-not-one
-    not-one-requires
-    add-sum
+    add-bits
+    shared-slice-read-bits
     add-k
     loop-less
     loop-again
