@@ -10,18 +10,18 @@ use Rattle.table.proofs.largest_split.Statement.{statement}
 use Rattle.table.proofs.largest_split.Tie as tie
 
 abbrev Inv-loop : tie.InvT-loop
-Inv-loop first base allows sums lefts rights best₀ i₀ best i =
+Inv-loop first base pairs allows sums lefts rights best₀ i₀ best i =
     (i ≤ length allows) × (best < 2 ^ 31) × (best ≡ max first (largest (splitAt base allows sums lefts rights) i))
 
 abbrev μ-loop : tie.MeasureT-loop
-μ-loop first base allows sums lefts rights best₀ i₀ best i = length allows - i
+μ-loop first base pairs allows sums lefts rights best₀ i₀ best i = length allows - i
 
 -- the loop, from the split of a tip, and the call's start, from the loop
-abbrev tested : tie.After-shared-slice-known8 Inv-loop μ-loop → tie.In-loop Inv-loop μ-loop
+abbrev tested : tie.After-shared-slice-known9 Inv-loop μ-loop → tie.In-loop Inv-loop μ-loop
 tested c = c .before .before .before .before
 
 abbrev start : tie.At-loop Inv-loop μ-loop → tie.Start Inv-loop μ-loop
-start c = c .before .before .before .before .before
+start c = c .before .before .before .before .before .before
 
 loop-holds : tie.Need-loop-holds Inv-loop μ-loop
 unfolding largest
@@ -54,7 +54,8 @@ shared-slice-read-split-of-4 c = search needs
 split-of-requires : tie.Need-split-of-requires Inv-loop μ-loop
 split-of-requires c κs =
     let t = tested c in
-    start (t .before) .pre .1 .small (t .before .loop .i) (t .loop-test .taken)
+    let given = start (t .before) .pre in
+    (given .1 .small (t .before .loop .i) (t .loop-test .taken), given .2)
 
 larger-requires : tie.Need-larger-requires Inv-loop μ-loop
 larger-requires c κs = search needs
