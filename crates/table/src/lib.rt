@@ -5,7 +5,7 @@ ghost use lib.ListN.{length};
 ghost use mathlib.Core.List.{List};
 ghost use Rattle.model.specs.Interval.{table as tableOf};
 ghost use Rattle.pair_count.specs.PairTable.{PairTable};
-ghost use Rattle.table.specs.Cells.{splitOf, Small, largestAt, SplitLists, allowsOf, zeros, cellBy, Cell, Differences, RunSums, ColumnsBy};
+ghost use Rattle.table.specs.Cells.{splitOf, Small, splitAt, largestAt, SplitLists, allowsOf, zeros, cellBy, Cell, Differences, RunSums, ColumnsBy};
 
 // A column has a place for each tip, and one more.
 const COLUMN_SIZE: usize = model::MOST_TIPS + 1;
@@ -26,7 +26,23 @@ fn split_of(pairs: &[u32], base: u32, allow: u32, sum: u32, left: u32, right: u3
     pair_count::pairs_among(pairs, allow + sum - base) + (left + right)
 }
 
-// The largest of the first split and those at the tips after it: the innermost loop.
+// The split at place i of the lists.
+fn split_at(
+    i: usize,
+    base: u32,
+    pairs: &[u32],
+    allows: &[u32],
+    sums: &[u32],
+    lefts: &[u32],
+    rights: &[u32],
+) -> u32
+    requires { ⌜ (i < length (now allows)) × SplitLists base (now allows) (now sums) (now lefts) (now rights) × PairTable (now pairs) ⌝ }
+    ensures { λ r. ⌜ (r ≡ splitAt base (now (allows .entry)) (now (sums .entry)) (now (lefts .entry)) (now (rights .entry)) i) × (r < 2 ^ 31) ⌝ }
+{
+    split_of(pairs, base, allows[i], sums[i], lefts[i], rights[i])
+}
+
+// The largest of the first split and those at the tips after it: the innermost loop, two tips at a time.
 fn largest_split(
     first: u32,
     base: u32,
@@ -39,14 +55,17 @@ fn largest_split(
     requires { ⌜ (first < 2 ^ 31) × SplitLists base (now allows) (now sums) (now lefts) (now rights) × PairTable (now pairs) ⌝ }
     ensures { λ r. ⌜ r ≡ max first (largestAt base (now (allows .entry)) (now (sums .entry)) (now (lefts .entry)) (now (rights .entry))) ⌝ }
 {
+    let n = allows.len();
     let mut best = first;
     let mut i = 0;
-    while i < allows.len() {
-        best = larger(
-            best,
-            split_of(pairs, base, allows[i], sums[i], lefts[i], rights[i]),
-        );
-        i += 1;
+    while i + 1 < n {
+        let here = split_at(i, base, pairs, allows, sums, lefts, rights);
+        let next = split_at(i + 1, base, pairs, allows, sums, lefts, rights);
+        best = larger(best, larger(here, next));
+        i += 2;
+    }
+    if i < n {
+        best = larger(best, split_at(i, base, pairs, allows, sums, lefts, rights));
     }
     best
 }
