@@ -56,16 +56,20 @@ fn largest_split(
     ensures { λ r. ⌜ r ≡ max first (largestAt base (now (allows .entry)) (now (sums .entry)) (now (lefts .entry)) (now (rights .entry))) ⌝ }
 {
     let n = allows.len();
+    let half = n / 2;
     let mut best = first;
-    let mut i = 0;
-    while i + 1 < n {
-        let here = split_at(i, base, pairs, allows, sums, lefts, rights);
-        let next = split_at(i + 1, base, pairs, allows, sums, lefts, rights);
+    let mut k = 0;
+    while k < half {
+        let here = split_at(2 * k, base, pairs, allows, sums, lefts, rights);
+        let next = split_at(2 * k + 1, base, pairs, allows, sums, lefts, rights);
         best = larger(best, larger(here, next));
-        i += 2;
+        k += 1;
     }
-    if i < n {
-        best = larger(best, split_at(i, base, pairs, allows, sums, lefts, rights));
+    if 2 * half < n {
+        best = larger(
+            best,
+            split_at(2 * half, base, pairs, allows, sums, lefts, rights),
+        );
     }
     best
 }

@@ -1,4 +1,4 @@
-use Prim.Native.Nat.{_+_, _-_, _^_, _≤_, _<_, max}
+use Prim.Native.Nat.{_+_, _*_, _-_, _/_, _^_, _≤_, _<_, max}
 use mathlib.Core.Path.{_≡_}
 use lib.ListN.{length}
 use Rattle.model.specs.Count.{largest}
@@ -10,11 +10,11 @@ use Rattle.table.proofs.largest_split.Statement.{statement}
 use Rattle.table.proofs.largest_split.Tie as tie
 
 abbrev Inv-loop : tie.InvT-loop
-Inv-loop first base pairs allows sums lefts rights n best₀ i₀ best i =
-    (i ≤ length allows) × (best < 2 ^ 31) × (best ≡ max first (largest (splitAt base allows sums lefts rights) i))
+Inv-loop first base pairs allows sums lefts rights n half best₀ k₀ best k =
+    (k ≤ length allows / 2) × (best < 2 ^ 31) × (best ≡ max first (largest (splitAt base allows sums lefts rights) (2 * k)))
 
 abbrev μ-loop : tie.MeasureT-loop
-μ-loop first base pairs allows sums lefts rights n best₀ i₀ best i = length allows - i
+μ-loop first base pairs allows sums lefts rights n half best₀ k₀ best k = length allows / 2 - k
 
 -- the call's start, from the loop; and the loop, from the two splits of a turn
 abbrev start : tie.At-loop Inv-loop μ-loop → tie.Start Inv-loop μ-loop
@@ -27,11 +27,14 @@ loop-holds : tie.Need-loop-holds Inv-loop μ-loop
 unfolding largest
 loop-holds c = (search needs, omega arith, omega arith)
 
-add-loop : tie.Need-add-loop Inv-loop μ-loop
-add-loop c = search needs
+mul-split-at : tie.Need-mul-split-at Inv-loop μ-loop
+mul-split-at c = search needs
 
 split-at-requires : tie.Need-split-at-requires Inv-loop μ-loop
 split-at-requires c κs = search needs
+
+mul-split-at-2 : tie.Need-mul-split-at-2 Inv-loop μ-loop
+mul-split-at-2 c = search needs
 
 add-split-at : tie.Need-add-split-at Inv-loop μ-loop
 add-split-at c = search needs
@@ -47,8 +50,8 @@ larger-requires-2 c κs =
     let t = c .before in
     (looped t .loop .inv .1, omega (arith, t .split-at2 .ensures .1, t .before .split-at .ensures .1, c .larger .ensures))
 
-add-i : tie.Need-add-i Inv-loop μ-loop
-add-i c = search needs
+add-k : tie.Need-add-k Inv-loop μ-loop
+add-k c = search needs
 
 loop-less : tie.Need-loop-less Inv-loop μ-loop
 loop-less c = search needs
@@ -59,8 +62,8 @@ loop-again c =
     let l = looped t in
     let args = start l .args in
     let f = splitAt (args .base) (args .allows .now) (args .sums .now) (args .lefts .now) (args .rights .now) in
-    let i = l .loop .i in
-    let e : i + 1 + 1 ≡ i + 2 = omega arith in
+    let i = 2 * l .loop .k in
+    let e : i + 1 + 1 ≡ 2 * (l .loop .k + 1) = omega arith in
     let here = t .before .split-at .ensures in
     let next = t .split-at2 .ensures in
     let best = l .loop .inv in (
@@ -78,6 +81,12 @@ loop-again c =
       ),
     )
 
+mul-if1 : tie.Need-mul-if1 Inv-loop μ-loop
+mul-if1 c = search needs
+
+mul-split-at-3 : tie.Need-mul-split-at-3 Inv-loop μ-loop
+mul-split-at-3 c = search needs
+
 split-at-requires-3 : tie.Need-split-at-requires-3 Inv-loop μ-loop
 split-at-requires-3 c κs = search needs
 
@@ -89,13 +98,15 @@ returns c =
     let l = c .before .before .before .before in
     let args = start l .args in
     let f = splitAt (args .base) (args .allows .now) (args .sums .now) (args .lefts .now) (args .rights .now) in
-    let e : length (args .allows .now) ≡ l .loop .i + 1 = omega arith in
-    rw e (omega (arith, l .loop .inv .2, c .before .split-at3 .ensures .0, c .larger3 .ensures, largest-more f (l .loop .i)))
+    let i = 2 * l .loop .k in
+    let h : l .loop .k ≡ length (args .allows .now) / 2 = omega arith in
+    let e : length (args .allows .now) ≡ i + 1 = omega arith in
+    rw e (omega (arith, l .loop .inv .2, rw (← h) at (c .before .split-at3 .ensures .0), c .larger3 .ensures, largest-more f i))
 
 returns-2 : tie.Need-returns-2 Inv-loop μ-loop
 returns-2 c =
     let l = c .before .before in
-    let e : length (start l .args .allows .now) ≡ l .loop .i = omega arith in
+    let e : length (start l .args .allows .now) ≡ 2 * l .loop .k = omega arith in
     rw e (l .loop .inv .2)
 
 pub largest-split-spec : {M : Type 1} → statement M
@@ -105,15 +116,18 @@ largest-split-spec =
     Inv-loop
     μ-loop
     loop-holds
-    add-loop
+    mul-split-at
     split-at-requires
+    mul-split-at-2
     add-split-at
     split-at-requires-2
     larger-requires
     larger-requires-2
-    add-i
+    add-k
     loop-less
     loop-again
+    mul-if1
+    mul-split-at-3
     split-at-requires-3
     larger-requires-3
     returns
