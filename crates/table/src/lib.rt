@@ -42,7 +42,7 @@ fn split_at(
     split_of(pairs, base, allows[i], sums[i], lefts[i], rights[i])
 }
 
-// The largest of the first split and those at the tips after it: the innermost loop, two tips at a time.
+// The largest of the first split and those at the tips after it: the innermost loop, two tips a turn.
 fn largest_split(
     first: u32,
     base: u32,
