@@ -5,6 +5,7 @@ ghost use lib.ListN.{length};
 ghost use Rattle.model.specs.Limits.{mostLines};
 ghost use Rattle.placements.specs.Repeated.{repeated};
 ghost use Rattle.head.specs.OnHead.{onHead};
+ghost use Rattle.pair_count.specs.PairTable.{PairTable};
 ghost use Rattle.counts.specs.Counts.{Counts};
 ghost use Rattle.blocks.specs.Blocks.{Below};
 ghost use Rattle.greedy.specs.Rounds.{Shareable, QuickShared, Takeable, LineTaken, ListTaken};
@@ -80,6 +81,7 @@ fn take_lines(
 fn take_rounds(
     rack: usize,
     mounted: Mounted,
+    pairs: &[u32],
     unions: &mut [u64],
     blocks: &mut [u16],
     places: &mut [u16],
@@ -88,7 +90,8 @@ fn take_rounds(
     plan: &mut [u8],
     counts: &mut [u64],
 ) -> u32
-    requires { ⌜ RoundsReady rack (now quantities) (now left) (now plan) (now counts) (now unions) (now blocks) (now places) ⌝ }
+    requires { ⌜ RoundsReady rack (now quantities) (now left) (now plan) (now counts) (now unions) (now blocks) (now places)
+        × PairTable (now pairs) ⌝ }
     ensures { λ r. ⌜ QuickShared (onHead mounted) rack (now (quantities .entry)) (now (left .entry)) r (now (plan .exit)) (now (left .exit)) ⌝ }
 {
     let mut shared = 0;
@@ -98,7 +101,7 @@ fn take_rounds(
             return shared;
         }
         let tip = head::choose(mounted, busiest.tips);
-        shared += pair_count::pairs_among(busiest.top);
+        shared += pair_count::pairs_among(pairs, busiest.top);
         take_lines(tip, unions, blocks, places, quantities, left, plan, counts);
     }
 }
@@ -127,9 +130,11 @@ fn plan_counted(
     blocks::unite((left.len() + 7) / 8, left, &mut unions);
     let mut blocks = [0u16; blocks::BLOCKS];
     let mut places = no_lines();
+    let pairs = pair_count::pair_table();
     take_rounds(
         rack,
         mounted,
+        &pairs,
         &mut unions,
         &mut blocks,
         &mut places,

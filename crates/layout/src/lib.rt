@@ -10,6 +10,7 @@ ghost use Rattle.model.specs.Plan.{Domain};
 ghost use Rattle.model.specs.Choice.{tip};
 ghost use Rattle.model.specs.Interval.{any, isRun, planFor};
 ghost use Rattle.head.specs.OnHead.{onHead};
+ghost use Rattle.pair_count.specs.PairTable.{PairTable};
 ghost use Rattle.layout.specs.Picks.{mostBy, splitBy, lowestBy, pickBy, Ready, Filled, Layable};
 ghost use Rattle.layout.specs.Owners.{ownersSize, ownerOf, owned, laid};
 use head::Mounted;
@@ -29,55 +30,79 @@ fn most_at(m: usize, table: &[u32], a: usize, w: usize) -> u32
 }
 
 // The pairs of the interval if tip a + i takes its lines.
-fn split_at(m: usize, sums: &[u32], table: &[u32], a: usize, w: usize, i: usize) -> u32
-    requires { ⌜ Filled m (now sums) (now table) × (a + w ≤ m) × (i < w) ⌝ }
+fn split_at(
+    m: usize,
+    pairs: &[u32],
+    sums: &[u32],
+    table: &[u32],
+    a: usize,
+    w: usize,
+    i: usize,
+) -> u32
+    requires { ⌜ Filled m (now sums) (now table) × (a + w ≤ m) × (i < w) × PairTable (now pairs) ⌝ }
     ensures { λ r. ⌜ r ≡ splitBy m (now (sums .entry)) (now (table .entry)) a w i ⌝ }
 {
-    let here = pair_count::pairs_among(spans::inside_at(sums, a, w, a + i));
+    let here = pair_count::pairs_among(pairs, spans::inside_at(sums, a, w, a + i));
     let before = most_at(m, table, a, i);
     let after = most_at(m, table, a + i + 1, w - (i + 1));
     here + (before + after)
 }
 
 // The lowest tip of the interval, less a, that attains the most pairs.
-fn find_lowest(m: usize, sums: &[u32], table: &[u32], a: usize, w: usize) -> usize
-    requires { ⌜ Filled m (now sums) (now table) × (a + w ≤ m) × (0 < w) ⌝ }
+fn find_lowest(m: usize, pairs: &[u32], sums: &[u32], table: &[u32], a: usize, w: usize) -> usize
+    requires { ⌜ Filled m (now sums) (now table) × (a + w ≤ m) × (0 < w) × PairTable (now pairs) ⌝ }
     ensures { λ r. ⌜ r ≡ lowestBy m (now (sums .entry)) (now (table .entry)) a w ⌝ }
 {
     let most = most_at(m, table, a, w);
     let mut i = 0;
-    while split_at(m, sums, table, a, w, i) < most {
+    while split_at(m, pairs, sums, table, a, w, i) < most {
         i += 1;
     }
     i
 }
 
 // The mounted tip, less a, if it is in the interval and attains the most pairs; else the lowest that does.
-fn find_mounted(m: usize, on: usize, sums: &[u32], table: &[u32], a: usize, w: usize) -> usize
-    requires { ⌜ Filled m (now sums) (now table) × (a + w ≤ m) × (0 < w) ⌝ }
+fn find_mounted(
+    m: usize,
+    on: usize,
+    pairs: &[u32],
+    sums: &[u32],
+    table: &[u32],
+    a: usize,
+    w: usize,
+) -> usize
+    requires { ⌜ Filled m (now sums) (now table) × (a + w ≤ m) × (0 < w) × PairTable (now pairs) ⌝ }
     ensures { λ r. ⌜ r ≡ pickBy (tip on) m (now (sums .entry)) (now (table .entry)) a w ⌝ }
 {
     if on < a {
-        return find_lowest(m, sums, table, a, w);
+        return find_lowest(m, pairs, sums, table, a, w);
     }
     let i = on - a;
     if w <= i {
-        return find_lowest(m, sums, table, a, w);
+        return find_lowest(m, pairs, sums, table, a, w);
     }
-    if split_at(m, sums, table, a, w, i) < most_at(m, table, a, w) {
-        return find_lowest(m, sums, table, a, w);
+    if split_at(m, pairs, sums, table, a, w, i) < most_at(m, table, a, w) {
+        return find_lowest(m, pairs, sums, table, a, w);
     }
     i
 }
 
 // The interval's tip, less a: of those that attain the most pairs the mounted one, else the lowest.
-fn find_tip(m: usize, mounted: Mounted, sums: &[u32], table: &[u32], a: usize, w: usize) -> usize
-    requires { ⌜ Filled m (now sums) (now table) × (a + w ≤ m) × (0 < w) ⌝ }
+fn find_tip(
+    m: usize,
+    mounted: Mounted,
+    pairs: &[u32],
+    sums: &[u32],
+    table: &[u32],
+    a: usize,
+    w: usize,
+) -> usize
+    requires { ⌜ Filled m (now sums) (now table) × (a + w ≤ m) × (0 < w) × PairTable (now pairs) ⌝ }
     ensures { λ r. ⌜ r ≡ pickBy (onHead mounted) m (now (sums .entry)) (now (table .entry)) a w ⌝ }
 {
     match mounted {
-        Mounted::Nothing => find_lowest(m, sums, table, a, w),
-        Mounted::Tip(on) => find_mounted(m, on, sums, table, a, w),
+        Mounted::Nothing => find_lowest(m, pairs, sums, table, a, w),
+        Mounted::Tip(on) => find_mounted(m, on, pairs, sums, table, a, w),
     }
 }
 
@@ -138,18 +163,19 @@ fn plan_owners(m: usize, lines: &[u64], owner: &[u8], plan: &mut [u8])
 fn lay_interval(
     m: usize,
     mounted: Mounted,
+    pairs: &[u32],
     sums: &[u32],
     table: &[u32],
     a: usize,
     w: usize,
     owner: &mut [u8],
 )
-    requires { ⌜ Layable m (now sums) (now table) a w (now owner) ⌝ }
+    requires { ⌜ Layable m (now sums) (now table) a w (now owner) × PairTable (now pairs) ⌝ }
     ensures { λ _. ⌜ now (owner .exit) ≡ laid (pickBy (onHead mounted) m (now (sums .entry)) (now (table .entry))) a w (now (owner .entry)) ⌝ }
 {
     if 0 < w {
-        let i = find_tip(m, mounted, sums, table, a, w);
-        lay_tip(m, mounted, sums, table, a, w, i, owner);
+        let i = find_tip(m, mounted, pairs, sums, table, a, w);
+        lay_tip(m, mounted, pairs, sums, table, a, w, i, owner);
     }
 }
 
@@ -157,6 +183,7 @@ fn lay_interval(
 fn lay_tip(
     m: usize,
     mounted: Mounted,
+    pairs: &[u32],
     sums: &[u32],
     table: &[u32],
     a: usize,
@@ -164,12 +191,22 @@ fn lay_tip(
     i: usize,
     owner: &mut [u8],
 )
-    requires { ⌜ Layable m (now sums) (now table) a w (now owner) × (i < w) × (i ≡ pickBy (onHead mounted) m (now sums) (now table) a w) ⌝ }
+    requires { ⌜ Layable m (now sums) (now table) a w (now owner) × (i < w) × (i ≡ pickBy (onHead mounted) m (now sums) (now table) a w)
+        × PairTable (now pairs) ⌝ }
     ensures { λ _. ⌜ now (owner .exit) ≡ laid (pickBy (onHead mounted) m (now (sums .entry)) (now (table .entry))) a w (now (owner .entry)) ⌝ }
 {
     own_runs(a, w, i, owner);
-    lay_interval(m, mounted, sums, table, a, i, owner);
-    lay_interval(m, mounted, sums, table, a + i + 1, w - (i + 1), owner);
+    lay_interval(m, mounted, pairs, sums, table, a, i, owner);
+    lay_interval(
+        m,
+        mounted,
+        pairs,
+        sums,
+        table,
+        a + i + 1,
+        w - (i + 1),
+        owner,
+    );
 }
 
 // The plan of sets that are unbroken runs, from the sums and the table of the lines counted, where any tip may be chosen.
@@ -186,7 +223,8 @@ pub fn plan_lines(
     ensures { λ _. ⌜ ((lines : List ℕ) → Ready m lines (now (sums .entry)) (now (table .entry))
         → now (plan .exit) ≡ planFor (onHead mounted) any m lines (now (sets .entry))) ⌝ }
 {
+    let pairs = pair_count::pair_table();
     let mut owner = no_owners();
-    lay_interval(m, mounted, sums, table, 0, m, &mut owner);
+    lay_interval(m, mounted, &pairs, sums, table, 0, m, &mut owner);
     plan_owners(m, sets, &owner, plan);
 }

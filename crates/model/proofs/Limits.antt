@@ -1,7 +1,7 @@
 -- How large the numbers of a board are.
 use Prim.Native.Nat.{ℕ, zero, suc, _+_, _*_, _-_, _≤_}
 use native.Mathlib.Omega.{arith}
-use native.Mathlib.Nat.{mul-le-mul, le-trans}
+use native.Mathlib.Nat.{le-trans}
 use mathlib.Core.Logic.{_↔_}
 use mathlib.Core.List.{List}
 use lib.Dec.{T, leb, leb→le, le→leb}
@@ -10,7 +10,7 @@ use Rattle.model.specs.Plan.{rackOk, pairs, choose2}
 use Rattle.model.specs.Interval.{inside, C}
 use Rattle.model.specs.Limits.{mostTips, mostPlacements, mostPairs}
 use Rattle.model.proofs.Tests.{and-left, and-right, and-in}
-use Rattle.model.proofs.Pairs.{choose2-square, choose2-mono, pairs-le}
+use Rattle.model.proofs.Pairs.{choose2-mono, pairs-le}
 use Rattle.model.proofs.Largest.{largest-le}
 use Rattle.model.proofs.AllTips.{inside-length}
 use Rattle.model.proofs.Best.{C-zero, C-split}
@@ -23,11 +23,7 @@ rack-iff m = (
   λ (l, h). and-in (leb 1 m) (leb m 64) (le→leb 1 m l) (le→leb m 64 h),
 )
 
--- the square of a count of placements
-pub square-few : (p : ℕ) → p ≤ mostPlacements → (p ≤ p * p) × (p * p ≤ mostPlacements * mostPlacements)
-square-few p h = (omega (arith, choose2-square p), mul-le-mul h h)
-
--- their pairs
+-- the pairs of a count of placements
 pub choose2-few : (p : ℕ) → p ≤ mostPlacements → choose2 p ≤ mostPairs
 unfolding choose2
 choose2-few p h = choose2-mono h

@@ -4,16 +4,13 @@ ghost use Prim.Native.Nat.{ℕ, _+_, _*_, _-_, _^_, _≤_, _<_, max};
 ghost use lib.ListN.{length};
 ghost use mathlib.Core.List.{List};
 ghost use Rattle.model.specs.Interval.{table as tableOf};
-ghost use Rattle.model.specs.Limits.{mostPlacements};
-ghost use Rattle.table.specs.Cells.{splitOf, Small, largestAt, SplitLists, allowsOf, zeros, cellBy, Cell, Differences, RunSums, ColumnsBy};
-
-// A power of two that is more than the most placements.
-const SHORT: u32 = 4096;
+ghost use Rattle.pair_count.specs.PairTable.{PairTable};
+ghost use Rattle.table.specs.Cells.{splitOf, Small, splitAt, largestAt, SplitLists, allowsOf, zeros, cellBy, Cell, Differences, RunSums, ColumnsBy};
 
 // A column has a place for each tip, and one more.
 const COLUMN_SIZE: usize = model::MOST_TIPS + 1;
 
-// Signed numbers, because the compiler has one instruction to compare four of them.
+// Signed numbers, because the processor selects by a signed comparison in one step, and by an unsigned one in two.
 fn larger(x: u32, y: u32) -> u32
     requires { ⌜ (x < 2 ^ 31) × (y < 2 ^ 31) ⌝ }
     ensures { λ r. ⌜ r ≡ max x y ⌝ }
@@ -21,43 +18,58 @@ fn larger(x: u32, y: u32) -> u32
     if (x as i32) < (y as i32) { y } else { x }
 }
 
-// The remainder changes nothing: it tells the compiler that the number is short, and has a short product.
-fn lines_on(base: u32, allow: u32, sum: u32) -> u32
-    requires { ⌜ (base ≤ allow + sum) × (allow + sum ≤ base + mostPlacements) × (allow + sum ≤ 2 * mostPlacements) ⌝ }
-    ensures { λ r. ⌜ r ≡ allow + sum - base ⌝ }
-{
-    (allow + sum - base) % SHORT
-}
-
-// p * p - p, and not p * (p - 1), which goes below zero without lines.
-fn split_of(base: u32, allow: u32, sum: u32, left: u32, right: u32) -> u32
-    requires { ⌜ Small base allow sum left right ⌝ }
+// The pairs of an interval if a tip takes its lines.
+fn split_of(pairs: &[u32], base: u32, allow: u32, sum: u32, left: u32, right: u32) -> u32
+    requires { ⌜ Small base allow sum left right × PairTable (now pairs) ⌝ }
     ensures { λ r. ⌜ (r ≡ splitOf base allow sum left right) × (r < 2 ^ 31) ⌝ }
 {
-    let p = lines_on(base, allow, sum);
-    (p * p - p) / 2 + (left + right)
+    pair_count::pairs_among(pairs, allow + sum - base) + (left + right)
 }
 
-// The largest of the first split and those at the tips after it: the innermost loop.
-fn largest_split(
-    first: u32,
+// The split at place i of the lists.
+fn split_at(
+    i: usize,
     base: u32,
+    pairs: &[u32],
     allows: &[u32],
     sums: &[u32],
     lefts: &[u32],
     rights: &[u32],
 ) -> u32
-    requires { ⌜ (first < 2 ^ 31) × SplitLists base (now allows) (now sums) (now lefts) (now rights) ⌝ }
+    requires { ⌜ (i < length (now allows)) × SplitLists base (now allows) (now sums) (now lefts) (now rights) × PairTable (now pairs) ⌝ }
+    ensures { λ r. ⌜ (r ≡ splitAt base (now (allows .entry)) (now (sums .entry)) (now (lefts .entry)) (now (rights .entry)) i) × (r < 2 ^ 31) ⌝ }
+{
+    split_of(pairs, base, allows[i], sums[i], lefts[i], rights[i])
+}
+
+// The largest of the first split and those at the tips after it: the innermost loop, two tips a turn.
+fn largest_split(
+    first: u32,
+    base: u32,
+    pairs: &[u32],
+    allows: &[u32],
+    sums: &[u32],
+    lefts: &[u32],
+    rights: &[u32],
+) -> u32
+    requires { ⌜ (first < 2 ^ 31) × SplitLists base (now allows) (now sums) (now lefts) (now rights) × PairTable (now pairs) ⌝ }
     ensures { λ r. ⌜ r ≡ max first (largestAt base (now (allows .entry)) (now (sums .entry)) (now (lefts .entry)) (now (rights .entry))) ⌝ }
 {
+    let n = allows.len();
+    let half = n / 2;
     let mut best = first;
-    let mut i = 0;
-    while i < allows.len() {
+    let mut k = 0;
+    while k < half {
+        let here = split_at(2 * k, base, pairs, allows, sums, lefts, rights);
+        let next = split_at(2 * k + 1, base, pairs, allows, sums, lefts, rights);
+        best = larger(best, larger(here, next));
+        k += 1;
+    }
+    if 2 * half < n {
         best = larger(
             best,
-            split_of(base, allows[i], sums[i], lefts[i], rights[i]),
+            split_at(2 * half, base, pairs, allows, sums, lefts, rights),
         );
-        i += 1;
     }
     best
 }
@@ -87,12 +99,13 @@ fn cell(
     m: usize,
     a: usize,
     b: usize,
+    pairs: &[u32],
     sums: &[u32],
     allows: &[u32],
     column: &[u32],
     table: &[u32],
 ) -> u32
-    requires { ⌜ Cell m a b (now sums) (now allows) (now column) (now table) ⌝ }
+    requires { ⌜ Cell m a b (now sums) (now allows) (now column) (now table) × PairTable (now pairs) ⌝ }
     ensures { λ r. ⌜ r ≡ cellBy m a b (now (sums .entry)) (now (allows .entry)) (now (column .entry)) (now (table .entry)) ⌝ }
 {
     let row = a * spans::SUMS_WIDTH;
@@ -105,10 +118,11 @@ fn cell(
     let next_right = a + 2;
     let end_right = b + 2;
     let base = sums[end_sum];
-    let first = split_of(base, allows[a], sums[row + a], 0, column[next]);
+    let first = split_of(pairs, base, allows[a], sums[row + a], 0, column[next]);
     largest_split(
         first,
         base,
+        pairs,
         &allows[next..end],
         &sums[next_sum..end_sum],
         &table[first_cell..end_cell],
@@ -117,8 +131,8 @@ fn cell(
 }
 
 // Column b, from the diagonal up.
-fn fill_column(m: usize, b: usize, sums: &[u32], table: &mut [u32])
-    requires { ⌜ ((lines : List ℕ) × RunSums m lines (now sums)) × (b < m) × ColumnsBy m (now sums) (now table) b ⌝ }
+fn fill_column(m: usize, b: usize, pairs: &[u32], sums: &[u32], table: &mut [u32])
+    requires { ⌜ ((lines : List ℕ) × RunSums m lines (now sums)) × (b < m) × ColumnsBy m (now sums) (now table) b × PairTable (now pairs) ⌝ }
     ensures { λ _. ⌜ ColumnsBy m (now (sums .entry)) (now (table .exit)) (b + 1) ⌝ }
 {
     let mut allows = zeros();
@@ -127,7 +141,7 @@ fn fill_column(m: usize, b: usize, sums: &[u32], table: &mut [u32])
     let mut a = b + 1;
     while 0 < a {
         a -= 1;
-        let best = cell(m, a, b, sums, &allows, &column, table);
+        let best = cell(m, a, b, pairs, sums, &allows, &column, table);
         table[a * m + b] = best;
         column[a] = best;
     }
@@ -138,10 +152,11 @@ pub fn fill_table(m: usize, sums: &[u32], table: &mut [u32])
     requires { ⌜ ((lines : List ℕ) × RunSums m lines (now sums)) × (length (now table) ≡ m * m) ⌝ }
     ensures { λ _. ⌜ ((lines : List ℕ) → RunSums m lines (now (sums .entry)) → now (table .exit) ≡ tableOf m lines) ⌝ }
 {
+    let pairs = pair_count::pair_table();
     spans::clear(table);
     let mut b = 0;
     while b < m {
-        fill_column(m, b, sums, table);
+        fill_column(m, b, &pairs, sums, table);
         b += 1;
     }
 }

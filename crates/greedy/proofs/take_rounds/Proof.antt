@@ -9,15 +9,15 @@ use Rattle.greedy.proofs.take_rounds.Statement.{statement}
 use Rattle.greedy.proofs.take_rounds.Tie as tie
 
 abbrev Inv-loop : tie.InvT-loop
-Inv-loop rack mounted unions₀ blocks₀ places₀ qs left₀ plan₀ counts₀ shared₀ unions blocks places left plan counts shared =
+Inv-loop rack mounted pairs unions₀ blocks₀ places₀ qs left₀ plan₀ counts₀ shared₀ unions blocks places left plan counts shared =
     Ongoing (onHead mounted) rack shared qs left₀ left plan counts unions₀ unions blocks₀ blocks places₀ places
 
 abbrev μ-loop : tie.MeasureT-loop
-μ-loop rack mounted unions₀ blocks₀ places₀ qs left₀ plan₀ counts₀ shared₀ unions blocks places left plan counts shared = length (toPlan qs left)
+μ-loop rack mounted pairs unions₀ blocks₀ places₀ qs left₀ plan₀ counts₀ shared₀ unions blocks places left plan counts shared = length (toPlan qs left)
 
 -- the places that the answers speak of: the call, a round's busiest tips, its choice, its pairs, and the round done
 abbrev begins : tie.After-slice-known6 Inv-loop μ-loop → tie.Start Inv-loop μ-loop
-begins c = c .before .before .before .before .before .before .before
+begins c = c .before .before .before .before .before .before .before .before
 
 abbrev called : tie.At-loop Inv-loop μ-loop → tie.Start Inv-loop μ-loop
 called c = begins (c .before)
@@ -41,7 +41,7 @@ begun : (c : tie.After-busiest-tips Inv-loop μ-loop)
     Begun (onHead (s .mounted)) (s .rack) (s .quantities .now) (s .left .now) (l .left) (l .plan) (l .counts) (l .shared) top
 begun c =
     let l = looped c in
-    record { state = l .loop .inv .state; good = called l .pre .shareable .good; is-most = c .busiest-tips .ensures .0 }
+    record { state = l .loop .inv .state; good = called l .pre .0 .shareable .good; is-most = c .busiest-tips .ensures .0 }
 
 chosen : (c : tie.After-choose Inv-loop μ-loop)
     → let b = counted c in
@@ -56,7 +56,7 @@ chosen c =
 
 loop-holds : tie.Need-loop-holds Inv-loop μ-loop
 loop-holds c =
-    let p = begins c .pre in
+    let p = begins c .pre .0 in
     let s = p .shareable in
     record {
       state = start _ (s .good .domains) (s .size) (p .counts-are);
@@ -69,7 +69,7 @@ loop-holds c =
 busiest-tips-requires : tie.Need-busiest-tips-requires Inv-loop μ-loop
 busiest-tips-requires c κs =
     let l = c .before in
-    (l .loop .inv .state .counts-are .size, called l .pre .shareable .good .most)
+    (l .loop .inv .state .counts-are .size, called l .pre .0 .shareable .good .most)
 
 same-length : tie.Need-same-length Inv-loop μ-loop
 same-length c = looped (c .before .before) .loop .inv .unions-size
@@ -87,12 +87,12 @@ same-length-5 : tie.Need-same-length-5 Inv-loop μ-loop
 same-length-5 c =
     let l = looped (c .before .before) in
     let state = l .loop .inv .state in
-    state .plan-size ∙ state .size ∙ sym (called l .pre .shareable .size)
+    state .plan-size ∙ state .size ∙ sym (called l .pre .0 .shareable .size)
 
 same-length-6 : tie.Need-same-length-6 Inv-loop μ-loop
 same-length-6 c =
     let l = looped (c .before .before) in
-    l .loop .inv .state .counts-are .size ∙ sym (called l .pre .counts-are .size)
+    l .loop .inv .state .counts-are .size ∙ sym (called l .pre .0 .counts-are .size)
 
 returns : tie.Need-returns Inv-loop μ-loop
 returns c =
@@ -104,7 +104,9 @@ choose-requires : tie.Need-choose-requires Inv-loop μ-loop
 choose-requires c κs = search needs
 
 pairs-among-requires : tie.Need-pairs-among-requires Inv-loop μ-loop
-pairs-among-requires c κs = few-placements (begun (counted c))
+pairs-among-requires c κs =
+    let b = counted c in
+    (called (looped b) .pre .1, few-placements (begun b))
 
 add-shared : tie.Need-add-shared Inv-loop μ-loop
 add-shared c = record { fits = omega (arith, pairs-fit (chosen (c .before)) (c .pairs-among .ensures)) }
@@ -113,7 +115,7 @@ take-lines-requires : tie.Need-take-lines-requires Inv-loop μ-loop
 take-lines-requires c κs =
     let t = paired c .before in
     let l = looped (counted t) in
-    let fit = called l .pre .fit in
+    let fit = called l .pre .0 .fit in
     let inv = l .loop .inv in
     record {
       takeable = tip-takeable (chosen t);

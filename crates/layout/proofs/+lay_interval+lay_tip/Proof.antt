@@ -19,29 +19,29 @@ use Rattle.layout.proofs.own_runs.Reads as own-runs-reads
 use Rattle.layout.proofs.+lay_interval+lay_tip.{statement}
 use Rattle.layout.proofs.+lay_interval+lay_tip.Tie.{close}
 
-abbrev μ-lay-interval : Measures 3 lay-interval-kinds.ps ℕ
-μ-lay-interval κs a = a .1 .1 .1 .1 .1 .0 + a .1 .1 .1 .1 .1 .0
+abbrev μ-lay-interval : Measures 4 lay-interval-kinds.ps ℕ
+μ-lay-interval κs a = a .1 .1 .1 .1 .1 .1 .0 + a .1 .1 .1 .1 .1 .1 .0
 
-abbrev μ-lay-tip : Measures 3 lay-tip-kinds.ps ℕ
-μ-lay-tip κs a = a .1 .1 .1 .1 .1 .0 + a .1 .1 .1 .1 .1 .0 - 1
+abbrev μ-lay-tip : Measures 4 lay-tip-kinds.ps ℕ
+μ-lay-tip κs a = a .1 .1 .1 .1 .1 .1 .0 + a .1 .1 .1 .1 .1 .1 .0 - 1
 
-abbrev lay-interval-at : ℕ → In 3 lay-interval-kinds.ps
+abbrev lay-interval-at : ℕ → In 4 lay-interval-kinds.ps
 lay-interval-at t =
-    and 3 lay-interval-kinds.ps (is 3 lay-interval-kinds.ps μ-lay-interval t) lay-interval.Pre
+    and 4 lay-interval-kinds.ps (is 4 lay-interval-kinds.ps μ-lay-interval t) lay-interval.Pre
 
-abbrev lay-interval-below : ℕ → In 3 lay-interval-kinds.ps
+abbrev lay-interval-below : ℕ → In 4 lay-interval-kinds.ps
 lay-interval-below t =
     and
-    3
+    4
     lay-interval-kinds.ps
-    (falls 3 lay-interval-kinds.ps _<_ μ-lay-interval t)
+    (falls 4 lay-interval-kinds.ps _<_ μ-lay-interval t)
     lay-interval.Pre
 
-abbrev lay-tip-at : ℕ → In 3 lay-tip-kinds.ps
-lay-tip-at t = and 3 lay-tip-kinds.ps (is 3 lay-tip-kinds.ps μ-lay-tip t) lay-tip.Pre
+abbrev lay-tip-at : ℕ → In 4 lay-tip-kinds.ps
+lay-tip-at t = and 4 lay-tip-kinds.ps (is 4 lay-tip-kinds.ps μ-lay-tip t) lay-tip.Pre
 
-abbrev lay-tip-below : ℕ → In 3 lay-tip-kinds.ps
-lay-tip-below t = and 3 lay-tip-kinds.ps (falls 3 lay-tip-kinds.ps _<_ μ-lay-tip t) lay-tip.Pre
+abbrev lay-tip-below : ℕ → In 4 lay-tip-kinds.ps
+lay-tip-below t = and 4 lay-tip-kinds.ps (falls 4 lay-tip-kinds.ps _<_ μ-lay-tip t) lay-tip.Pre
 
 -- what the callees of each of the two ask and give, and its call's start
 abbrev lay-interval-claims : ℕ → lay-interval-lts.Claims
@@ -53,7 +53,7 @@ lay-tip-claims t = (own-runs-reads.Asked, own-runs-reads.Learnt, lay-interval-be
 module _ (t : ℕ) where
   abbrev interval : lay-interval-lts.After-slice-known (lay-interval-claims t) (lay-interval-at t) lay-interval.Post
       → lay-interval-lts.Start (lay-interval-claims t) (lay-interval-at t) lay-interval.Post
-  interval c = c .before .before .before
+  interval c = c .before .before .before .before
 
   abbrev own : lay-tip-lts.After-lay-interval-arg (lay-tip-claims t) (lay-tip-at t) lay-tip.Post
       → lay-tip-lts.After-own-runs (lay-tip-claims t) (lay-tip-at t) lay-tip.Post
@@ -61,12 +61,12 @@ module _ (t : ℕ) where
 
   abbrev tip : lay-tip-lts.After-own-runs-arg (lay-tip-claims t) (lay-tip-at t) lay-tip.Post
       → lay-tip-lts.Start (lay-tip-claims t) (lay-tip-at t) lay-tip.Post
-  tip c = c .before .before .before .before
+  tip c = c .before .before .before .before .before
 
 lay-interval-find-tip-requires : (t : ℕ) → lay-interval-lts.Need-find-tip-requires (lay-interval-claims t) (lay-interval-at t) lay-interval.Post
 lay-interval-find-tip-requires t c κs =
-    let p = interval t (c .before) .pre .1 in
-    (p .filled, p .inside, c .if1 .taken)
+    let (p, right) = interval t (c .before) .pre .1 in
+    (p .filled, p .inside, c .if1 .taken, right)
 
 lay-interval-lay-tip-requires : (t : ℕ) → lay-interval-lts.Need-lay-tip-requires (lay-interval-claims t) (lay-interval-at t) lay-interval.Post
 lay-interval-lay-tip-requires t c κs =
@@ -74,10 +74,10 @@ lay-interval-lay-tip-requires t c κs =
     let a = s .args in
     let found = c .before .find-tip .ensures in
     let l = pick-lt (onHead (a .mounted)) (a .m) (a .sums .now) (a .table .now) (a .a) (a .w) (omega arith) in
-    (omega (arith, s .pre .0), (s .pre .1, omega (arith, found, l), found))
+    (omega (arith, s .pre .0), (s .pre .1 .0, omega (arith, found, l), found, s .pre .1 .1))
 
 lay-interval-same-length : (t : ℕ) → lay-interval-lts.Need-same-length (lay-interval-claims t) (lay-interval-at t) lay-interval.Post
-lay-interval-same-length t c = c .before .before .lay-tip .kept .1 .1 .1 .1 .1 .1 .1 .0
+lay-interval-same-length t c = c .before .before .lay-tip .kept .1 .1 .1 .1 .1 .1 .1 .1 .0
 
 lay-interval-returns : (t : ℕ) → lay-interval-lts.Need-returns (lay-interval-claims t) (lay-interval-at t) lay-interval.Post
 lay-interval-returns t c = c .before .before .lay-tip .ensures
@@ -90,15 +90,15 @@ lay-interval-returns-2 t c =
 
 lay-tip-own-runs-requires : (t : ℕ) → lay-tip-lts.Need-own-runs-requires (lay-tip-claims t) (lay-tip-at t) lay-tip.Post
 lay-tip-own-runs-requires t c κs =
-    let (p, inside, _) = tip t c .pre .1 in
+    let (p, inside, _, _) = tip t c .pre .1 in
     (inside, omega (arith, p .filled .1 .good .most, p .inside), p .places)
 
 lay-tip-lay-interval-requires : (t : ℕ) → lay-tip-lts.Need-lay-interval-requires (lay-tip-claims t) (lay-tip-at t) lay-tip.Post
 lay-tip-lay-interval-requires t c κs =
     let o = own t c in
-    let (e, (p, inside, _)) = tip t (o .before) .pre in
+    let (e, (p, inside, _, right)) = tip t (o .before) .pre in
     let size = o .own-runs .kept .1 .1 .1 .0 ∙ p .places in
-    (omega (arith, e), record { filled = p .filled; inside = omega (arith, p .inside); places = size })
+    (omega (arith, e), (record { filled = p .filled; inside = omega (arith, p .inside); places = size }, right))
 
 lay-tip-add-lay-interval : (t : ℕ) → lay-tip-lts.Need-add-lay-interval (lay-tip-claims t) (lay-tip-at t) lay-tip.Post
 lay-tip-add-lay-interval t c = omega arith
@@ -116,23 +116,23 @@ lay-tip-lay-interval-requires-2 : (t : ℕ) → lay-tip-lts.Need-lay-interval-re
 lay-tip-lay-interval-requires-2 t c κs =
     let first = c .before .before .before in
     let o = own t (first .before) in
-    let (e, (p, inside, _)) = tip t (o .before) .pre in
-    let size = first .lay-interval .kept .1 .1 .1 .1 .1 .1 .0 ∙ o .own-runs .kept .1 .1 .1 .0 ∙ p .places in
-    (omega (arith, e), record { filled = p .filled; inside = omega (arith, p .inside); places = size })
+    let (e, (p, inside, _, right)) = tip t (o .before) .pre in
+    let size = first .lay-interval .kept .1 .1 .1 .1 .1 .1 .1 .0 ∙ o .own-runs .kept .1 .1 .1 .0 ∙ p .places in
+    (omega (arith, e), (record { filled = p .filled; inside = omega (arith, p .inside); places = size }, right))
 
 lay-tip-same-length : (t : ℕ) → lay-tip-lts.Need-same-length (lay-tip-claims t) (lay-tip-at t) lay-tip.Post
 lay-tip-same-length t c =
     let second = c .before .before in
     let first = second .before .before .before .before in
     let o = own t (first .before) in
-    second .lay-interval2 .kept .1 .1 .1 .1 .1 .1 .0 ∙ first .lay-interval .kept .1 .1 .1 .1 .1 .1 .0 ∙ o .own-runs .kept .1 .1 .1 .0
+    second .lay-interval2 .kept .1 .1 .1 .1 .1 .1 .1 .0 ∙ first .lay-interval .kept .1 .1 .1 .1 .1 .1 .1 .0 ∙ o .own-runs .kept .1 .1 .1 .0
 
 lay-tip-returns : (t : ℕ) → lay-tip-lts.Need-returns (lay-tip-claims t) (lay-tip-at t) lay-tip.Post
 lay-tip-returns t c =
     let second = c .before .before in
     let first = second .before .before .before .before in
     let o = first .before .before .before .before in
-    let s = o .before .before .before .before .before in
+    let s = o .before .before .before .before .before .before in
     let a = s .args in
     let pick = pickBy (onHead (a .mounted)) (a .m) (a .sums .now) (a .table .now) in
     let under = pick-lt (onHead (a .mounted)) (a .m) (a .sums .now) (a .table .now) in

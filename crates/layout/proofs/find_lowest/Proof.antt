@@ -6,14 +6,14 @@ use Rattle.layout.proofs.find_lowest.Statement.{statement}
 use Rattle.layout.proofs.find_lowest.Tie as tie
 
 abbrev Inv-loop : tie.InvT-loop
-Inv-loop m sums table a w most i₀ i = i ≤ lowestBy m sums table a w
+Inv-loop m pairs sums table a w most i₀ i = i ≤ lowestBy m sums table a w
 
 abbrev μ-loop : tie.MeasureT-loop
-μ-loop m sums table a w most i₀ i = w - i
+μ-loop m pairs sums table a w most i₀ i = w - i
 
 -- the call's start, from the loop
 abbrev start : tie.At-loop Inv-loop μ-loop → tie.Start Inv-loop μ-loop
-start c = c .before .before .before .before
+start c = c .before .before .before .before .before
 
 -- i is below the width
 inside : (c : tie.At-loop Inv-loop μ-loop) → c .loop .i < start c .args .w
@@ -22,7 +22,7 @@ inside c =
     omega (arith, c .loop .inv, lowest-by-lt (a .m) (a .sums .now) (a .table .now) (a .a) (a .w) (start c .pre .2))
 
 most-at-requires : tie.Need-most-at-requires Inv-loop μ-loop
-most-at-requires c κs = (omega arith, table-size (c .before .before .pre .0 .1))
+most-at-requires c κs = (omega arith, table-size (c .before .before .before .pre .0 .1))
 
 loop-holds : tie.Need-loop-holds Inv-loop μ-loop
 loop-holds c = zero-le
@@ -30,7 +30,7 @@ loop-holds c = zero-le
 split-at-requires : tie.Need-split-at-requires Inv-loop μ-loop
 split-at-requires c κs =
     let p = start c .pre in
-    (p .0, p .1, inside c)
+    (p .0, p .1, inside c, p .3)
 
 add-i : tie.Need-add-i Inv-loop μ-loop
 add-i c = omega (arith, inside (c .before .before))

@@ -5,8 +5,8 @@ use Rattle.layout.proofs.find_mounted.Statement.{statement}
 use Rattle.layout.proofs.find_mounted.Tie as tie
 
 -- the call's start: before the interval is tested, and before the mounted tip's split is compared
-abbrev begun : tie.After-shared-slice-known2 → tie.Start
-begun c = c .before .before
+abbrev begun : tie.After-shared-slice-known3 → tie.Start
+begun c = c .before .before .before
 
 abbrev called : tie.After-split-at → tie.Start
 called c = begun (c .before .before .before)

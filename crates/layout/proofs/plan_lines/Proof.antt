@@ -7,13 +7,19 @@ use Rattle.layout.proofs.plan_lines.Tie as tie
 
 -- the call's start, from the owners laid
 abbrev start : tie.After-lay-interval → tie.Start
-start c = c .before .before .before .before .before .before .before
+start c = c .before .before .before .before .before .before .before .before .before
+
+pair-table-requires : tie.Need-pair-table-requires
+pair-table-requires c κs = search needs
 
 no-owners-requires : tie.Need-no-owners-requires
 no-owners-requires c κs = search needs
 
 slice-aggregate-lay-interval : tie.Need-slice-aggregate-lay-interval
 slice-aggregate-lay-interval c = search needs
+
+slice-aggregate-lay-interval-2 : tie.Need-slice-aggregate-lay-interval-2
+slice-aggregate-lay-interval-2 c = search needs
 
 lay-interval-requires : tie.Need-lay-interval-requires
 lay-interval-requires c κs = search needs
@@ -22,9 +28,7 @@ slice-aggregate-plan-owners : tie.Need-slice-aggregate-plan-owners
 slice-aggregate-plan-owners c = search needs
 
 plan-owners-requires : tie.Need-plan-owners-requires
-plan-owners-requires c κs =
-    let p = start (c .before .before .before) .pre in
-    (p .0 .1 .good .most, p .1, search needs, p .3)
+plan-owners-requires c κs = search needs
 
 same-length : tie.Need-same-length
 same-length c = search needs
@@ -32,7 +36,7 @@ same-length c = search needs
 returns : tie.Need-returns
 returns c =
     let laid = c .before .before .before .before .before .before in
-    let none = laid .before .before in
+    let none = laid .before .before .before in
     let s = start laid in
     let p = s .pre in
     λ lines r.
@@ -43,8 +47,10 @@ pub plan-lines-spec : {M : Type 1} → statement M
 plan-lines-spec =
     tie.close
     (tie.spec
+    pair-table-requires
     no-owners-requires
     slice-aggregate-lay-interval
+    slice-aggregate-lay-interval-2
     lay-interval-requires
     slice-aggregate-plan-owners
     plan-owners-requires

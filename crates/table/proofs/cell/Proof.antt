@@ -7,10 +7,10 @@ use Rattle.table.proofs.cell.Statement.{statement}
 use Rattle.table.proofs.cell.Tie as tie
 
 -- the call's start, once the slices are known, and from the first split
-abbrev known : tie.After-shared-slice-known4 → tie.Start
-known c = c .before .before .before .before
+abbrev known : tie.After-shared-slice-known5 → tie.Start
+known c = c .before .before .before .before .before
 
-abbrev start : tie.After-shared-slice-known8 → tie.Start
+abbrev start : tie.After-shared-slice-known9 → tie.Start
 start c = known (c .before .before .before .before)
 
 mul-row : tie.Need-mul-row
@@ -29,16 +29,16 @@ add-end-sum : tie.Need-add-end-sum
 add-end-sum c = search needs
 
 mul-first-cell : tie.Need-mul-first-cell
-mul-first-cell c = record { fits = omega (arith, cell-in (known c .pre)) }
+mul-first-cell c = record { fits = omega (arith, cell-in (known c .pre .0)) }
 
 add-first-cell : tie.Need-add-first-cell
-add-first-cell c = record { fits = omega (arith, cell-in (known c .pre)) }
+add-first-cell c = record { fits = omega (arith, cell-in (known c .pre .0)) }
 
 mul-end-cell : tie.Need-mul-end-cell
-mul-end-cell c = record { fits = omega (arith, cell-in (known c .pre)) }
+mul-end-cell c = record { fits = omega (arith, cell-in (known c .pre .0)) }
 
 add-end-cell : tie.Need-add-end-cell
-add-end-cell c = record { fits = omega (arith, cell-in (known c .pre)) }
+add-end-cell c = record { fits = omega (arith, cell-in (known c .pre .0)) }
 
 add-next-right : tie.Need-add-next-right
 add-next-right c = search needs
@@ -77,7 +77,7 @@ split-of-requires : tie.Need-split-of-requires
 split-of-requires c κs =
     let s = start c in
     let z : s .args .a + 0 ≡ s .args .a = omega arith in
-    rw z at (s .pre .small 0 (omega arith))
+    (rw z at (s .pre .0 .small 0 (omega arith)), s .pre .1)
 
 mul-largest-split : tie.Need-mul-largest-split
 mul-largest-split c = search needs
@@ -105,7 +105,7 @@ part-largest-split-end-2 c = search needs
 
 mul-largest-split-3 : tie.Need-mul-largest-split-3
 mul-largest-split-3 c =
-    record { fits = omega (arith, cell-in (start (c .before .before .before) .pre)) }
+    record { fits = omega (arith, cell-in (start (c .before .before .before) .pre .0)) }
 
 sub-largest-split-3 : tie.Need-sub-largest-split-3
 sub-largest-split-3 c = search needs
@@ -115,7 +115,7 @@ part-largest-split-start-3 c = search needs
 
 part-largest-split-end-3 : tie.Need-part-largest-split-end-3
 part-largest-split-end-3 c =
-    let p = start (c .before .before .before) .pre in
+    let p = start (c .before .before .before) .pre .0 in
     omega (arith, cell-in p, p .table-size)
 
 mul-largest-split-4 : tie.Need-mul-largest-split-4
@@ -133,12 +133,13 @@ part-largest-split-end-4 c = search needs
 largest-split-requires : tie.Need-largest-split-requires
 largest-split-requires c κs =
     let f = c .before .before .before .before in
-    (f .split-of .ensures .1, split-lists (start (f .before) .pre))
+    let given = start (f .before) .pre in
+    (f .split-of .ensures .1, split-lists (given .0), given .1)
 
 returns : tie.Need-returns
 returns c =
     let f = c .before .before .before .before .before in
-    by-parts (start (f .before) .pre) (f .split-of .ensures .0) (c .largest-split .ensures)
+    by-parts (start (f .before) .pre .0) (f .split-of .ensures .0) (c .largest-split .ensures)
 
 pub cell-spec : {M : Type 1} → statement M
 cell-spec =

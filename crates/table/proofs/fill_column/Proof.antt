@@ -11,17 +11,17 @@ use Rattle.table.proofs.fill_column.Statement.{statement}
 use Rattle.table.proofs.fill_column.Tie as tie
 
 abbrev Inv-loop : tie.InvT-loop
-Inv-loop m b sums table₀ allows column₀ a₀ table column a = (a ≤ b + 1) × RowsBy m sums table column b a
+Inv-loop m b pairs sums table₀ allows column₀ a₀ table column a = (a ≤ b + 1) × RowsBy m sums table column b a
 
 abbrev μ-loop : tie.MeasureT-loop
-μ-loop m b sums table₀ allows column₀ a₀ table column a = a
+μ-loop m b pairs sums table₀ allows column₀ a₀ table column a = a
 
 -- the counts taken, from the loop; and the call's start from there
 abbrev counted : tie.At-loop Inv-loop μ-loop → tie.After-count-allows Inv-loop μ-loop
 counted c = c .before .before .before
 
 abbrev start : tie.After-count-allows Inv-loop μ-loop → tie.Start Inv-loop μ-loop
-start c = c .before .before .before .before .before
+start c = c .before .before .before .before .before .before
 
 -- what is known in the loop of the row a - 1
 module _ (c : tie.In-loop Inv-loop μ-loop) where
@@ -63,7 +63,7 @@ slice-aggregate-count-allows c = search needs
 
 count-allows-requires : tie.Need-count-allows-requires Inv-loop μ-loop
 count-allows-requires c κs =
-    let b = c .before .before .before .before in
+    let b = c .before .before .before .before .before in
     rw (c .before .zeros .ensures) (allows-ready (b .pre .0 .1) (b .args .b) (b .pre .1))
 
 zeros-requires-2 : tie.Need-zeros-requires-2 Inv-loop μ-loop
@@ -90,7 +90,9 @@ slice-aggregate-cell-2 c =
     search (needs, rows t lines k .room)
 
 cell-requires : tie.Need-cell-requires Inv-loop μ-loop
-cell-requires c κs = ready (c .before .before .before)
+cell-requires c κs =
+    let t = c .before .before .before in
+    (ready t, s t .pre .3)
 
 mul-table : tie.Need-mul-table Inv-loop μ-loop
 mul-table c = record { fits = omega (arith, cell-in (ready (c .before .before .before .before))) }
