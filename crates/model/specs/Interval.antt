@@ -29,6 +29,13 @@ fills s t = not (leb (low s) t && leb t (high s)) || has s t
 unfoldable pub isRunOf : (ℕ → Bool) → ℕ → Bool
 isRunOf ok s = every (λ t. not (ok t) || fills s t) 64
 
+-- the line s misses tip c: some line names it, it is between the lowest and the highest tip of s, and s does not have it
+pub record Misses (lines : List ℕ) (s c : ℕ) : Type 0 where
+  pub names : T (named lines c)
+  pub from : low s ≤ c
+  pub to : c ≤ high s
+  pub lacks : T (not (has s c))
+
 -- the line s lies within the interval
 unfoldable pub lies : ℕ → ℕ → ℕ → Bool
 lies a w s = leb a (low s) && ltb (high s) (a + w)
