@@ -92,6 +92,11 @@ module _ {m : ℕ} {qs lines : List ℕ} (good : GoodLines m qs lines) {earlier 
       λ t. rw (true-T (accepts (runRefusal lines)) t) (refl, whole lines (bestPlanQ bare m qs lines) old size),
     )
 
+-- best sharing of a copy of the lines is best sharing of the lines
+pub copy-best : (m : ℕ) (qs lines copy : List ℕ) {runs : Bool} {x : ℕ} {plan : List ℕ} → copy ≡ lines
+    → (runs ≡ allRuns copy) × (T runs → BestShared m qs copy x plan) → (runs ≡ allRuns lines) × (T runs → BestShared m qs lines x plan)
+copy-best m qs lines copy e shared = rw e at shared
+
 -- what is reported of lines of which best sharing answers these pairs and this plan
 facts : ℕ → List ℕ → List ℕ → Bool → ℕ → List ℕ → Facts
 facts m qs lines runs shared plan = record {
