@@ -29,7 +29,7 @@ use Rattle.line_calls.specs.declared.CommonAnswer.{CommonAnswer}
 use Rattle.line_calls.specs.declared.PlanAnswer.{PlanAnswer}
 use Rattle.line_calls.specs.Lines.{commonOf, quickOf, quickBuffer, bestOf, bestBuffer}
 use Rattle.report.specs.Report.{Facts, pairsText, lineText, lineAt, bestText, reportOf}
-use Rattle.file_report.specs.Summary.{factsOf, BestShared}
+use Rattle.file_report.specs.Summary.{allRuns, factsOf, BestTold}
 
 -- as many as there are lines are all the quantities
 whole-quantities : {m : ℕ} {qs lines : List ℕ} → GoodLines m qs lines → take (length lines) qs ≡ qs
@@ -46,10 +46,6 @@ given-whole {lines = lines} good = record {
 -- a plan with a byte a line is a whole buffer
 whole : (lines new old : List ℕ) → length old ≡ length lines → new ++ drop (length lines) old ≡ new
 whole lines new old e = rw (drop-of-length-le old {i = length lines} (omega (arith, e))) (append-nil new)
-
--- each line is a run of the named tips
-abbrev allRuns : List ℕ → Bool
-allRuns lines = each (isRunOf (named lines)) lines
 
 -- no line is refused for being no run exactly where each is one
 runs-each : (lines : List ℕ) → accepts (runRefusal lines) ≡ allRuns lines
@@ -84,18 +80,13 @@ module _ {m : ℕ} {qs lines : List ℕ} (good : GoodLines m qs lines) {earlier 
     pub best-is : {places : ℕ} → places ≡ mostTips * mostTips → {r : PlanAnswer} {out : List ℕ}
         → r ≡ bestOf earlier m (take (length lines) qs) (take (length lines) lines) (length old) places
         → out ≡ bestBuffer earlier m (take (length lines) qs) (take (length lines) lines) old places
-        → (eqb (r .refusal .number) 0 ≡ allRuns lines)
-        × (T (eqb (r .refusal .number) 0) → BestShared m qs lines (r .pairs) out)
+        → BestTold m qs lines (eqb (r .refusal .number) 0) (r .pairs) out
     unfolding bestOf bestBuffer
-    best-is s e f = rw (e, f, free, take-length lines, whole-quantities good, best-left s) (
-      runs-each lines,
-      λ t. rw (true-T (accepts (runRefusal lines)) t) (refl, whole lines (bestPlanQ bare m qs lines) old size),
-    )
-
--- best sharing of a copy of the lines is best sharing of the lines
-pub copy-best : (m : ℕ) (qs lines copy : List ℕ) {runs : Bool} {x : ℕ} {plan : List ℕ} → copy ≡ lines
-    → (runs ≡ allRuns copy) × (T runs → BestShared m qs copy x plan) → (runs ≡ allRuns lines) × (T runs → BestShared m qs lines x plan)
-copy-best m qs lines copy e shared = rw e at shared
+    best-is s e f = rw (e, f, free, take-length lines, whole-quantities good, best-left s) (record {
+      runs-are = runs-each lines;
+      pairs-are = λ t. rw (true-T (accepts (runRefusal lines)) t) refl;
+      plan-is = λ t. rw (true-T (accepts (runRefusal lines)) t) (whole lines (bestPlanQ bare m qs lines) old size);
+    })
 
 -- what is reported of lines of which best sharing answers these pairs and this plan
 facts : ℕ → List ℕ → List ℕ → Bool → ℕ → List ℕ → Facts
@@ -119,13 +110,14 @@ without-runs m qs lines x y plan other = refl
 pub same-report : (m : ℕ) (qs lines : List ℕ) {o w x y : ℕ} {runs : Bool} {quick best : List ℕ}
     → (o ≡ total qs - top m (repeated qs lines)) × (w ≡ W m (repeated qs lines))
     → (x ≡ pairs (repeated qs (quickPlanQ bare m qs lines))) × (quick ≡ quickPlanQ bare m qs lines)
-    → runs ≡ allRuns lines → (T runs → BestShared m qs lines y best)
+    → BestTold m qs lines runs y best
     → reportOf (record { rack = m; off = o; tips = w; quickPairs = x; runs = runs; bestPairs = y; quick = quick; best = best })
     ≡ reportOf (factsOf m qs lines)
 unfolding facts factsOf
-same-report m qs lines {y = y} {runs = runs} {best = best} (e, f) (g, h) i j = rw (e, f, g, h, ← i) (by runs j)
+same-report m qs lines {y = y} {runs = runs} {best = best} (e, f) (g, h) told =
+    rw (e, f, g, h, ← told .runs-are) (by runs (told .pairs-are) (told .plan-is))
   where
-    by : (t : Bool) → (T t → BestShared m qs lines y best)
+    by : (t : Bool) → (T t → y ≡ C (repeated qs lines) 0 m) → (T t → best ≡ bestPlanQ bare m qs lines)
         → reportOf (facts m qs lines t y best) ≡ reportOf (facts m qs lines t (C (repeated qs lines) 0 m) (bestPlanQ bare m qs lines))
-    by true k = let (p, q) = k tt in rw (p, q)
-    by false k = without-runs m qs lines _ _ _ _
+    by true p q = rw (p tt, q tt)
+    by false p q = without-runs m qs lines _ _ _ _
