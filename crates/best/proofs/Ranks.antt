@@ -163,7 +163,8 @@ module _ {m : ℕ} {qs sets : List ℕ} (n : NamedRuns m qs sets) where
       rw (div-add-mod' k m) at (number old e (k / m) (k % m) (div-lt-iff-lt-mul some .1 l) (mod-lt k some))))
 
   -- what is known of the lists
-  module _ {set r : ℕ} {list tips : List ℕ} (s : set ≡ names sets) (e : r ≡ rank (has set) m) (p : Ranks (has set) m list) (q : Named (has set) m tips) where
+  module _ {set r : ℕ} {list tips : List ℕ} (s : set ≡ names sets) (e : r ≡ rank (has set) m)
+      (p : Ranks (has set) m list) (q : Named (has set) m tips) where
     by-names : Ranks (named sets) m list
     by-names = rw (same-names s) at p
 

@@ -98,7 +98,10 @@ module _ (earlier : Refusal) (m : ℕ) (qs lines old cells : List ℕ) {d : Refu
     plan-refused e f (C (repeated qs lines) 0 m),
     (
       lent-refused e (length lines) (bestPlanQ bare m qs lines) old f,
-      (lent-refused e (m * m) (table m (repeated qs lines)) cells f, record { runs = λ z. absurd (f z); plan = λ z. absurd (f z); best = λ z. absurd (f z) }),
+      (
+        lent-refused e (m * m) (table m (repeated qs lines)) cells f,
+        record { runs = λ z. absurd (f z); plan = λ z. absurd (f z); best = λ z. absurd (f z) },
+      ),
     ),
   )
 

@@ -47,7 +47,7 @@ last-pairs m lines some e = ap (λ t. getD t (m - 1) 0) e ∙ table-last m lines
 slice-read-result : tie.Need-slice-read-result
 slice-read-result c =
     let laid = c .before .before .before .before .before in
-    last-place _ _ (begun (laid .before .before .before .before .before .before) .pre .0 .good .some) (laid .plan-runs .ensures .1)
+    omega (arith, last-place _ _ (begun (laid .before .before .before .before .before .before) .pre .0 .good .some) (laid .plan-runs .ensures .1))
 
 same-length : tie.Need-same-length
 same-length c = search needs
@@ -76,7 +76,7 @@ mul-result-2 c = search needs
 slice-read-result-2 : tie.Need-slice-read-result-2
 slice-read-result-2 c =
     let laid = c .before .before .before .before .before .before .before in
-    last-place _ _ (begun (laid .before .before .before .before .before .before) .pre .0 .good .some) (laid .plan-named .ensures .1)
+    omega (arith, last-place _ _ (begun (laid .before .before .before .before .before .before) .pre .0 .good .some) (laid .plan-named .ensures .1))
 
 same-length-4 : tie.Need-same-length-4
 same-length-4 c = search needs

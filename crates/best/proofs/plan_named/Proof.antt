@@ -52,7 +52,8 @@ plan-ranks-requires c κs =
     let l = c .before .before .before .before .before .before .before .before .before .before .before .before in
     let p = begun l .pre in
     let e = l .list-tips .ensures in
-    ranks-ready (p .0) (p .1) (e .0) (e .1 .0) (e .1 .1) (c .before .before .before .before .before .before .before .renumber-lines .ensures) (p .2) (p .3)
+    let ranked = c .before .before .before .before .before .before .before in
+    ranks-ready (p .0) (p .1) (e .0) (e .1 .0) (e .1 .1) (ranked .renumber-lines .ensures) (p .2) (p .3)
 
 slice-aggregate-name-tips : tie.Need-slice-aggregate-name-tips
 slice-aggregate-name-tips c = search needs
@@ -62,7 +63,7 @@ name-tips-requires c κs =
     let laid = c .before .before .before .before .before .before in
     let p = begun (lists laid) .pre in
     let e = lists laid .list-tips .ensures in
-    plan-fits (p .0) (p .1) (e .0) (e .1 .0) (e .1 .1) (onHead (mounted laid .renumber-mounted .result)) (renumbered laid .renumber-lines .ensures)
+    plan-fits (p .0) (p .1) (e .0) (e .1 .0) (e .1 .1) _ (renumbered laid .renumber-lines .ensures)
     (laid .plan-ranks .ensures .0)
 
 spread-table-requires : tie.Need-spread-table-requires

@@ -25,9 +25,9 @@ cast-plan c = omega (arith, c .slice-known .given (c .before .before .loop .i))
 
 shared-slice-read-plan : tie.Need-shared-slice-read-plan Inv-loop μ-loop
 shared-slice-read-plan c =
-    let g = c .before .before .before .before .args in
+    let s = c .before .before .before .before in
     let l = c .before .before .before .loop in
-    rw (l .inv .2, mapped-next (λ t. getD (g .list .now) t 0) (g .plan .now) (l .i)) (all-at 0 (c .before .before .before .before .pre) (l .i) (omega arith))
+    rw (l .inv .2, mapped-next (λ t. getD (s .args .list .now) t 0) (s .args .plan .now) (l .i)) (all-at 0 (s .pre) (l .i) (omega arith))
 
 slice-write-plan : tie.Need-slice-write-plan Inv-loop μ-loop
 slice-write-plan c = search needs
