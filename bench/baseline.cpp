@@ -1,7 +1,8 @@
 /*
  * Tip sharing by hand in plain C++, with the steps meant for the proved library: counts are made tip by tip and taken
- * down as lines are planned; best sharing counts placements by lowest and highest tip, sums the counts in two directions
- * and has m^3/6 steps. The contiguous inner loops are written so that the compiler puts them into vector instructions.
+ * down as lines are planned; best sharing runs on the ranks of the named tips, counts placements by lowest and highest
+ * tip, sums the counts in two directions and has r^3/6 steps for r named tips; then the table is spread over the rack. The
+ * contiguous inner loops are written so that the compiler puts them into vector instructions.
  * A board whose quantities are all 1 has code of its own wherever a quantity counts.
  */
 #include "libraries.h"
@@ -136,15 +137,15 @@ uint32_t quick(const uint64_t *sets, Quantities quantities, const Job &job, Occu
 }
 
 /*
- * The table of best sharing, row by row from the last. A stretch and its tip are held in one number, pairs * 64 + 63
- * less the tip, so that the largest is the lowest tip with the most pairs.
+ * The table of best sharing by ranks, row by row from the last. A stretch and its tip are held in one number, pairs * 64
+ * + 63 less the rank of the tip, so that the largest is the lowest tip with the most pairs.
  */
 struct Stretches {
     static constexpr size_t kStep = 8;
     static constexpr int32_t kNever = -(1 << 30);
 
-    size_t rack;
-    // The rack in whole steps.
+    // The number of ranks, and the same in whole steps.
+    size_t ranks;
     size_t width;
     // within[a][b] is four times the number of placements of the lines lying within a to b.
     alignas(16) int16_t within[kMostTips + 1][kMostTips];
@@ -152,43 +153,46 @@ struct Stretches {
     alignas(16) int32_t most[kMostTips + 1][kMostTips];
     alignas(16) int32_t keys[kMostTips][kMostTips];
 
-    explicit Stretches(size_t rack) : rack(rack), width((rack + kStep - 1) / kStep * kStep) {}
+    explicit Stretches(size_t ranks) : ranks(ranks), width((ranks + kStep - 1) / kStep * kStep) {}
 
     int tip_of(int a, int b) const { return 63 - keys[a][b] % 64; }
 
-    template <typename Quantities> void count(const uint64_t *sets, Quantities quantities, size_t count)
+    uint32_t pairs_of(size_t a, size_t b) const { return static_cast<uint32_t>(keys[a][b]) / 64; }
+
+    template <typename Quantities>
+    void count(const uint64_t *sets, Quantities quantities, size_t count, const Named &named)
     {
-        memset(within, 0, (rack + 1) * sizeof within[0]);
+        memset(within, 0, (ranks + 1) * sizeof within[0]);
         for (size_t line = 0; line < count; line++) {
-            int16_t &here = within[lowest(sets[line])][highest_of_run(sets[line])];
+            int16_t &here = within[named.first(sets[line])][named.last(sets[line])];
             here = static_cast<int16_t>(here + 4 * quantities[line]);
         }
         // First along each row, then down from row to row.
-        for (size_t a = 0; a < rack; a++) {
+        for (size_t a = 0; a < ranks; a++) {
             int16_t sum = 0;
-            for (size_t b = a; b < rack; b++) {
+            for (size_t b = a; b < ranks; b++) {
                 sum = static_cast<int16_t>(sum + within[a][b]);
                 within[a][b] = sum;
             }
         }
-        for (size_t a = rack - 1; a-- > 0;) {
+        for (size_t a = ranks; a-- > 0;) {
             for (size_t b = 0; b < width; b++) {
                 within[a][b] = static_cast<int16_t>(within[a][b] + within[a + 1][b]);
             }
         }
     }
 
-    void fill(uint32_t *__restrict table)
+    void fill()
     {
-        clear_below(rack);
-        for (size_t a = rack; a-- > 0;) {
+        clear_below(ranks);
+        for (size_t a = ranks; a-- > 0;) {
             int32_t *__restrict const row = keys[a];
             for (size_t b = 0; b < width; b++) {
                 row[b] = kNever;
             }
             int32_t pairs_left = 0;
             int16_t on_left = 0;
-            for (size_t c = a; c < rack; c++) {
+            for (size_t c = a; c < ranks; c++) {
                 // A line within a to b that allows c lies neither left of c nor right of it.
                 const int32_t with_c = 64 * pairs_left + 63 - static_cast<int32_t>(c);
                 const int16_t *const all = within[a];
@@ -207,14 +211,8 @@ struct Stretches {
                 on_left = all[c];
             }
             clear_below(a);
-            for (size_t b = a; b < rack; b++) {
+            for (size_t b = a; b < ranks; b++) {
                 most[a][b] = row[b] & ~63;
-            }
-            for (size_t b = 0; b < a; b++) {
-                table[a * rack + b] = 0;
-            }
-            for (size_t b = a; b < rack; b++) {
-                table[a * rack + b] = static_cast<uint32_t>(row[b] / 64);
             }
         }
     }
@@ -228,13 +226,14 @@ struct Stretches {
     }
 };
 
-uint32_t best(const Lines &lines, const Job &job, uint8_t *plan, uint32_t *table)
+uint32_t best(const Lines &lines, const Job &job, const Named &named, uint8_t *plan, uint32_t *table)
 {
-    Stretches stretches(job.rack);
+    Stretches stretches(named.count);
     with_quantities(job, lines.quantities,
-                    [&](auto quantities) { stretches.count(lines.sets, quantities, job.count); });
-    stretches.fill(table);
-    lay_best(lines.sets, job.count, job.rack, [&](int a, int b) { return stretches.tip_of(a, b); }, plan);
+                    [&](auto quantities) { stretches.count(lines.sets, quantities, job.count, named); });
+    stretches.fill();
+    write_table(named, job.rack, [&](size_t a, size_t b) { return stretches.pairs_of(a, b); }, table);
+    lay_best(lines.sets, job.count, named, [&](int a, int b) { return stretches.tip_of(a, b); }, plan);
     return table[job.rack - 1];
 }
 
@@ -311,7 +310,7 @@ uint32_t baseline_best(const uint8_t *file, size_t file_len, uint8_t *plan, size
     Lines lines;
     const auto read = [&] { return read_sets(file, file_len, lines); };
     return answer_with(answer, answer_len, read, [&](const Job &job) {
-        const auto pairs = [&] { return best(lines, job, plan, table); };
+        const auto pairs = [&](const Named &named) { return best(lines, job, named, plan, table); };
         return answer_best(lines.sets, job, plan_len, table_len, answer, pairs);
     });
 }
@@ -340,9 +339,10 @@ size_t baseline_report(const uint8_t *file, size_t file_len, uint8_t *out, size_
         found.quick = quick(lines.sets, quantities, job, occurrences, lines_of, quick_plan);
     });
     found.quick_plan = quick_plan;
-    found.runs = first_no_run(lines.sets, job.count) == job.count;
+    const Named named(lines.sets, job.count);
+    found.runs = named.first_no_run(lines.sets, job.count) == job.count;
     if (found.runs) {
-        found.best = best(lines, job, best_plan, table);
+        found.best = best(lines, job, named, best_plan, table);
         found.best_plan = best_plan;
     }
     return write_report(out, job, found);

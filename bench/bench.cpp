@@ -300,16 +300,16 @@ bool main_table(const Settings &settings, Output &output)
     return true;
 }
 
-/* One table of growth over the given boards, each twice as large as the one before it. */
+/* One table of growth over the given boards; the last column is the last of them by the one before it. */
 bool growth_table(const Settings &settings, Output &output, const char *title, const std::vector<Boards> &all,
-                  size_t Boards::*size)
+                  size_t Boards::*size, const char *last = "Last doubling")
 {
     if (!output.json) {
         printf("\n## %s, nanoseconds a call\n\n| Call | Library |", title);
         for (const Boards &boards : all) {
             printf(" %zu |", boards.*size);
         }
-        printf(" Last doubling |\n|---|---|");
+        printf(" %s |\n|---|---|", last);
         for (size_t i = 0; i <= all.size(); i++) {
             printf("---:|");
         }
@@ -348,7 +348,9 @@ bool growth_tables(const Settings &settings, Output &output)
         by_rack.push_back(growth_board(512, rack));
     }
     return growth_table(settings, output, "Growth with the lines, 64 tips, any-runs", by_lines, &Boards::lines) &&
-           growth_table(settings, output, "Growth with the tips, 512 lines, any-runs", by_rack, &Boards::rack);
+           growth_table(settings, output, "Growth with the tips, 512 lines, any-runs", by_rack, &Boards::rack) &&
+           growth_table(settings, output, "The same 20 lines on 8 named tips, in a rack of 8 and of 64",
+                        {eight_tips(1), eight_tips(9)}, &Boards::rack, "64 by 8");
 }
 
 std::string first_line_with(const char *path, const std::string &beginning)

@@ -67,6 +67,12 @@ uint64_t all_but_one(Random &, size_t rack, size_t line)
     return line == 0 ? uint64_t{1} << (rack - 1) : run(0, rack - 1);
 }
 
+/* One line has every tip, so that each is named; the others are runs of 1 to 4 tips. */
+uint64_t all_tips_and_short_runs(Random &random, size_t rack, size_t line)
+{
+    return line == 0 ? run(0, rack) : run_of(1, 4)(random, rack, line);
+}
+
 /* The run between two seeded tips. */
 uint64_t any_run(Random &random, size_t rack, size_t)
 {
@@ -120,20 +126,32 @@ File file_of(const std::vector<uint64_t> &sets, size_t rack, Quantities quantiti
     return {std::move(bytes), least_bound(sets, quantities)};
 }
 
-Boards boards_of(std::string name, std::string description, size_t lines, size_t rack, const Line &line_of,
-                 Quantities quantities_of = nullptr)
+/* The set with each tip so many times as high. */
+uint64_t spread(uint64_t set, size_t apart)
 {
+    uint64_t wide = 0;
+    for (size_t tip = 0; tip * apart < 64; tip++) {
+        wide |= (set >> tip & 1) << (tip * apart);
+    }
+    return wide;
+}
+
+/* Boards on so many tips, which stand apart in the rack: with 1 every tip of it may be named. */
+Boards boards_of(std::string name, std::string description, size_t lines, size_t tips, const Line &line_of,
+                 Quantities quantities_of = nullptr, size_t apart = 1)
+{
+    const size_t rack = (tips - 1) * apart + 1;
     Boards boards{std::move(name), std::move(description), lines, rack, true, {}};
     for (size_t file = 0; file < kFilesEach; file++) {
-        Random random(1000 * file + lines + rack);
+        Random random(1000 * file + lines + tips);
         std::vector<uint64_t> sets;
         for (size_t line = 0; line < lines; line++) {
-            sets.push_back(line_of(random, rack, line));
+            sets.push_back(spread(line_of(random, tips, line), apart));
         }
         for (size_t line = lines; line > 1; line--) {
             std::swap(sets[line - 1], sets[random.from_to(0, line - 1)]);
         }
-        boards.runs = boards.runs && job::first_no_run(sets.data(), lines) == lines;
+        boards.runs = boards.runs && job::Named(sets.data(), lines).first_no_run(sets.data(), lines) == lines;
         boards.files.push_back(file_of(sets, rack, quantities_of, random));
     }
     return boards;
@@ -157,6 +175,8 @@ std::vector<Boards> main_boards()
                   one_tip_in_turn),
         boards_of("small", "each tip with an even chance", 20, 8, many_tips),
         boards_of("small-runs", "runs of 1 to 4 tips", 20, 8, run_of(1, 4)),
+        eight_tips(1),
+        eight_tips(9),
         boards_of("no-lines", "what a call costs without any line", 0, 64, any_run),
         boards_of("few-counted", "few-tips with quantities 1 to 7, together 2,048 at most", 512, 64, few_tips,
                   from_1_to_7),
@@ -167,6 +187,14 @@ std::vector<Boards> main_boards()
         boards_of("small-counted", "small-runs with quantities 1 to 7", 20, 8, run_of(1, 4), from_1_to_7),
         boards_of("runs-of-1", "any-runs in a file of version 2, every quantity 1", 512, 64, any_run, all_1),
     };
+}
+
+Boards eight_tips(size_t apart)
+{
+    return apart == 1 ? boards_of("eight-tips", "runs of 1 to 4 tips, and one line with every tip", 20, 8,
+                                  all_tips_and_short_runs)
+                      : boards_of("eight-spread", "the same lines, each tip nine times as high: 8 named tips in a rack of 64",
+                                  20, 8, all_tips_and_short_runs, nullptr, apart);
 }
 
 Boards growth_board(size_t lines, size_t rack)

@@ -27,5 +27,8 @@ constexpr size_t kFilesEach = 64;
 /* The boards of the main table. */
 std::vector<Boards> main_boards();
 
+/* The same lines on 8 named tips, which stand so far apart in the rack: 1 for a rack of 8, and 9 for one of 64. */
+Boards eight_tips(size_t apart);
+
 /* Runs of any length, to see how time grows with the number of lines and the rack. */
 Boards growth_board(size_t lines, size_t rack);

@@ -56,8 +56,7 @@ inline void put_raw(uint8_t *at, uint64_t raw) { memcpy(at, &raw, sizeof raw); }
 
 inline unsigned lowest(uint64_t set) { return static_cast<unsigned>(__builtin_ctzll(set)); }
 
-/* The highest tip of a run, by its lowest: trailing zeros are quicker than leading ones on plain x86-64. */
-inline unsigned highest_of_run(uint64_t set) { return lowest(set) + lowest(~(set >> lowest(set) >> 1)); }
+inline unsigned highest(uint64_t set) { return 63 - static_cast<unsigned>(__builtin_clzll(set)); }
 
 /* The tips that a rack of this size has not. */
 inline uint64_t outside(size_t rack) { return rack == 64 ? 0 : ~uint64_t{0} << rack; }
@@ -321,17 +320,79 @@ template <typename TipsWith, typename Strike>
     return answered(answer, TIPSHARE_ACCEPTED, 0, static_cast<uint64_t>(margin), written, 0);
 }
 
-/* The line that is no run, or count. Adding its lowest tip carries a run past its highest and leaves no tip behind. */
-inline size_t first_no_run(const uint64_t *sets, size_t count)
-{
-    size_t line = 0;
-    while (line < count && (sets[line] & (sets[line] + (sets[line] & -sets[line]))) == 0) {
-        line++;
+/* The tips that some line has, by tip and by rank: rank 0 is the lowest of them. */
+struct Named {
+    uint64_t tips;
+    size_t count;
+    // Of the named tips alone.
+    uint8_t rank[kMostTips];
+    uint8_t tip[kMostTips];
+
+    Named(const uint64_t *sets, size_t lines) : tips(0), count(0)
+    {
+        for (size_t line = 0; line < lines; line++) {
+            tips |= sets[line];
+        }
+        for (uint64_t rest = tips; rest != 0; rest &= rest - 1) {
+            tip[count] = static_cast<uint8_t>(lowest(rest));
+            rank[lowest(rest)] = static_cast<uint8_t>(count++);
+        }
     }
-    return line;
+
+    unsigned first(uint64_t set) const { return rank[lowest(set)]; }
+
+    unsigned last(uint64_t set) const { return rank[highest(set)]; }
+
+    /*
+     * The line that is no run, or count. Where the tips that are not named are filled in, adding the lowest tip of a run
+     * carries past its highest and leaves no tip behind.
+     */
+    size_t first_no_run(const uint64_t *sets, size_t lines) const
+    {
+        size_t line = 0;
+        while (line < lines && (sets[line] & ((sets[line] | ~tips) + (sets[line] & -sets[line]))) == 0) {
+            line++;
+        }
+        return line;
+    }
+};
+
+/*
+ * Writes the table of a rack: most(r, s) is that of the named tips with the ranks r to s. A row of a tip that is not
+ * named is the row below it, and a column of one is that before it.
+ */
+template <typename Most>
+[[gnu::always_inline]] inline void write_table(const Named &named, size_t rack, const Most &most,
+                                               uint32_t *__restrict table)
+{
+    size_t first = named.count;
+    for (size_t a = rack; a-- > 0;) {
+        uint32_t *__restrict const row = table + a * rack;
+        if ((named.tips >> a & 1) != 0) {
+            first--;
+            memset(row, 0, a * sizeof *row);
+            if (named.count == rack) {
+                for (size_t b = a; b < rack; b++) {
+                    row[b] = most(a, b);
+                }
+                continue;
+            }
+            for (size_t last = first; last < named.count; last++) {
+                const uint32_t pairs = most(first, last);
+                const size_t end = last + 1 < named.count ? named.tip[last + 1] : rack;
+                for (size_t b = named.tip[last]; b < end; b++) {
+                    row[b] = pairs;
+                }
+            }
+        } else if (first < named.count) {
+            memcpy(row, row + rack, rack * sizeof *row);
+        } else {
+            memset(row, 0, rack * sizeof *row);
+        }
+    }
 }
 
-/* Answers best sharing on a good file: refused by a short buffer or a line that is no run, else by pairs. */
+/* Answers best sharing on a good file: refused by a short buffer or a line that is no run, else by pairs(named). */
 template <typename Pairs>
 [[gnu::always_inline]] inline uint32_t answer_best(const uint64_t *sets, const Job &job, size_t plan_len,
                                                    size_t table_len, uint64_t *answer, const Pairs &pairs)
@@ -342,42 +403,46 @@ template <typename Pairs>
     if (table_len < job.rack * job.rack) {
         return refused(answer, TIPSHARE_SHORT_TABLE);
     }
-    const size_t no_run = first_no_run(sets, job.count);
+    const Named named(sets, job.count);
+    const size_t no_run = named.first_no_run(sets, job.count);
     if (no_run < job.count) {
         return refused(answer, TIPSHARE_NO_RUN, no_run);
     }
-    return answered(answer, TIPSHARE_ACCEPTED, 0, pairs(), 0, 0);
+    return answered(answer, TIPSHARE_ACCEPTED, 0, pairs(named), 0, 0);
 }
 
 /*
  * The tips chosen in best sharing are a tree: the tip of a stretch has those of the two stretches beside it below it.
  * A line is laid by the first of its tips from the top. Of the tips above h (and h itself) that are not higher than
  * h, a line whose highest tip is h has this one as the lowest in its set: all that is needed of the tree is that set
- * of tips for each h. chosen(a, b) gives the tip of the stretch a to b.
+ * of tips for each h. chosen(a, b) gives the rank of the tip of the stretch from rank a to rank b.
  */
 template <typename Chosen> struct Tree {
     const Chosen &chosen;
+    const Named &named;
     uint64_t *below;
 
     void lay(int a, int b, uint64_t passed)
     {
         while (a <= b) {
-            const int tip = chosen(a, b);
+            const int rank = chosen(a, b);
+            const unsigned tip = named.tip[rank];
             below[tip] = passed | uint64_t{1} << tip;
-            lay(a, tip - 1, passed);
+            lay(a, rank - 1, passed);
             passed |= uint64_t{1} << tip;
-            a = tip + 1;
+            a = rank + 1;
         }
     }
 };
 
 template <typename Chosen>
-inline void lay_best(const uint64_t *sets, size_t count, size_t rack, const Chosen &chosen, uint8_t *__restrict plan)
+inline void lay_best(const uint64_t *sets, size_t count, const Named &named, const Chosen &chosen,
+                     uint8_t *__restrict plan)
 {
     uint64_t below[kMostTips];
-    Tree<Chosen>{chosen, below}.lay(0, static_cast<int>(rack) - 1, 0);
+    Tree<Chosen>{chosen, named, below}.lay(0, static_cast<int>(named.count) - 1, 0);
     for (size_t line = 0; line < count; line++) {
-        plan[line] = static_cast<uint8_t>(lowest(below[highest_of_run(sets[line])] & sets[line]));
+        plan[line] = static_cast<uint8_t>(lowest(below[highest(sets[line])] & sets[line]));
     }
 }
 

@@ -454,7 +454,8 @@ uint32_t quick(const Raw &raw, Quantities quantities, const Job &job, Planes &pl
 }
 
 /*
- * The table of best sharing by length of the stretch and its first tip. A stretch of some length has left of its tip a
+ * The table of best sharing by length of the stretch and its first tip, tips being ranks among the named ones and a
+ * length a number of ranks. A stretch of some length has left of its tip a
  * stretch of d tips and right of it one of length - 1 - d, and of the lines within it those that are in neither allow
  * the tip. Pairs are held eight times and placements two times, for (2 p - 1)^2 is 8 * p (p - 1) / 2 + 1. All numbers
  * stay below 2^24, where a float is exact, and the largest of two floats is one instruction. The tip of a stretch is
@@ -464,13 +465,13 @@ struct Stretches {
     static constexpr size_t kStarts = 72;
     typedef float Row[kStarts];
 
-    size_t rack;
+    size_t ranks;
     // For each length: 2 * placements within; 8 * pairs; the same less 1, what it adds as the left stretch.
     alignas(16) Row within[kMostTips + 1];
     alignas(16) Row right[kMostTips + 1];
     alignas(16) Row left[kMostTips + 1];
 
-    explicit Stretches(size_t rack) : rack(rack) {}
+    explicit Stretches(size_t ranks) : ranks(ranks) {}
 
     /* The lowest tip with the most pairs. */
     int tip_of(int a, int b) const
@@ -487,17 +488,18 @@ struct Stretches {
         }
     }
 
-    template <typename Quantities> void count(const uint64_t *sets, Quantities quantities, size_t count)
+    template <typename Quantities>
+    void count(const uint64_t *sets, Quantities quantities, size_t count, const Named &named)
     {
         // Four stretches at a time reach past the last one.
-        for (size_t length = 0; length <= rack; length++) {
-            for (size_t a = 0; a < rack - length + 8; a += 4) {
+        for (size_t length = 0; length <= ranks; length++) {
+            for (size_t a = 0; a < ranks - length + 8; a += 4) {
                 _mm_store_ps(within[length] + a, _mm_setzero_ps());
             }
         }
         for (size_t line = 0; line < count; line++) {
-            const unsigned first = lowest(sets[line]);
-            within[highest_of_run(sets[line]) - first + 1][first] += static_cast<float>(2 * quantities[line]);
+            const unsigned first = named.first(sets[line]);
+            within[named.last(sets[line]) - first + 1][first] += static_cast<float>(2 * quantities[line]);
         }
     }
 
@@ -507,10 +509,10 @@ struct Stretches {
             left[0][a] = -1;
             right[0][a] = 0;
         }
-        for (size_t length = 1; length <= rack; length++) {
+        for (size_t length = 1; length <= ranks; length++) {
             const __m128 one = _mm_set1_ps(1);
             size_t a = 0;
-            for (; a <= rack - length; a += 4) {
+            for (; a <= ranks - length; a += 4) {
                 __m128 lines = _mm_load_ps(within[length] + a);
                 if (length >= 2) {
                     const float *const shorter = within[length - 1] + a;
@@ -547,27 +549,20 @@ struct Stretches {
         return best;
     }
 
-    void write(uint32_t *__restrict table) const
-    {
-        for (size_t a = 0; a < rack; a++) {
-            memset(table, 0, a * sizeof *table);
-            const float *most = right[1] + a;
-            for (size_t b = a; b < rack; b++) {
-                table[b] = static_cast<uint32_t>(*most) / 8;
-                most += kStarts;
-            }
-            table += rack;
-        }
-    }
+    uint32_t pairs_of(size_t a, size_t b) const { return static_cast<uint32_t>(right[b - a + 1][a]) / 8; }
+
+    /* The pairs of all the ranks, which may be none. */
+    uint32_t pairs() const { return static_cast<uint32_t>(right[ranks][0]) / 8; }
 };
 
 /* Best sharing without its table; gives the number of pairs. */
-uint32_t best(const uint64_t *sets, const uint8_t *quantities, const Job &job, Stretches &stretches, uint8_t *plan)
+uint32_t best(const uint64_t *sets, const uint8_t *quantities, const Job &job, const Named &named, Stretches &stretches,
+              uint8_t *plan)
 {
-    with_quantities(job, quantities, [&](auto all) { stretches.count(sets, all, job.count); });
+    with_quantities(job, quantities, [&](auto all) { stretches.count(sets, all, job.count, named); });
     stretches.fill();
-    lay_best(sets, job.count, job.rack, [&](int a, int b) { return stretches.tip_of(a, b); }, plan);
-    return static_cast<uint32_t>(stretches.right[job.rack][0]) / 8;
+    lay_best(sets, job.count, named, [&](int a, int b) { return stretches.tip_of(a, b); }, plan);
+    return stretches.pairs();
 }
 
 }  // namespace
@@ -644,10 +639,10 @@ uint32_t tuned_best(const uint8_t *file, size_t file_len, uint8_t *plan, size_t 
     Lines lines;
     const auto read = [&] { return read_sets(file, file_len, lines); };
     return answer_with(answer, answer_len, read, [&](const Job &job) {
-        return answer_best(lines.sets, job, plan_len, table_len, answer, [&] {
-            Stretches stretches(job.rack);
-            const uint32_t pairs = best(lines.sets, lines.quantities, job, stretches, plan);
-            stretches.write(table);
+        return answer_best(lines.sets, job, plan_len, table_len, answer, [&](const Named &named) {
+            Stretches stretches(named.count);
+            const uint32_t pairs = best(lines.sets, lines.quantities, job, named, stretches, plan);
+            write_table(named, job.rack, [&](size_t a, size_t b) { return stretches.pairs_of(a, b); }, table);
             return pairs;
         });
     });
@@ -679,10 +674,11 @@ size_t tuned_report(const uint8_t *file, size_t file_len, uint8_t *out, size_t o
     found.quick = with_quantities(
         job, raw.quantities, [&](auto quantities) { return quick(raw, quantities, job, planes, quick_plan); });
     found.quick_plan = quick_plan;
-    found.runs = first_no_run(sets, job.count) == job.count;
+    const Named named(sets, job.count);
+    found.runs = named.first_no_run(sets, job.count) == job.count;
     if (found.runs) {
-        Stretches stretches(job.rack);
-        found.best = best(sets, raw.quantities, job, stretches, best_plan);
+        Stretches stretches(named.count);
+        found.best = best(sets, raw.quantities, job, named, stretches, best_plan);
         found.best_plan = best_plan;
     }
     return write_report(out, job, found);

@@ -1,4 +1,5 @@
-//! Boards to compare on: every small one, and seeded ones of many shapes, with quantities and without.
+//! Boards to compare on: every small one, and seeded ones of many shapes, with quantities and without, on every tip of the
+//! rack and on some of them alone.
 
 use second::{Board, Line, Version, MOST_PLACEMENTS};
 
@@ -20,14 +21,25 @@ pub fn is_counted(board: &Board) -> bool {
     board.version() == Version::Two
 }
 
+/// Whether the set has every tip between its lowest and its highest, named or not.
+pub fn is_unbroken(set: u64) -> bool {
+    let tips = set >> set.trailing_zeros();
+    tips & tips.wrapping_add(1) == 0
+}
+
 /// The board with quantity 1 for every line.
 pub fn single(board: &Board) -> Board {
     Board::of_sets(board.rack, &board.sets[..board.count])
 }
 
+/// The set with each of its tips, taken as a rank, at the place that has this rank.
+fn at_places(set: u64, places: &[usize]) -> u64 {
+    (0..places.len()).filter(|&rank| set >> rank & 1 == 1).fold(0, |set, rank| set | 1 << places[rank])
+}
+
 /// Boards that are always compared: those of the rules, and the ends of each range.
 pub fn fixed_boards() -> Vec<Board> {
-    [fixed_single_boards(), fixed_counted_boards()].concat()
+    [fixed_single_boards(), fixed_counted_boards(), fixed_boards_with_absent_tips()].concat()
 }
 
 fn fixed_single_boards() -> Vec<Board> {
@@ -54,7 +66,7 @@ fn fixed_single_boards() -> Vec<Board> {
         Board::of_sets(64, &[1 << 63; 512]),
     ];
     // Only the last line loses tips, or is no run.
-    for last_line in [all, 0b101] {
+    for last_line in [all, 1 << 20 | 1 << 40] {
         let mut lines = [run(20, 40); 512];
         lines[511] = last_line;
         boards.push(Board::of_sets(64, &lines));
@@ -96,6 +108,36 @@ fn fixed_counted_boards() -> Vec<Board> {
     let mixed: Vec<(u64, u8)> =
         (0..512).map(|line| (run(line % 40, line % 40 + line % 23), 1 + line as u8 % 7)).collect();
     boards.push(counted(64, &mixed));
+    boards
+}
+
+fn fixed_boards_with_absent_tips() -> Vec<Board> {
+    let ends = 1 << 63 | 1;
+    let even = 0x5555_5555_5555_5555;
+    let mut boards = vec![
+        // {2,4} with tip 3 in no line, and in another one.
+        Board::of_sets(5, &[0b1_0100]),
+        Board::of_sets(5, &[0b1_0100, 0b0_1000]),
+        // Line 0 lacks tip 5 of no line, and line 1 tip 3 of line 2.
+        Board::of_sets(7, &[0b101_0000, 0b001_0100, 0b000_1000, 0b001_0100]),
+        // Tips 2, 4 and 6 of 8: rows and columns without a named end before, between and behind them.
+        counted(8, &[(0b0001_0100, 2), (0b0101_0000, 2), (0b0000_0100, 1)]),
+        // Only the ends of the rack.
+        counted(64, &[(ends, 3), (1, 2), (1 << 63, 1)]),
+        counted(2, &[(0b11, 3), (0b01, 2)]),
+        Board::of_sets(64, &[ends; 512]),
+        Board::of_sets(64, &[even; 512]),
+        // Tip 31 is named by the last line, or by the first, alone.
+        Board::of_sets(64, &[[ends; 511].as_slice(), &[1 << 31]].concat()),
+        Board::of_sets(64, &[&[1 << 31], [ends; 511].as_slice()].concat()),
+        // A tip from 32 on is missed.
+        Board::of_sets(64, &[0b101 << 40, 1 << 41, ends & 1]),
+    ];
+    // Runs of even tips, all of the rack's; then the last line names an odd one between two of them, and one at the end.
+    let lines: Vec<u64> = (0..512).map(|line| even & run(line % 40, line % 40 + line % 23 + 1)).collect();
+    for last_line in [1 << 0, 1 << 11, 1 << 63] {
+        boards.push(Board::of_sets(64, &[&lines[..511], &[last_line]].concat()));
+    }
     boards
 }
 
@@ -145,7 +187,11 @@ pub fn seeded_board(random: &mut Random, size: Size) -> Board {
             (random.one_of(&[1, 64, any, any]), random.one_of(&[0, 511, 512, 512, lines, lines, lines]))
         }
     };
-    let sets = seeded_sets(random, rack, count);
+    let sets = if random.once_in(3) {
+        seeded_sets_with_absent_tips(random, rack, count)
+    } else {
+        seeded_sets(random, rack, count)
+    };
     let quantities = seeded_quantities(random, count);
     let lines: Vec<Line> = sets.into_iter().zip(quantities).map(|(set, quantity)| Line { set, quantity }).collect();
     Board::of_lines(rack, &lines)
@@ -235,6 +281,20 @@ fn seeded_sets(random: &mut Random, rack: usize, count: usize) -> Vec<u64> {
     lines
 }
 
+/// The same on some tips of the rack alone; sometimes one line has another tip, which the lines around it then lack.
+fn seeded_sets_with_absent_tips(random: &mut Random, rack: usize, count: usize) -> Vec<u64> {
+    let density = random.from_to(1, 6);
+    let named = any_set(random, rack, density);
+    let places: Vec<usize> = (0..rack).filter(|tip| named >> tip & 1 == 1).collect();
+    let mut sets = seeded_sets(random, places.len(), count);
+    sets.iter_mut().for_each(|set| *set = at_places(*set, &places));
+    if count > 0 && random.once_in(3) {
+        let (line, tip) = (random.below(count), 1 << random.below(rack));
+        sets[line] = random.one_of(&[tip, sets[line] | tip]);
+    }
+    sets
+}
+
 /// A set that is not empty, each tip being in it with this many chances of 8.
 fn any_set(random: &mut Random, rack: usize, density: usize) -> u64 {
     let mut set = 1 << random.below(rack);
@@ -275,6 +335,18 @@ mod tests {
                 assert_eq!(second::read(&seeded_file(&mut Random::new(seed), &board)).board, board);
             }
         }
+    }
+
+    #[test]
+    fn absent_tips_are_frequent_and_so_are_lines_that_miss_a_named_one() {
+        let (mut taken, mut refused) = (0, 0);
+        for seed in 0..2000 {
+            let board = seeded_board(&mut Random::new(seed), Size::Middle);
+            let number = board.clone().best(&mut [0; 512], &mut [0; 4096]).number;
+            taken += usize::from(number == 0 && !board.lines().all(|line| is_unbroken(line.set)));
+            refused += usize::from(number == 25);
+        }
+        assert!(taken > 100 && refused > 200, "{taken} {refused}");
     }
 
     #[test]

@@ -8,7 +8,7 @@ use std::{fs, io, thread};
 use second::interface::{ANSWER_PLACES, REPORT_SPACE};
 use second::{number_of_plans, pairs_in, read, try_every_plan, Board, Version, MOST_PLACEMENTS};
 
-use crate::boards::{every_board, fixed_boards, is_counted, seeded_board, seeded_file, single, Size};
+use crate::boards::{every_board, fixed_boards, is_counted, is_unbroken, seeded_board, seeded_file, single, Size};
 use crate::check::{call_library, compare, Call, Caller, Difference, Outcome};
 use crate::damage::{damage, damaged, first_to_pass, quantities_in, KINDS, TOO_MANY_PLACEMENTS};
 use crate::random::Random;
@@ -330,6 +330,7 @@ impl Run {
         let common = board.clone().common_tip().value;
         let counted = is_counted(board);
         let other_first_tip = || lowest(common.tips) != lowest(single(board).common_tip().value.tips);
+        let (named, rack) = (board.named_tips(), u64::MAX >> (64 - board.rack));
         let events = [
             (board.rack == 1, Event::RackOf1),
             (board.rack == 64, Event::RackOf64),
@@ -341,6 +342,8 @@ impl Run {
             (common.top + common.off == MOST_PLACEMENTS, Event::MostPlacements),
             (board.quantities.contains(&255), Event::Quantity255),
             (counted && other_first_tip(), Event::FirstRoundByQuantities),
+            (named != 0 && named != rack, Event::AbsentTip),
+            (board.rack > 2 && named == 1 | 1 << (board.rack - 1), Event::NamedEndsAlone),
         ];
         self.tally.boards += 1;
         self.count_events(&events);
@@ -383,12 +386,16 @@ impl Run {
         };
         // Best sharing of the second implementation takes long on large boards.
         let is_small = board.count <= 48;
+        let first_broken = board.lines().position(|line| !is_unbroken(line.set));
+        let before_no_run = |line| best.returned == 25 && (line as u64) < best.answer[0];
         self.count_events(&[
             (quick_pairs > 65_535, Event::PairsAbove16Bits),
             (quick_pairs > 130_816, Event::PairsAboveThoseOfLines),
             (both && best_pairs > quick_pairs, Event::BestAboveQuick),
             (both && best_pairs == quick_pairs && best.bytes != quick.bytes, Event::BestOtherPlanSamePairs),
             (both && is_small && is_counted(board) && other_plan(), Event::BestByQuantities),
+            (both && first_broken.is_some(), Event::RunWithAbsentTip),
+            (first_broken.is_some_and(before_no_run), Event::AbsentTipBeforeNoRun),
         ]);
     }
 

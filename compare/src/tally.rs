@@ -42,9 +42,13 @@ pub enum Event {
     WrittenAsVersion2,
     PassedBeforeLastLine,
     BadLineAfterPassing,
+    AbsentTip,
+    RunWithAbsentTip,
+    AbsentTipBeforeNoRun,
+    NamedEndsAlone,
 }
 
-const EVENTS: [(Event, &str); 28] = [
+const EVENTS: [(Event, &str); 32] = [
     (Event::RackOf1, "boards with rack 1"),
     (Event::RackOf64, "boards with rack 64"),
     (Event::NoLines, "boards without lines"),
@@ -73,6 +77,10 @@ const EVENTS: [(Event, &str); 28] = [
     (Event::WrittenAsVersion2, "keep writes version 2"),
     (Event::PassedBeforeLastLine, "files with too many placements before the last line"),
     (Event::BadLineAfterPassing, "files with too many placements before a bad line"),
+    (Event::AbsentTip, "boards of lines with a tip that no line names"),
+    (Event::RunWithAbsentTip, "boards where best takes a line that lacks a tip which no line names"),
+    (Event::AbsentTipBeforeNoRun, "boards where such a line stands before the first one that is no run"),
+    (Event::NamedEndsAlone, "boards whose named tips are the two ends of the rack"),
 ];
 
 /// The counts of a run.

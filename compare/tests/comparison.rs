@@ -11,7 +11,7 @@ fn limits_are_the_same() {
 
 #[test]
 fn short_comparison_shows_no_difference() {
-    let mut run = Run::new(2, 80_000, None);
+    let mut run = Run::new(2, 120_000, None);
     if let Err(difference) = run.all() {
         panic!("{difference}");
     }

@@ -85,7 +85,7 @@ pub fn quick(file: &[u8], plan: &mut [u8]) -> Result<u64, Refusal> {
     Ok(answer_of(|answer| on_slices::quick(file, plan, answer))?[1])
 }
 
-/// Plans runs with the most pairs of placements; gives their number.
+/// Plans lines that are runs of the tips which some line has, with the most pairs of placements; gives their number.
 pub fn best(file: &[u8], plan: &mut [u8], table: &mut [u32]) -> Result<u64, Refusal> {
     Ok(answer_of(|answer| on_slices::best(file, plan, table, answer))?[1])
 }

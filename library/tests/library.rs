@@ -48,6 +48,18 @@ fn quantities_are_counted() {
 }
 
 #[test]
+fn tip_that_no_line_names_is_not_missed() {
+    // {0} and {0,2}: tip 0 takes both, a pair within every stretch from 0 to 2.
+    let mut file = EXAMPLE;
+    file[23] = 0b101;
+    let (mut plan, mut table) = ([7; 2], [7; 9]);
+    assert_eq!(best(&file, &mut plan, &mut table), Ok(1));
+    assert_eq!((plan, table), ([0, 0], [0, 0, 1, 0, 0, 0, 0, 0, 0]));
+    let text = "lines 2 rack 3\noff 0 tips 0\nquick 1\nbest 1\nline 0 quick 0 best 0\nline 1 quick 0 best 0\n";
+    assert_eq!(report(&file), text.as_bytes());
+}
+
+#[test]
 fn quantities_of_1_are_written_as_version_1() {
     let mut file = COUNTED;
     (file[16], file[25]) = (1, 1);
@@ -79,7 +91,7 @@ fn refusals_carry_line_and_margin() {
     assert_eq!(keep(&file, 0, &mut []), Err(refused(26, 0, -1)));
     assert_eq!(keep(&file, 1, &mut []), Err(refused(11, 0, 0)));
     assert_eq!(quick(&file, &mut [0]), Err(refused(4, 0, 0)));
-    file[23] = 0b101;
+    (file[15], file[23]) = (0b010, 0b101);
     assert_eq!(best(&file, &mut [0; 2], &mut [0; 9]), Err(refused(25, 1, 0)));
     file[23] = 0b1000;
     assert_eq!(read(&file), Err(refused(3, 1, 0)));

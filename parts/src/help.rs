@@ -65,7 +65,8 @@ const COMMANDS: [Command; 6] = [
         arguments: "FILE",
         does: "print the quick and the best plan, part by part, and a summary of both",
         more: "Quick takes every list. Best has the most pairs of all plans, a pair being two placements on one tip;\n\
-               it takes lists in which each part has every tip between its lowest and its highest.\n\
+               it takes lists in which each part has every tip between its lowest and its highest, but for tips that\n\
+               no part of the list has.\n\
                A quantity other than 1 stands behind the name, as x10; the summary then counts parts and placements.\n\
                The summary counts tip changes for parts placed tip by tip: one less than the tips used.\n\
                Example: parts plan board.txt\n",

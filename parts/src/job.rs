@@ -44,6 +44,19 @@ impl Job {
         self.lines.iter().map(|line| usize::from(line.quantity)).sum()
     }
 
+    /// The tips that some line has.
+    pub fn named_tips(&self) -> u64 {
+        self.lines.iter().fold(0, |named, line| named | line.set)
+    }
+
+    /// The lowest tip that a line lacks between its ends though some line has it, and the first line that does.
+    pub fn missed_tip(&self, line: usize) -> Option<(usize, usize)> {
+        let set = self.lines[line].set;
+        let missed = |tip: &usize| set >> tip & 1 == 0 && set >> tip != 0 && set & ((1 << tip) - 1) != 0;
+        let has = |tip: usize| self.lines.iter().position(|other| other.set >> tip & 1 == 1);
+        (0..self.rack).filter(missed).find_map(|tip| Some((tip, has(tip)?)))
+    }
+
     /// The text of a parts list, each part named by its line number.
     pub fn in_words(&self) -> String {
         let mut text = format!("rack {}\n", self.rack);

@@ -117,8 +117,11 @@ fn panel(kind: Kind, left: usize, plans: &Plans, plan: Option<&Plan>) -> Vec<Str
     ];
     let number = Text { anchor: "middle", ..PLAIN };
     let strong = Text { weight: "bold", ..number };
+    let named = plans.job.named_tips();
     for tip in 0..rack {
-        drawn.push(strong.at(middle(tip), TOP - 12, &tip.to_string()));
+        // A tip that no part has counts for no run.
+        let colour = if named >> tip & 1 == 1 { INK } else { GREY };
+        drawn.push(Text { colour, ..strong }.at(middle(tip), TOP - 12, &tip.to_string()));
     }
     for (row, line) in lines.iter().enumerate() {
         let y = row_top(row);

@@ -105,6 +105,12 @@ impl Named {
         Ok(Plans { job, common, quick, best })
     }
 
+    /// What a line that is no run lacks, and who has it.
+    fn missing(&self, job: &Job, line: usize) -> String {
+        job.missed_tip(line)
+            .map_or(String::new(), |(tip, other)| format!(": it lacks tip {tip}, which {} has", self.label(other)))
+    }
+
     /// Both plans line by line, and a summary.
     pub fn plan(&self) -> Result<String, String> {
         let plans = self.plans()?;
@@ -113,7 +119,7 @@ impl Named {
         text += &format!("quick {}\n", plans.quick.pairs);
         text += &match &plans.best {
             Ok(best) => format!("best {}\n", best.pairs),
-            Err(line) => format!("best none, {} is no run\n", self.label(*line)),
+            Err(line) => format!("best none, {} is no run{}\n", self.label(*line), self.missing(&plans.job, *line)),
         };
         for line in 0..lines {
             text += &format!("{} {}\n", self.label_in(&plans.job, line), plans.each(|plan| plan.tips[line]));

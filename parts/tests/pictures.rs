@@ -76,6 +76,16 @@ fn list_without_a_best_plan_has_the_quick_one_alone() {
 }
 
 #[test]
+fn tips_that_no_part_has_are_numbered_in_grey() {
+    let picture = picture("rack 4\nA : 1 3\nB : 3\n");
+    // Once in each plan, above its column.
+    for (tip, colour) in [(0, "#66727f"), (1, "#1f2933"), (2, "#66727f"), (3, "#1f2933")] {
+        assert_eq!(count(&picture, &format!("fill=\"{colour}\" font-weight=\"bold\">{tip}</text>")), 2, "{tip}");
+    }
+    assert_eq!(count(&picture, "</tspan> 1 pair on 1 tip</text>"), 2);
+}
+
+#[test]
 fn names_and_comments_are_text_of_the_drawing() {
     let picture = picture("rack 1\na&<b> : 0 # \"c\" 'd'\n");
     assert_eq!(count(&picture, ">a&amp;&lt;b&gt;</text>"), 1);

@@ -100,11 +100,30 @@ fn plan_names_both_tips_and_sums_up() {
 #[test]
 fn plan_names_the_line_that_is_no_run() {
     let text =
-        "lines 4 rack 3\noff 2 tips 0 1 2\nquick 1\nbest none, D is no run\nA quick 1 best -\nB quick 2 best -\n\
+        "lines 4 rack 3\noff 2 tips 0 1 2\nquick 1\nbest none, D is no run: it lacks tip 1, which A has\nA quick 1 best -\nB quick 2 best -\n\
          C quick 0 best -\nD quick 0 best -\n\n\
          tips used quick 3 best -\nparts on tip 0 quick 2 best -\nparts on tip 1 quick 1 best -\n\
          parts on tip 2 quick 1 best -\npairs quick 1 best -\ntip changes quick 2 best -, parts placed tip by tip\n";
     assert_eq!(named("rack 3\nA : 1\nB : 2\nC : 0-1\nD : 0 2\n").plan(), Ok(text.into()));
+}
+
+#[test]
+fn tip_that_no_part_has_may_be_missing() {
+    let board = "rack 5\nA : 2 4\nB : 2\nC : 4\nD : 4\n";
+    let text = "lines 4 rack 5\noff 1 tips 4\nquick 3\nbest 3\nA quick 4 best 4\nB quick 2 best 2\nC quick 4 best 4\n\
+                D quick 4 best 4\n\n\
+                tips used quick 2 best 2\nparts on tip 2 quick 1 best 1\nparts on tip 4 quick 3 best 3\n\
+                pairs quick 3 best 3\ntip changes quick 1 best 1, parts placed tip by tip\n";
+    assert_eq!(named(board).plan(), Ok(text.into()));
+    // The first part that is no run, the lowest tip that it lacks, and the first part that has it.
+    for (more, why) in [
+        ("E : 3\n", "A is no run: it lacks tip 3, which E has"),
+        (": 1 4\nF : 3\nG : 3\n", "A is no run: it lacks tip 3, which F has"),
+        (": 0-1\n: 0 4\n", "line 5 is no run: it lacks tip 1, which line 4 has"),
+    ] {
+        let plan = named(&(board.to_string() + more)).plan().unwrap();
+        assert!(plan.contains(&format!("\nbest none, {why}\nA quick 4 best -\n")), "{plan}");
+    }
 }
 
 #[test]

@@ -177,6 +177,11 @@ impl Board {
         (0..self.count).map(|line| self.held(line))
     }
 
+    /// The tips that some line of a sound board names.
+    pub fn named_tips(&self) -> u64 {
+        self.lines().fold(0, |named, line| named | line.set)
+    }
+
     /// The set of each placement of a sound board, line by line.
     pub fn placements(&self) -> Vec<u64> {
         self.lines().flat_map(|line| vec![line.set; line.quantity.into()]).collect()

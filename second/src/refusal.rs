@@ -36,7 +36,7 @@ pub const CLOSED: u32 = 22;
 pub const OPEN: u32 = 23;
 /// Add on a board of 512 lines.
 pub const FULL: u32 = 24;
-/// Best sharing, and some line is no run.
+/// Best sharing, and some line misses a named tip between its lowest and its highest.
 pub const NO_RUN: u32 = 25;
 /// Keep, and the margin is below zero.
 pub const NO_PLAN: u32 = 26;

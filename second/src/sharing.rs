@@ -15,19 +15,22 @@ pub fn pairs_in(placed: &[u8]) -> u32 {
     pairs
 }
 
-/// Whether the distance from the lowest tip to the highest, plus one, is the number of tips.
-fn is_run(set: u64) -> bool {
+/// Whether the set has every named tip between its lowest tip and its highest.
+fn is_run(set: u64, named: u64) -> bool {
     let mut lowest = MOST_TIPS;
     let mut highest = 0;
-    let mut number = 0;
     for tip in 0..MOST_TIPS {
         if has(set, tip) {
             lowest = lowest.min(tip);
             highest = tip;
-            number += 1;
         }
     }
-    highest + 1 == lowest + number
+    for tip in lowest..=highest {
+        if has(named, tip) && !has(set, tip) {
+            return false;
+        }
+    }
+    true
 }
 
 /// The set of the tips from first to last.
@@ -60,11 +63,14 @@ fn pairs_choosing(within: &[Line], table: &[u32], rack: usize, a: usize, b: usiz
 }
 
 /// Lays the lines lying within the stretch a to b: first those on its tip, then the two stretches beside it.
-fn lay_stretch(board: &Board, table: &[u32], plan: &mut [u8], a: usize, b: usize) {
+fn lay_stretch(board: &Board, named: u64, table: &[u32], plan: &mut [u8], a: usize, b: usize) {
     let stretch = tips_from_to(a, b);
+    if named & stretch == 0 {
+        return;
+    }
     let within = lines_within(board, a, b);
     let mut c = a;
-    while pairs_choosing(&within, table, board.rack, a, b, c) != table[a * board.rack + b] {
+    while !has(named, c) || pairs_choosing(&within, table, board.rack, a, b, c) != table[a * board.rack + b] {
         c += 1;
     }
     for line in 0..board.count {
@@ -73,10 +79,10 @@ fn lay_stretch(board: &Board, table: &[u32], plan: &mut [u8], a: usize, b: usize
         }
     }
     if c > a {
-        lay_stretch(board, table, plan, a, c - 1);
+        lay_stretch(board, named, table, plan, a, c - 1);
     }
     if c < b {
-        lay_stretch(board, table, plan, c + 1, b);
+        lay_stretch(board, named, table, plan, c + 1, b);
     }
 }
 
@@ -118,7 +124,7 @@ impl Board {
         Answer::accepted(self, pairs)
     }
 
-    /// Best sharing of lines that are runs; the table ends with the most pairs of each stretch.
+    /// Best sharing of lines that are runs among the named tips; the table ends with the most pairs of each stretch.
     pub fn best(self, plan: &mut [u8], table: &mut [u32]) -> Answer<u32> {
         let (number, place) = self.refusal_in(Stage::Closed);
         if number != refusal::NONE {
@@ -131,8 +137,9 @@ impl Board {
         if table.len() < m * m {
             return Answer::refused(self, refusal::SHORT_TABLE);
         }
+        let named = self.named_tips();
         for line in 0..self.count {
-            if !is_run(self.sets[line]) {
+            if !is_run(self.sets[line], named) {
                 return Answer::refused_at(self, refusal::NO_RUN, line);
             }
         }
@@ -146,12 +153,14 @@ impl Board {
                 let within = lines_within(&self, a, b);
                 let mut most = 0;
                 for c in a..=b {
-                    most = most.max(pairs_choosing(&within, table, m, a, b, c));
+                    if has(named, c) {
+                        most = most.max(pairs_choosing(&within, table, m, a, b, c));
+                    }
                 }
                 table[a * m + b] = most;
             }
         }
-        lay_stretch(&self, table, plan, 0, m - 1);
+        lay_stretch(&self, named, table, plan, 0, m - 1);
         let pairs = table[m - 1];
         Answer::accepted(self, pairs)
     }

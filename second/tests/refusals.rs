@@ -227,8 +227,7 @@ fn short_buffers() {
         assert_refused(board.clone().best(&mut plan, &mut table[..8]), &board, 4, 0, 0);
         assert_eq!((plan, table), (vec![7; length], vec![7; 9]));
     }
-    let mut no_runs = board.clone();
-    no_runs.sets[1] = 0b101;
+    let no_runs = Board::of_sets(3, &[0b010, 0b101]);
     for length in 0..9 {
         let mut plan = vec![7; 2];
         let mut table = vec![7; length];
@@ -252,9 +251,10 @@ fn short_buffers() {
 
 #[test]
 fn no_run_names_the_first_such_line() {
-    let mut board = Board::of_sets(64, &[u64::MAX; 512]);
-    for line in (0..512).rev() {
-        board.sets[line] = 1 | 1 << 63;
+    for line in 0..512 {
+        // The line and those after it miss tips that some other line has: one before it, or for line 0 the last.
+        let mut board = Board::of_sets(64, &[u64::MAX; 512]);
+        board.sets[line..512.min(line + 511)].fill(1 | 1 << 63);
         let mut plan = [7; 512];
         let mut table = [7; 4096];
         assert_refused(board.clone().best(&mut plan, &mut table), &board, 25, line, 0);

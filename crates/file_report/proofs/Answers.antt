@@ -14,7 +14,7 @@ use Rattle.model.specs.Limits.{mostTips}
 use Rattle.model.specs.Plan.{pairs}
 use Rattle.model.specs.Choice.{bare}
 use Rattle.model.specs.CommonTip.{top, W}
-use Rattle.model.specs.Interval.{isRun, C}
+use Rattle.model.specs.Interval.{named, isRunOf, C}
 use Rattle.model.proofs.Lists.{each-iff}
 use Rattle.model.proofs.Tests.{true-T, same-test}
 use Rattle.placements.specs.Repeated.{total, repeated}
@@ -29,7 +29,7 @@ use Rattle.line_calls.specs.declared.CommonAnswer.{CommonAnswer}
 use Rattle.line_calls.specs.declared.PlanAnswer.{PlanAnswer}
 use Rattle.line_calls.specs.Lines.{commonOf, quickOf, quickBuffer, bestOf, bestBuffer}
 use Rattle.report.specs.Report.{Facts, pairsText, lineText, lineAt, bestText, reportOf}
-use Rattle.file_report.specs.Summary.{factsOf, BestShared}
+use Rattle.file_report.specs.Summary.{allRuns, factsOf, BestTold}
 
 -- as many as there are lines are all the quantities
 whole-quantities : {m : ℕ} {qs lines : List ℕ} → GoodLines m qs lines → take (length lines) qs ≡ qs
@@ -48,11 +48,12 @@ whole : (lines new old : List ℕ) → length old ≡ length lines → new ++ dr
 whole lines new old e = rw (drop-of-length-le old {i = length lines} (omega (arith, e))) (append-nil new)
 
 -- no line is refused for being no run exactly where each is one
-runs-each : (lines : List ℕ) → accepts (runRefusal lines) ≡ each isRun lines
+runs-each : (lines : List ℕ) → accepts (runRefusal lines) ≡ allRuns lines
 runs-each lines =
-    same-test (accepts (runRefusal lines)) (each isRun lines)
-    (λ t. each-iff isRun lines .1 (scan-none isRun (λ _. 25) lines (λ _ e. omega (arith, e)) (eqb-true _ 0 (true-T _ t))))
-    (λ t. rw (scan-passes isRun (λ _. 25) lines (each-iff isRun lines .0 t)) tt)
+    let run = isRunOf (named lines) in
+    same-test (accepts (runRefusal lines)) (each run lines)
+    (λ t. each-iff run lines .1 (scan-none run (λ _. 25) lines (λ _ e. omega (arith, e)) (eqb-true _ 0 (true-T _ t))))
+    (λ t. rw (scan-passes run (λ _. 25) lines (each-iff run lines .0 t)) tt)
 
 module _ {m : ℕ} {qs lines : List ℕ} (good : GoodLines m qs lines) {earlier : Refusal} (free : earlier ≡ none) where
   pub common-is : {r : CommonAnswer} → r ≡ commonOf earlier m (take (length lines) qs) (take (length lines) lines)
@@ -79,13 +80,13 @@ module _ {m : ℕ} {qs lines : List ℕ} (good : GoodLines m qs lines) {earlier 
     pub best-is : {places : ℕ} → places ≡ mostTips * mostTips → {r : PlanAnswer} {out : List ℕ}
         → r ≡ bestOf earlier m (take (length lines) qs) (take (length lines) lines) (length old) places
         → out ≡ bestBuffer earlier m (take (length lines) qs) (take (length lines) lines) old places
-        → (eqb (r .refusal .number) 0 ≡ each isRun lines)
-        × (T (eqb (r .refusal .number) 0) → BestShared m qs lines (r .pairs) out)
+        → BestTold m qs lines (eqb (r .refusal .number) 0) (r .pairs) out
     unfolding bestOf bestBuffer
-    best-is s e f = rw (e, f, free, take-length lines, whole-quantities good, best-left s) (
-      runs-each lines,
-      λ t. rw (true-T (accepts (runRefusal lines)) t) (refl, whole lines (bestPlanQ bare m qs lines) old size),
-    )
+    best-is s e f = rw (e, f, free, take-length lines, whole-quantities good, best-left s) (record {
+      runs-are = runs-each lines;
+      pairs-are = λ t. rw (true-T (accepts (runRefusal lines)) t) refl;
+      plan-is = λ t. rw (true-T (accepts (runRefusal lines)) t) (whole lines (bestPlanQ bare m qs lines) old size);
+    })
 
 -- what is reported of lines of which best sharing answers these pairs and this plan
 facts : ℕ → List ℕ → List ℕ → Bool → ℕ → List ℕ → Facts
@@ -109,13 +110,14 @@ without-runs m qs lines x y plan other = refl
 pub same-report : (m : ℕ) (qs lines : List ℕ) {o w x y : ℕ} {runs : Bool} {quick best : List ℕ}
     → (o ≡ total qs - top m (repeated qs lines)) × (w ≡ W m (repeated qs lines))
     → (x ≡ pairs (repeated qs (quickPlanQ bare m qs lines))) × (quick ≡ quickPlanQ bare m qs lines)
-    → runs ≡ each isRun lines → (T runs → BestShared m qs lines y best)
+    → BestTold m qs lines runs y best
     → reportOf (record { rack = m; off = o; tips = w; quickPairs = x; runs = runs; bestPairs = y; quick = quick; best = best })
     ≡ reportOf (factsOf m qs lines)
 unfolding facts factsOf
-same-report m qs lines {y = y} {runs = runs} {best = best} (e, f) (g, h) i j = rw (e, f, g, h, ← i) (by runs j)
+same-report m qs lines {y = y} {runs = runs} {best = best} (e, f) (g, h) told =
+    rw (e, f, g, h, ← told .runs-are) (by runs (told .pairs-are) (told .plan-is))
   where
-    by : (t : Bool) → (T t → BestShared m qs lines y best)
+    by : (t : Bool) → (T t → y ≡ C (repeated qs lines) 0 m) → (T t → best ≡ bestPlanQ bare m qs lines)
         → reportOf (facts m qs lines t y best) ≡ reportOf (facts m qs lines t (C (repeated qs lines) 0 m) (bestPlanQ bare m qs lines))
-    by true k = let (p, q) = k tt in rw (p, q)
-    by false k = without-runs m qs lines _ _ _ _
+    by true p q = rw (p tt, q tt)
+    by false p q = without-runs m qs lines _ _ _ _

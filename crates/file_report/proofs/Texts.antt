@@ -2,22 +2,22 @@
 use Prim.Native.Nat.{ℕ, min, _≤_, _<_}
 use mathlib.Core.Path.{_≡_, sym, ap, _∙_}
 use mathlib.Core.Logic.{⊎-elim}
-use mathlib.Core.Bool.{cond}
-use mathlib.Core.List.{List, []}
+use mathlib.Core.Bool.{Bool, cond}
+use mathlib.Core.List.{List, [], _++_}
 use native.Mathlib.Omega.{arith}
 use native.Mathlib.Nat.{min-eq-left, min-eq-right}
 use lib.ListN.{length, take, length-append, length-drop}
-use lib.Seq.{take-all, take-length}
+use lib.Seq.{take-all, take-at, take-length}
 use borrow.Author.Tests.{lt-ltb, le-ltb}
 use Rattle.model.proofs.Tests.{le-or-lt}
 use Rattle.refusal.specs.declared.Refusal.{Refusal}
 use Rattle.refusal.proofs.Laws.{refused, accepted}
-use Rattle.job.specs.Job.{readRefusal}
+use Rattle.job.specs.Job.{countIn, readRefusal}
 use Rattle.reading.specs.Reading.{LinesRead}
 use Rattle.reading.proofs.Lines.{first-sets, first-quantities}
 use Rattle.report.specs.Report.{reportOf, refusedText}
 use Rattle.text.specs.Buffer.{Printed}
-use Rattle.file_report.specs.Summary.{takenBytes, textRoom, factsOf, textOf, summaryOf}
+use Rattle.file_report.specs.Summary.{takenBytes, textRoom, factsOf, BestTold, BestOfFile, textOf, summaryOf}
 
 -- a text that is printed into a buffer fits it
 pub printed-fits : {text before after : List ℕ} {n : ℕ} → Printed text before n after → length after ≡ length before → n ≤ length after
@@ -33,6 +33,17 @@ module _ (file : List ℕ) {d : Refusal} (e : d ≡ readRefusal file) where
       → textOf file ≡ reportOf (factsOf m (take n qs) (take n sets))
   unfolding textOf
   text-accepted z read = accepted _ _ e z ∙ rw (first-sets read, first-quantities read, read .rack-is)
+
+-- what is told of best sharing of the lines that were read is told of the file's, and the other way round
+module _ {file : List ℕ} {m n : ℕ} {old-sets sets old-qs qs : List ℕ} (read : LinesRead file m n old-sets sets old-qs qs) {runs : Bool} {x : ℕ} where
+  pub told-file : (plan rest : List ℕ) → length plan ≡ n → BestTold m (take n qs) (take n sets) runs x plan → BestOfFile file runs x (plan ++ rest)
+  told-file plan rest size told =
+      rw (take-at plan rest (countIn file) (size ∙ read .count-is), ← first-sets read, ← first-quantities read, ← (read .rack-is)) told
+
+  pub told-lines : (buffer : List ℕ) → BestOfFile file runs x buffer → BestTold m (take n qs) (take n sets) runs x (take n buffer)
+  told-lines buffer told =
+      let front = ap (λ k. take k buffer) (read .count-is) in
+      rw (front, first-sets read, first-quantities read, read .rack-is) told
 
 -- at most n elements, and no more than there are
 take-least : (n : ℕ) (xs : List ℕ) → take (min (length xs) n) xs ≡ take n xs

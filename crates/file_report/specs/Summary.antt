@@ -1,24 +1,28 @@
 -- What the program tipshare prints for a file.
 use Prim.Native.Nat.{ℕ, _+_, _*_, _-_}
 use mathlib.Core.Path.{_≡_}
-use mathlib.Core.Bool.{cond}
+use mathlib.Core.Bool.{Bool, cond}
 use mathlib.Core.List.{List, []}
-use lib.Dec.{ltb}
+use lib.Dec.{T, ltb}
 use lib.ListN.{take}
 use Rattle.model.specs.Count.{each}
 use Rattle.model.specs.Limits.{mostLines}
 use Rattle.model.specs.Plan.{pairs}
 use Rattle.model.specs.Choice.{bare}
 use Rattle.model.specs.CommonTip.{top, W}
-use Rattle.model.specs.Interval.{isRun, C}
+use Rattle.model.specs.Interval.{named, isRunOf, C}
 use Rattle.placements.specs.Repeated.{total, repeated}
 use Rattle.placements.specs.Plans.{quickPlanQ, bestPlanQ}
 use Rattle.refusal.specs.Refusal.{accepts}
-use Rattle.job.specs.Job.{headerLength, setLength, rackIn, quantitiesIn, setsIn, readRefusal}
+use Rattle.job.specs.Job.{headerLength, setLength, rackIn, countIn, quantitiesIn, setsIn, readRefusal}
 use Rattle.report.specs.Report.{Facts, reportOf, refusedText}
 
+-- each line is a run of the named tips
+abbrev pub allRuns : List ℕ → Bool
+allRuns sets = each (isRunOf (named sets)) sets
+
 -- what is reported of lines with quantities: the least off count and W, both pair counts, and both plans; those of best sharing count only where
--- every line is a run. Counted are placements, planned are lines.
+-- every line is a run of the named tips. Counted are placements, planned are lines.
 unfoldable pub factsOf : ℕ → List ℕ → List ℕ → Facts
 factsOf m qs sets =
     let placements = repeated qs sets in
@@ -28,15 +32,21 @@ factsOf m qs sets =
       off = total qs - top m placements;
       tips = W m placements;
       quickPairs = pairs (repeated qs quick);
-      runs = each isRun sets;
+      runs = allRuns sets;
       bestPairs = C placements 0 m;
       quick = quick;
       best = bestPlanQ bare m qs sets;
     }
 
--- best sharing of the lines answers these pairs, and leaves this plan
-abbrev pub BestShared : ℕ → List ℕ → List ℕ → ℕ → List ℕ → Type 0
-BestShared m qs sets shared plan = (shared ≡ C (repeated qs sets) 0 m) × (plan ≡ bestPlanQ bare m qs sets)
+-- what is told of best sharing of the lines: whether each is a run, and where it is so the pairs, and the plan
+pub record BestTold (m : ℕ) (qs sets : List ℕ) (runs : Bool) (shared : ℕ) (plan : List ℕ) : Type 0 where
+  pub runs-are : runs ≡ allRuns sets
+  pub pairs-are : T runs → shared ≡ C (repeated qs sets) 0 m
+  pub plan-is : T runs → plan ≡ bestPlanQ bare m qs sets
+
+-- and of the lines of a file, with the plan at the front of a buffer
+abbrev pub BestOfFile : List ℕ → Bool → ℕ → List ℕ → Type 0
+BestOfFile file runs shared buffer = BestTold (rackIn file) (quantitiesIn file) (setsIn file) runs shared (take (countIn file) buffer)
 
 -- the text for a file: the report on its lines, or the number of its refusal
 unfoldable pub textOf : List ℕ → List ℕ

@@ -1,15 +1,13 @@
 // The whole of what the program tipshare prints for a file, written into a buffer.
 ghost use mathlib.Core.Path.{_≡_};
 ghost use Prim.Native.Nat.{_≤_, min};
-ghost use lib.Dec.{T};
 ghost use lib.ListN.{length};
-ghost use Rattle.model.specs.Count.{each};
 ghost use Rattle.model.specs.Limits.{mostLines};
-ghost use Rattle.model.specs.Interval.{isRun};
 ghost use Rattle.placements.specs.Good.{GoodLines};
+ghost use Rattle.job.specs.Job.{readRefusal};
 ghost use Rattle.report.specs.Report.{reportOf};
 ghost use Rattle.text.specs.Buffer.{Printed};
-ghost use Rattle.file_report.specs.Summary.{factsOf, BestShared, textOf, takenBytes, textRoom, summaryOf};
+ghost use Rattle.file_report.specs.Summary.{factsOf, BestTold, BestOfFile, textOf, takenBytes, textRoom, summaryOf};
 
 // The bytes of a file that are taken: one more than the longest good file has, by which a longer one is seen.
 pub const TAKEN: usize = 4617;
@@ -31,23 +29,23 @@ fn table_buffer() -> [u32; 4096]
     [0u32; 4096]
 }
 
-// Whether each line is a run, and the pairs of best sharing where it is so.
+// Whether each line is a run of the named tips, and the pairs of best sharing where it is so.
 struct Best {
     runs: bool,
     pairs: u32,
 }
 
-// Best sharing of the lines. Where some line is no run the plan stays as it was.
-fn best_lines<'a>(rack: usize, lines: &'a [u64], quantities: &'a [u8], plan: &mut [u8]) -> Best
+// Best sharing of the lines, which uses them up. Where some line is no run the plan stays as it was.
+fn best_lines(rack: usize, lines: &mut [u64], quantities: &[u8], plan: &mut [u8]) -> Best
     requires { ⌜ GoodLines rack (now quantities) (now lines) × (length (now plan) ≡ length (now lines)) ⌝ }
-    ensures runs { λ r. ⌜ r .runs ≡ each isRun (now (lines .entry)) ⌝ }
-    ensures best { λ r. ⌜ (T (r .runs) → BestShared rack (now (quantities .entry)) (now (lines .entry)) (r .pairs) (now (plan .exit))) ⌝ }
+    ensures { λ r. ⌜ BestTold rack (now (quantities .entry)) (now (lines .entry)) (r .runs) (r .pairs) (now (plan .exit)) ⌝ }
 {
     let mut table = table_buffer();
+    let count = lines.len();
     let laid = line_calls::best(
         refusal::refuse(0),
         rack,
-        lines.len(),
+        count,
         lines,
         quantities,
         plan,
@@ -60,17 +58,41 @@ fn best_lines<'a>(rack: usize, lines: &'a [u64], quantities: &'a [u8], plan: &mu
     }
 }
 
+// Best sharing of the lines of a file, which are read for it, and used up. Of a refused file nothing is told.
+fn best_of_file(file: &[u8], sets: &mut [u64], quantities: &mut [u8], plan: &mut [u8]) -> Best
+    requires { ⌜ (length (now sets) ≡ mostLines) × (length (now quantities) ≡ mostLines) × (length (now plan) ≡ mostLines) ⌝ }
+    ensures { λ r. ⌜ (readRefusal (now (file .entry)) .number ≡ 0 → BestOfFile (now (file .entry)) (r .runs) (r .pairs) (now (plan .exit))) ⌝ }
+{
+    let read = reading::read_lines(file, sets, quantities);
+    let refusal = read.refusal;
+    if refusal.number != 0 {
+        return Best {
+            runs: false,
+            pairs: 0,
+        };
+    }
+    let count = read.count;
+    best_lines(
+        read.rack,
+        &mut sets[..count],
+        &quantities[..count],
+        &mut plan[..count],
+    )
+}
+
 // The report on good lines, which quick sharing uses up; both plans have a byte a line.
 fn write_lines(
     rack: usize,
     lines: &mut [u64],
     quantities: &[u8],
+    shared: Best,
     quick: &mut [u8],
-    best: &mut [u8],
+    best: &[u8],
     out: &mut [u8],
 ) -> usize
     requires { ⌜ GoodLines rack (now quantities) (now lines) × (textRoom ≤ length (now out)) ⌝ }
     requires { ⌜ (length (now quick) ≡ length (now lines)) × (length (now best) ≡ length (now lines)) ⌝ }
+    requires { ⌜ BestTold rack (now quantities) (now lines) (shared .runs) (shared .pairs) (now best) ⌝ }
     ensures { λ r. ⌜ Printed
         (reportOf (factsOf rack (now (quantities .entry)) (now (lines .entry))))
         (now (out .entry))
@@ -79,7 +101,6 @@ fn write_lines(
 {
     let count = lines.len();
     let common = line_calls::common(refusal::refuse(0), rack, count, lines, quantities);
-    let shared = best_lines(rack, lines, quantities, best);
     let laid = line_calls::quick(refusal::refuse(0), rack, count, lines, quantities, quick);
     report::write_report(
         rack,
@@ -94,13 +115,15 @@ fn write_lines(
     )
 }
 
-// The report on a file, or on its refusal.
+// The report on a file, or on its refusal. The lines are read twice, for each plan uses them up; a second array would need more stack.
 fn write_file(file: &[u8], out: &mut [u8]) -> usize
     requires { ⌜ textRoom ≤ length (now out) ⌝ }
     ensures { λ r. ⌜ Printed (textOf (now (file .entry))) (now (out .entry)) r (now (out .exit)) ⌝ }
 {
     let mut sets = sound::no_sets();
     let mut quantities = sound::no_quantities();
+    let mut best = plan_buffer();
+    let shared = best_of_file(file, &mut sets, &mut quantities, &mut best);
     let read = reading::read_lines(file, &mut sets, &mut quantities);
     let refusal = read.refusal;
     if refusal.number != 0 {
@@ -108,13 +131,13 @@ fn write_file(file: &[u8], out: &mut [u8]) -> usize
     }
     let count = read.count;
     let mut quick = plan_buffer();
-    let mut best = plan_buffer();
     write_lines(
         read.rack,
         &mut sets[..count],
         &quantities[..count],
+        shared,
         &mut quick[..count],
-        &mut best[..count],
+        &best[..count],
         out,
     )
 }

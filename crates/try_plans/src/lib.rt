@@ -148,12 +148,45 @@ pub fn busiest(small: Small, top: u64) -> u64
     set
 }
 
-// The first line that is no run, or n: the set has another number than 1 of tips without the tip below them.
+// The tips of the first n lines together.
+fn named_tips(lines: [u64; 8], n: usize) -> u64
+    requires { ⌜ n ≤ 8 ⌝ }
+{
+    let mut named: u64 = 0;
+    for i in 0..n {
+        named |= lines[i];
+    }
+    named
+}
+
+// The tips up to the highest of the set.
+fn filled_down(set: u64) -> u64 {
+    let two = set | (set >> 1);
+    let four = two | (two >> 2);
+    let eight = four | (four >> 4);
+    let sixteen = eight | (eight >> 8);
+    let half = sixteen | (sixteen >> 16);
+    half | (half >> 32)
+}
+
+// The tips from the lowest of the set on.
+fn filled_up(set: u64) -> u64 {
+    let two = set | (set << 1);
+    let four = two | (two << 2);
+    let eight = four | (four << 4);
+    let sixteen = eight | (eight << 8);
+    let half = sixteen | (sixteen << 16);
+    half | (half << 32)
+}
+
+// The first line that is no run, or n: a tip that some line has is between its lowest and its highest, and not in it.
 pub fn first_no_run(lines: [u64; 8], n: usize) -> usize
     requires { ⌜ n ≤ 8 ⌝ }
 {
+    let named = named_tips(lines, n);
     for i in 0..n {
-        if u64::count_ones(lines[i] & !(lines[i] << 1)) != 1 {
+        let line = lines[i];
+        if named & filled_down(line) & filled_up(line) != line {
             return i;
         }
     }

@@ -158,12 +158,22 @@ fn check_quick(board: &Board, tried: &Tried) {
     });
 }
 
+/// Whether another line has a tip that this one lacks, between two of its own.
+fn misses_a_tip(board: &Board, line: Line) -> bool {
+    let lacks = |tip: usize| (line.set >> tip) & 1 == 0;
+    let others = board.lines().flat_map(|other| tips_in(other.set));
+    let mut missed = others.filter(|&tip| lacks(tip) && line.set >> tip != 0 && line.set << (63 - tip) != 0);
+    missed.next().is_some()
+}
+
 fn check_best(board: &Board, tried: &Tried) {
     let mut plan = junk_plan(board);
     let mut table = vec![JUNK_PAIRS; board.rack * board.rack + 2];
     let best = board.clone().best(&mut plan, &mut table);
-    let runs = all_runs(board.rack);
-    match board.lines().position(|line| !runs.contains(&line.set)) {
+    // A line with every tip between its ends is a run, whatever the others have.
+    let unbroken = all_runs(board.rack);
+    assert!(best.number == 0 || board.lines().any(|line| !unbroken.contains(&line.set)));
+    match board.lines().position(|line| misses_a_tip(board, line)) {
         Some(line) => {
             assert_answer(&best, board, 25, line);
             assert_eq!(best.value, 0);

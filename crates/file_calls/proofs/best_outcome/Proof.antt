@@ -38,7 +38,7 @@ same-length-2 c = search needs
 
 returns : tie.Need-returns
 returns c =
-    let laid = c .before .before .before .before .before in
+    let laid = c .before .before .before .before .before .before in
     let (e, (lines, _)) = laid .before .before .before .before .before .before .before .read-lines .ensures in
     let (answer, (plan, (table, rule))) = laid .best .ensures in
     rw (c .plan-outcome .ensures) (best-in _ e (λ z. same-lines (lines z)) _ _ answer plan table rule)

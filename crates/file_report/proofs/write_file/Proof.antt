@@ -6,7 +6,8 @@ use lib.Seq.{length-take-le}
 use Rattle.model.specs.Limits.{mostLines}
 use Rattle.placements.specs.Good.{GoodLines}
 use Rattle.refusal.specs.Refusal.{Given}
-use Rattle.file_report.proofs.Texts.{text-refused, text-accepted}
+use Rattle.refusal.proofs.Laws.{number-of}
+use Rattle.file_report.proofs.Texts.{text-refused, text-accepted, told-lines}
 use borrow.Author.Needs.{needs}
 use Rattle.file_report.proofs.write_file.Statement.{statement}
 use Rattle.file_report.proofs.write_file.Tie as tie
@@ -16,6 +17,21 @@ no-sets-requires c κs = search needs
 
 no-quantities-requires : tie.Need-no-quantities-requires
 no-quantities-requires c κs = search needs
+
+plan-buffer-requires : tie.Need-plan-buffer-requires
+plan-buffer-requires c κs = search needs
+
+slice-aggregate-best-of-file : tie.Need-slice-aggregate-best-of-file
+slice-aggregate-best-of-file c = search needs
+
+slice-aggregate-best-of-file-2 : tie.Need-slice-aggregate-best-of-file-2
+slice-aggregate-best-of-file-2 c = search needs
+
+slice-aggregate-best-of-file-3 : tie.Need-slice-aggregate-best-of-file-3
+slice-aggregate-best-of-file-3 c = search needs
+
+best-of-file-requires : tie.Need-best-of-file-requires
+best-of-file-requires c κs = search needs
 
 slice-aggregate-read-lines : tie.Need-slice-aggregate-read-lines
 slice-aggregate-read-lines c = search needs
@@ -38,9 +54,6 @@ returns c =
     let refused = written .before .before in
     let read = refused .before .before .before .before .before in
     rw (text-refused _ (read .read-lines .ensures .0) (refused .if1 .taken)) (written .write-refused .ensures)
-
-plan-buffer-requires : tie.Need-plan-buffer-requires
-plan-buffer-requires c κs = search needs
 
 plan-buffer-requires-2 : tie.Need-plan-buffer-requires-2
 plan-buffer-requires-2 c κs = search needs
@@ -65,54 +78,62 @@ size d = length-take-le _ _ (given d .room (d .if1 .left))
 few : (d : tie.Else1) → read d .read-lines .result .count ≤ mostLines
 few d = omega (arith, size d, good d .few-lines)
 
-quick-bytes : (c : tie.After-plan-buffer) → read (c .before) .read-lines .result .count ≤ length (c .plan-buffer .result)
-quick-bytes c = omega (arith, few (c .before), c .plan-buffer .ensures)
+-- best sharing of the file, before its lines were read again
+abbrev shared : tie.After-read-lines → tie.After-best-of-file
+shared r = r .before .before .before .before .before .before
 
-best-bytes : (c : tie.After-plan-buffer2) → read (c .before .before) .read-lines .result .count ≤ length (c .plan-buffer2 .result)
-best-bytes c = omega (arith, few (c .before .before), c .plan-buffer2 .ensures)
+quick-bytes : (c : tie.After-plan-buffer2) → read (c .before) .read-lines .result .count ≤ length (c .plan-buffer2 .result)
+quick-bytes c = omega (arith, few (c .before), c .plan-buffer2 .ensures)
+
+best-bytes : (d : tie.Else1) → read d .read-lines .result .count ≤ length (shared (read d) .best-of-file .last .1 .1 .1 .0)
+best-bytes d =
+    let laid = shared (read d) in
+    omega (arith, few d, laid .best-of-file .kept .1 .1 .1 .0, laid .before .before .before .before .plan-buffer .ensures)
 
 array-borrow-prefix-sets : tie.Need-array-borrow-prefix-sets
-array-borrow-prefix-sets c = let d = c .before .before in given d .room (d .if1 .left)
+array-borrow-prefix-sets c = let d = c .before in given d .room (d .if1 .left)
 
 slice-aggregate-write-lines : tie.Need-slice-aggregate-write-lines
-slice-aggregate-write-lines c = sym (size (c .before .before .before))
+slice-aggregate-write-lines c = sym (size (c .before .before))
 
 array-share-prefix-quantities : tie.Need-array-share-prefix-quantities
-array-share-prefix-quantities c = let d = c .before .before .before in given d .quantity-room (d .if1 .left)
+array-share-prefix-quantities c = let d = c .before .before in given d .quantity-room (d .if1 .left)
 
 slice-aggregate-write-lines-2 : tie.Need-slice-aggregate-write-lines-2
 slice-aggregate-write-lines-2 c =
-    let d = c .before .before .before .before in
+    let d = c .before .before .before in
     sym (length-take-le _ _ (given d .quantity-room (d .if1 .left)))
 
 array-borrow-prefix-quick : tie.Need-array-borrow-prefix-quick
-array-borrow-prefix-quick c = quick-bytes (c .before .before .before)
+array-borrow-prefix-quick c = quick-bytes (c .before .before)
 
 slice-aggregate-write-lines-3 : tie.Need-slice-aggregate-write-lines-3
-slice-aggregate-write-lines-3 c = sym (length-take-le _ _ (quick-bytes (c .before .before .before .before)))
+slice-aggregate-write-lines-3 c = sym (length-take-le _ _ (quick-bytes (c .before .before .before)))
 
-array-borrow-prefix-best : tie.Need-array-borrow-prefix-best
-array-borrow-prefix-best c = best-bytes (c .before .before .before)
+array-share-prefix-best : tie.Need-array-share-prefix-best
+array-share-prefix-best c = best-bytes (c .before .before .before .before)
 
 slice-aggregate-write-lines-4 : tie.Need-slice-aggregate-write-lines-4
-slice-aggregate-write-lines-4 c = sym (length-take-le _ _ (best-bytes (c .before .before .before .before)))
+slice-aggregate-write-lines-4 c = sym (length-take-le _ _ (best-bytes (c .before .before .before .before .before)))
 
 write-lines-requires : tie.Need-write-lines-requires
 write-lines-requires c κs =
     let laid = c .before .before .before .before .before in
-    let d = laid .before .before in
-    let s = read d .before .before .before .before .before .before .before in
-    let quick = length-take-le _ _ (quick-bytes (laid .before)) in
-    let best = length-take-le _ _ (best-bytes laid) in
-    ((good d, s .pre), (quick ∙ sym (size d), best ∙ sym (size d)))
+    let d = laid .before in
+    let s = read d .before .before .before .before .before .before .before .before .before .before .before .before .before .before .before in
+    let (e, (lines, _)) = read d .read-lines .ensures in
+    let quick = length-take-le _ _ (quick-bytes laid) in
+    let best = length-take-le _ _ (best-bytes d) in
+    let told = shared (read d) .best-of-file .ensures (number-of e (d .if1 .left)) in
+    ((good d, s .pre), ((quick ∙ sym (size d), best ∙ sym (size d)), told-lines (lines (d .if1 .left)) _ told))
 
 same-length-2 : tie.Need-same-length-2
 same-length-2 c = search needs
 
 returns-2 : tie.Need-returns-2
 returns-2 c =
-    let written = c .before .before .before .before .before in
-    let d = written .before .before .before .before .before .before .before .before in
+    let written = c .before .before .before .before in
+    let d = written .before .before .before .before .before .before .before in
     let (e, (lines, _)) = read d .read-lines .ensures in
     rw (text-accepted _ e (d .if1 .left) (lines (d .if1 .left))) (written .write-lines .ensures)
 
@@ -122,13 +143,17 @@ write-file-spec =
     (tie.spec
     no-sets-requires
     no-quantities-requires
+    plan-buffer-requires
+    slice-aggregate-best-of-file
+    slice-aggregate-best-of-file-2
+    slice-aggregate-best-of-file-3
+    best-of-file-requires
     slice-aggregate-read-lines
     slice-aggregate-read-lines-2
     read-lines-requires
     write-refused-requires
     same-length
     returns
-    plan-buffer-requires
     plan-buffer-requires-2
     array-borrow-prefix-sets
     slice-aggregate-write-lines
@@ -136,7 +161,7 @@ write-file-spec =
     slice-aggregate-write-lines-2
     array-borrow-prefix-quick
     slice-aggregate-write-lines-3
-    array-borrow-prefix-best
+    array-share-prefix-best
     slice-aggregate-write-lines-4
     write-lines-requires
     same-length-2

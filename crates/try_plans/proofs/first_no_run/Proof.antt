@@ -4,25 +4,28 @@ use Rattle.try_plans.proofs.first_no_run.Statement.{statement}
 use Rattle.try_plans.proofs.first_no_run.Tie as tie
 
 abbrev Inv-loop : tie.InvT-loop
-Inv-loop n lines i₀ i = i ≤ n
+Inv-loop n lines named i₀ i = i ≤ n
 
 abbrev μ-loop : tie.MeasureT-loop
-μ-loop n lines i₀ i = n - i
+μ-loop n lines named i₀ i = n - i
+
+named-tips-requires : tie.Need-named-tips-requires Inv-loop μ-loop
+named-tips-requires c κs = search needs
 
 loop-holds : tie.Need-loop-holds Inv-loop μ-loop
 loop-holds c = search needs
 
-mul-if1 : tie.Need-mul-if1 Inv-loop μ-loop
-mul-if1 c = search needs
+mul-line : tie.Need-mul-line Inv-loop μ-loop
+mul-line c = search needs
 
-array-read-if1 : tie.Need-array-read-if1 Inv-loop μ-loop
-array-read-if1 c = search needs
+array-read-line : tie.Need-array-read-line Inv-loop μ-loop
+array-read-line c = search needs
 
-mul-if1-2 : tie.Need-mul-if1-2 Inv-loop μ-loop
-mul-if1-2 c = search needs
+filled-down-requires : tie.Need-filled-down-requires Inv-loop μ-loop
+filled-down-requires c κs = search needs
 
-array-read-if1-2 : tie.Need-array-read-if1-2 Inv-loop μ-loop
-array-read-if1-2 c = search needs
+filled-up-requires : tie.Need-filled-up-requires Inv-loop μ-loop
+filled-up-requires c κs = search needs
 
 returns : tie.Need-returns Inv-loop μ-loop
 returns c = search needs
@@ -45,11 +48,12 @@ first-no-run-spec =
     (tie.spec
     Inv-loop
     μ-loop
+    named-tips-requires
     loop-holds
-    mul-if1
-    array-read-if1
-    mul-if1-2
-    array-read-if1-2
+    mul-line
+    array-read-line
+    filled-down-requires
+    filled-up-requires
     returns
     add-i
     loop-less
