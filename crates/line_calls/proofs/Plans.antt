@@ -8,7 +8,7 @@ use lib.ListN.{length, take, drop}
 use lib.Seq.{take-at}
 use borrow.Author.Tests.{eq-eqb, ne-eqb}
 use Rattle.model.specs.Plan.{Valid, pairs}
-use Rattle.model.specs.Choice.{bare}
+use Rattle.model.specs.Choice.{Mounted, bare}
 use Rattle.model.specs.Count.{All}
 use Rattle.model.specs.Interval.{isRun, C, table}
 use Rattle.model.proofs.Valid.{valid-length}
@@ -41,7 +41,7 @@ handed-out qs {lines} {new} n size old x v p =
     let front = take-at new (drop n old) (length lines) (valid-length v) in
     record { own = rw front v; counted = rw front (sym p) }
 
-module _ (earlier : Refusal) (m : ℕ) (qs lines old : List ℕ) {n : ℕ} {d : Refusal} (by-count : d ≡ planRefusal earlier n (length old))
+module _ (earlier : Refusal) (m : ℕ) (mounted : Mounted) (qs lines old : List ℕ) {n : ℕ} {d : Refusal} (by-count : d ≡ planRefusal earlier n (length old))
     (size : earlier .number ≡ 0 → n ≡ length lines) where
   -- the decision by the count is that by the lines
   e : d ≡ planRefusal earlier (length lines) (length old)
@@ -51,27 +51,27 @@ module _ (earlier : Refusal) (m : ℕ) (qs lines old : List ℕ) {n : ℕ} {d : 
   -- the three clauses of quick sharing, for what the code answers and leaves
   abbrev Quick : PlanAnswer → List ℕ → Type 0
   Quick r last =
-      (r ≡ quickOf earlier m qs lines (length old))
-      × ((last ≡ quickBuffer earlier m qs lines old) × HalfRule qs lines last (r .refusal .number) (r .pairs))
+      (r ≡ quickOf earlier m mounted qs lines (length old))
+      × ((last ≡ quickBuffer earlier m mounted qs lines old) × HalfRule qs lines last (r .refusal .number) (r .pairs))
 
   pub quick-refused : (d .number ≡ 0 → ⊥) → Quick (record { refusal = d; pairs = 0 }) old
   unfolding quickOf quickBuffer
   quick-refused f = (
-    plan-refused e f (pairs (repeated qs (quickPlanQ bare m qs lines))),
-    (lent-refused e (length lines) (quickPlanQ bare m qs lines) old f, record { plan = λ z. absurd (f z); half = λ z. absurd (f z) }),
+    plan-refused e f (pairs (repeated qs (quickPlanQ mounted m qs lines))),
+    (lent-refused e (length lines) (quickPlanQ mounted m qs lines) old f, record { plan = λ z. absurd (f z); half = λ z. absurd (f z) }),
   )
 
   pub quick-accepted : d .number ≡ 0 → n ≡ length lines → GoodLines m qs lines → {x : ℕ} {out : List ℕ}
-      → x ≡ pairs (repeated qs (quickPlanQ bare m qs lines)) → out ≡ quickPlanQ bare m qs lines
+      → x ≡ pairs (repeated qs (quickPlanQ mounted m qs lines)) → out ≡ quickPlanQ mounted m qs lines
       → Quick (record { refusal = d; pairs = x }) (out ++ drop n old)
   unfolding quickOf quickBuffer
   quick-accepted z s good {x} {out} q o = (
-    plan-accepted e z (pairs (repeated qs (quickPlanQ bare m qs lines))) q,
+    plan-accepted e z (pairs (repeated qs (quickPlanQ mounted m qs lines))) q,
     (
-      rw s (lent-accepted e (length lines) (quickPlanQ bare m qs lines) old z o),
+      rw s (lent-accepted e (length lines) (quickPlanQ mounted m qs lines) old z o),
       record {
-        plan = λ _. rw o (handed-out qs n s old x (quick-valid-lines bare (good .domains) (good .placed) (good .same)) q);
-        half = λ _ other v. rw q (quick-half-placements bare (good .domains) qs v);
+        plan = λ _. rw o (handed-out qs n s old x (quick-valid-lines mounted (good .domains) (good .placed) (good .same)) q);
+        half = λ _ other v. rw q (quick-half-placements mounted (good .domains) qs v);
       },
     ),
   )

@@ -5,6 +5,7 @@ use mathlib.Core.Bool.{Bool, true, false}
 use mathlib.Core.List.{List}
 use lib.ListN.{length}
 use borrow.Author.Tests.{eqb-true, eqb-false}
+use Rattle.model.specs.Choice.{Mounted}
 use Rattle.refusal.specs.declared.Refusal.{Refusal}
 use Rattle.refusal.specs.Refusal.{accepts}
 use Rattle.refusal.proofs.Laws.{or-first}
@@ -46,15 +47,15 @@ module _ (earlier : Refusal) {m n : ℕ} {qs rs lines others : List ℕ} (same :
   keep-same within = by-earlier (λ k q l. keepOf earlier k q l within) (λ h k q l. keep-stopped earlier k q l within l h .0)
 
   module _ (plan : List ℕ) where
-    pub quick-same : quickOf earlier m qs lines (length plan) ≡ quickOf earlier n rs others (length plan)
-    quick-same =
-        by-earlier (λ k q l. quickOf earlier k q l (length plan))
-        (λ h k q l. quick-refused earlier k q l plan (plan-stopped earlier h k l (length plan)) (λ _. refl) h .0)
+    pub quick-same : (mounted : Mounted) → quickOf earlier m mounted qs lines (length plan) ≡ quickOf earlier n mounted rs others (length plan)
+    quick-same mounted =
+        by-earlier (λ k q l. quickOf earlier k mounted q l (length plan))
+        (λ h k q l. quick-refused earlier k mounted q l plan (plan-stopped earlier h k l (length plan)) (λ _. refl) h .0)
 
-    pub quick-buffer-same : quickBuffer earlier m qs lines plan ≡ quickBuffer earlier n rs others plan
-    quick-buffer-same =
-        by-earlier (λ k q l. quickBuffer earlier k q l plan)
-        (λ h k q l. quick-refused earlier k q l plan (plan-stopped earlier h k l (length plan)) (λ _. refl) h .1 .0)
+    pub quick-buffer-same : (mounted : Mounted) → quickBuffer earlier m mounted qs lines plan ≡ quickBuffer earlier n mounted rs others plan
+    quick-buffer-same mounted =
+        by-earlier (λ k q l. quickBuffer earlier k mounted q l plan)
+        (λ h k q l. quick-refused earlier k mounted q l plan (plan-stopped earlier h k l (length plan)) (λ _. refl) h .1 .0)
 
     module _ (cells : List ℕ) where
       pub best-same : bestOf earlier m qs lines (length plan) (length cells) ≡ bestOf earlier n rs others (length plan) (length cells)
