@@ -16,7 +16,7 @@ use Rattle.refusal.specs.Refusal.{orElse, scan}
 use Rattle.job.specs.Job.{lineNumber}
 use Rattle.sound.specs.Sound.{countOk, firstWrong, firstHeld, soundRefusal}
 use Rattle.call_refusals.specs.State.{stageRefusal, stateRefusal}
-use Rattle.call_refusals.specs.Calls.{addRefusal, keepRefusal, planRefusal, bestRefusal}
+use Rattle.call_refusals.specs.Calls.{addRefusal, keepRefusal, mountedRefusal, planRefusal, bestRefusal}
 use Rattle.line_calls.specs.Lines
 use Rattle.board.specs.Board.{addOf, closeOf}
 use Rattle.board.specs.Common.{commonOf, keepOf}
@@ -31,11 +31,11 @@ use Rattle.board.specs.Rows.{B27-common, B27-best}
 
 pub starred : All Gives rows
 unfolding run addOf closeOf commonOf keepOf quickOf quickBuffer bestOf bestBuffer bestTable Lines.commonOf Lines.keepOf Lines.keptSets
-    Lines.quickOf Lines.quickBuffer Lines.bestOf Lines.bestBuffer Lines.bestTable addRefusal keepRefusal planRefusal bestRefusal orElse scan
-    stageRefusal stateRefusal soundRefusal firstWrong firstHeld firstOver countOk rackOk isDomain inRack each firstFail lineNumber total repeated
-    margin pruneQ zipWith keptQ scarce commonWithin narrowed covers every W setOf top largest occ has count quickPlanQ quickTip rounds first
-    busiest choice lowestAt select pairs uses table listOf bestPlanQ bestTip tipBy pickOf worth from named C most lies inside low high isRun
-    choose2 leadingZeros trailingZeros ones onesIn
+    Lines.quickOf Lines.quickBuffer Lines.bestOf Lines.bestBuffer Lines.bestTable addRefusal keepRefusal mountedRefusal planRefusal bestRefusal
+    orElse scan stageRefusal stateRefusal soundRefusal firstWrong firstHeld firstOver countOk rackOk isDomain inRack each firstFail lineNumber
+    total repeated margin pruneQ zipWith keptQ scarce commonWithin narrowed covers every W setOf top largest occ has count quickPlanQ quickTip
+    rounds first busiest choice lowestAt select pairs uses table listOf bestPlanQ bestTip tipBy pickOf worth from named C most lies inside low
+    high isRun choose2 leadingZeros trailingZeros ones onesIn
 starred =
     more {x = B1-common} refl
     (more {x = B1-keep} refl

@@ -1,6 +1,6 @@
 -- What is known where a call is not refused.
 use Prim.Native.Nat.{ℕ, _+_, _*_, _≤_, _<_}
-use mathlib.Core.Path.{_≡_, refl, _∙_}
+use mathlib.Core.Path.{_≡_, refl, sym, _∙_}
 use mathlib.Core.Bool.{Bool, true, false, cond}
 use mathlib.Core.List.{List}
 use native.Mathlib.Omega.{arith}
@@ -12,14 +12,14 @@ use mir.Syntax.{w32}
 use mir.Val.{SFits, toZ, ofZ}
 use mir.ValLaws.{toZ-ofZ}
 use lib.ListN.{length}
-use borrow.Author.Tests.{eq-eqb, ne-eqb, eqb-false, lt-ltb, le-ltb, ltb-false}
+use borrow.Author.Tests.{eq-eqb, ne-eqb, eqb-true, eqb-false, lt-ltb, le-ltb, ltb-false}
 use Rattle.model.specs.Count.{All}
 use Rattle.model.specs.Choice.{Mounted, bare}
 use Rattle.model.specs.Plan.{Domain}
 use Rattle.model.specs.Interval.{isRun}
 use Rattle.model.specs.Limits.{mostTips, mostLines, mostPlacements}
 use Rattle.refusal.specs.declared.Refusal.{Refusal}
-use Rattle.refusal.specs.Refusal.{refuse, orElse, when, scan}
+use Rattle.refusal.specs.Refusal.{refuse, accepts, orElse, when, scan}
 use Rattle.refusal.proofs.Laws.{or-first, or-next, or-none, when-none, scan-none}
 use Rattle.job.specs.Job.{fileLength, lineNumber}
 use Rattle.job.proofs.Reading.{line-number}
@@ -127,6 +127,14 @@ module _ (earlier : Refusal) where
   pub mounted-inside : (m : ℕ) (mounted : Mounted) → isOutside m mounted ≡ false → earlier ≡ mountedRefusal earlier m mounted
   unfolding mountedRefusal
   mounted-inside m mounted e = rw e
+
+  -- the rack counts only where nothing is refused before
+  pub mounted-same : {m n : ℕ} (mounted : Mounted) → (earlier .number ≡ 0 → m ≡ n) → mountedRefusal earlier m mounted ≡ mountedRefusal earlier n mounted
+  mounted-same {m} {n} mounted same = by (accepts earlier) refl
+    where
+      by : (t : Bool) → accepts earlier ≡ t → mountedRefusal earlier m mounted ≡ mountedRefusal earlier n mounted
+      by true e = rw (same (eqb-true (earlier .number) 0 e)) refl
+      by false e = let h = eqb-false (earlier .number) 0 e in sym (mounted-earlier m mounted h) ∙ mounted-earlier n mounted h
 
   -- without a mounted tip nothing more is refused
   pub mounted-bare : (m : ℕ) → mountedRefusal earlier m bare ≡ earlier
