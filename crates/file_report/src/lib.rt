@@ -10,6 +10,7 @@ ghost use Rattle.placements.specs.Good.{GoodLines};
 ghost use Rattle.report.specs.Report.{reportOf};
 ghost use Rattle.text.specs.Buffer.{Printed};
 ghost use Rattle.file_report.specs.Summary.{factsOf, BestShared, textOf, takenBytes, textRoom, summaryOf};
+use head::Mounted;
 
 // The bytes of a file that are taken: one more than the longest good file has, by which a longer one is seen.
 pub const TAKEN: usize = 4617;
@@ -80,7 +81,15 @@ fn write_lines(
     let count = lines.len();
     let common = line_calls::common(refusal::refuse(0), rack, count, lines, quantities);
     let shared = best_lines(rack, lines, quantities, best);
-    let laid = line_calls::quick(refusal::refuse(0), rack, count, lines, quantities, quick);
+    let laid = line_calls::quick(
+        refusal::refuse(0),
+        rack,
+        Mounted::Nothing,
+        count,
+        lines,
+        quantities,
+        quick,
+    );
     report::write_report(
         rack,
         common.off,

@@ -38,7 +38,7 @@ write-report-requires c κs =
     let laid = quick c in
     let shared = best (laid .before .before .before) in
     let ((good, room), (quick-size, best-size)) = begun (common shared .before .before) .pre in
-    let size = laid .quick .kept .1 .1 .1 .1 .1 .0 ∙ quick-size in
+    let size = laid .quick .kept .1 .1 .1 .1 .1 .1 .0 ∙ quick-size in
     record {
       same-lines = shared .best-lines .kept .1 .1 .1 .0 ∙ best-size ∙ sym size;
       few-lines = omega (arith, size, good .few-lines);
