@@ -56,7 +56,8 @@
  *    15  line answer[0] has quantity 0         give that line 1 to 255
  *    25  line answer[0], the first such, is    use tipshare_quick, which takes
  *        no run: it lacks a tip between its    any lines
- *        lowest and its highest
+ *        lowest and its highest that another
+ *        line has
  *    26  no plan has at most k placements off  raise k by at least -margin, the
  *        its most used tip; answer[1] is the   margin being (int64_t)answer[1]
  *        margin, below zero
@@ -162,7 +163,9 @@ uint32_t tipshare_quick(const uint8_t *file, size_t file_len,
 
 /*
  * Plans with the most pairs, where every line is a run: it has every tip
- * between its lowest and its highest.
+ * between its lowest and its highest that some line has. Tips that no line has
+ * are holes in the rack: none is in the plan, and the table has their rows and
+ * columns.
  * file: file_len bytes, any number. plan: at least n bytes. table: at least
  * m * m places. answer: at least 4 places.
  * Accepted: plan[i] is the tip of line i, for i below n; table[a * m + b] is

@@ -90,7 +90,7 @@ pub record AsBefore (b : Board) (r : Refusal) (m : ℕ) (lines : List ℕ) : Typ
       → writeBuffer b out ≡ lentBy (writeRefusal r 1 (length lines) (length out)) (fileLength 1 (length lines)) (plainFileOf m lines) out
 
 -- what is left in a buffer counts only where nothing is refused
-lent-same : (d : Refusal) (n : ℕ) {new new' : List ℕ} (old : List ℕ) → (d .number ≡ 0 → new ≡ new') → lentBy d n new old ≡ lentBy d n new' old
+pub lent-same : (d : Refusal) (n : ℕ) {new new' : List ℕ} (old : List ℕ) → (d .number ≡ 0 → new ≡ new') → lentBy d n new old ≡ lentBy d n new' old
 lent-same d n {new} {new'} old h = by (accepts d) refl
   where
     by : (t : Bool) → accepts d ≡ t → cond t (new ++ drop n old) old ≡ cond t (new' ++ drop n old) old

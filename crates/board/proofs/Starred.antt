@@ -1,13 +1,13 @@
 -- THE PROVED SET: the definitions of the calls, refusals included, give each of the starred boards of RULES 9. An error names the row.
 use mathlib.Core.Path.{refl}
 use mathlib.Core.List.{zipWith}
-use lib.Count.{leadingZeros, trailingZeros, ones, onesIn}
+use lib.Count.{leadingZeros, trailingZeros}
 use Rattle.model.specs.Count.{All, none, more, count, select, each, firstFail, every, listOf, largest, lowestAt}
 use Rattle.model.specs.Plan.{empty, line, has, occ, uses, pairs, choose2, inRack, isDomain, rackOk}
 use Rattle.model.specs.Choice.{choice, from}
 use Rattle.model.specs.CommonTip.{setOf, top, W, margin, covers, narrowed}
 use Rattle.model.specs.Greedy.{busiest, rounds, first, quickTip}
-use Rattle.model.specs.Interval.{low, high, isRun, named, lies, inside, most, C, tipBy, worth, pickOf, bestTip, table}
+use Rattle.model.specs.Interval.{low, high, named, fills, isRunOf, lies, inside, most, C, tipBy, worth, pickOf, bestTip, table}
 use Rattle.placements.specs.Repeated.{total, repeated}
 use Rattle.placements.specs.Totals.{firstOver}
 use Rattle.placements.specs.Plans.{quickPlanQ, bestPlanQ}
@@ -27,7 +27,7 @@ use Rattle.board.specs.Rows.{B15-rack-0, B15-rack-65, B16-count-513, B16
 use Rattle.board.specs.Rows.{B18-last, B18-both, B19-21, B19-27, B19-27-open, B19-27-closed, B19-28-closed}
 use Rattle.board.specs.Rows.{B20-quick, B20-best, B21-common, B21-keep-0, B21-keep-1, B21-keep-2, B21-keep-3, B21-keep-4, B22-quick, B23-quick}
 use Rattle.board.specs.Rows.{B23-best, B24-none, B24-bad-set, B24-last, B24-over, B25-none, B25-over, B25-first, B26-next, B26-after-set}
-use Rattle.board.specs.Rows.{B27-common, B27-best}
+use Rattle.board.specs.Rows.{B27-common, B27-best, B31-best, B32-best, B33-best, B34-best, B35-best}
 
 pub starred : All Gives rows
 unfolding run addOf closeOf commonOf keepOf quickOf quickBuffer bestOf bestBuffer bestTable Lines.commonOf Lines.keepOf Lines.keptSets
@@ -35,7 +35,7 @@ unfolding run addOf closeOf commonOf keepOf quickOf quickBuffer bestOf bestBuffe
     orElse scan stageRefusal stateRefusal soundRefusal firstWrong firstHeld firstOver countOk rackOk isDomain inRack each firstFail lineNumber
     total repeated margin pruneQ zipWith keptQ scarce commonWithin narrowed covers every W setOf top largest occ has count quickPlanQ quickTip
     rounds first busiest choice lowestAt select pairs uses table listOf bestPlanQ bestTip tipBy pickOf worth from named C most lies inside low
-    high isRun choose2 leadingZeros trailingZeros ones onesIn
+    high choose2 leadingZeros trailingZeros fills isRunOf
 starred =
     more {x = B1-common} refl
     (more {x = B1-keep} refl
@@ -85,7 +85,12 @@ starred =
     (more {x = B26-next} refl
     (more {x = B26-after-set} refl
     (more {x = B27-common} refl
-    (more {x = B27-best} refl none))))))))))))))))))))))))))))))))))))))))))))))))
+    (more {x = B27-best} refl
+    (more {x = B31-best} refl
+    (more {x = B32-best} refl
+    (more {x = B33-best} refl
+    (more {x = B34-best} refl
+    (more {x = B35-best} refl none)))))))))))))))))))))))))))))))))))))))))))))))))))))
 
 pub half-reached : HalfReached
 unfolding has pairs uses count

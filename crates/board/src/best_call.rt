@@ -1,4 +1,4 @@
-// Best sharing of a closed board whose lines are runs.
+// Best sharing of a closed board whose lines are runs of the named tips.
 use crate::Board;
 use crate::Shared;
 use crate::Stage;
@@ -14,24 +14,22 @@ impl Board {
         ensures rule { λ r. ⌜ BestRule self (now (plan .exit)) r ⌝ }
     {
         let stage = self.stage;
-        let sets = self.sets;
+        let mut left = self.sets;
         let quantities = self.quantities;
-        let lent_sets: &[u64] = &sets;
-        let lent_quantities: &[u8] = &quantities;
         let state = call_refusals::state_refusal(
             Stage::Closed,
             self.rack,
             stage,
             self.count,
-            lent_sets,
-            lent_quantities,
+            &left,
+            &quantities,
         );
         let laid = line_calls::best(
             state,
             self.rack,
             self.count,
-            lent_sets,
-            lent_quantities,
+            &mut left,
+            &quantities,
             plan,
             table,
         );

@@ -1,8 +1,9 @@
 -- What is known where a call is not refused.
 use Prim.Native.Nat.{ℕ, _+_, _*_, _≤_, _<_}
-use mathlib.Core.Path.{_≡_, refl, sym, _∙_}
+use mathlib.Core.Path.{_≡_, refl, sym, ap, _∙_}
 use mathlib.Core.Bool.{Bool, true, false, cond}
 use mathlib.Core.List.{List}
+use mathlib.Core.Logic.{⊎-elim}
 use native.Mathlib.Omega.{arith}
 use native.Mathlib.Nat.{mul-le-mul}
 use lib.Dec.{T, eqb, ltb}
@@ -11,16 +12,20 @@ use lib.Signed.{ltZ}
 use mir.Syntax.{w32}
 use mir.Val.{SFits, toZ, ofZ}
 use mir.ValLaws.{toZ-ofZ}
-use lib.ListN.{length}
+use lib.ListN.{length, getD}
 use borrow.Author.Tests.{eq-eqb, ne-eqb, eqb-true, eqb-false, lt-ltb, le-ltb, ltb-false}
-use Rattle.model.specs.Count.{All}
+use Rattle.model.specs.Count.{All, firstFail}
 use Rattle.model.specs.Choice.{Mounted, bare}
 use Rattle.model.specs.Plan.{Domain}
-use Rattle.model.specs.Interval.{isRun}
+use Rattle.model.specs.Interval.{named, isRunOf, Misses}
 use Rattle.model.specs.Limits.{mostTips, mostLines, mostPlacements}
+use Rattle.model.proofs.Tests.{le-or-lt}
+use Rattle.model.proofs.Lists.{all-at}
+use Rattle.model.proofs.Fails.{none-fails, fails-at, fails-first}
+use Rattle.model.proofs.Run.{run-misses, broken-misses}
 use Rattle.refusal.specs.declared.Refusal.{Refusal}
 use Rattle.refusal.specs.Refusal.{refuse, accepts, orElse, when, scan}
-use Rattle.refusal.proofs.Laws.{or-first, or-next, or-none, when-none, scan-none}
+use Rattle.refusal.proofs.Laws.{or-first, or-next, or-none, when-none, scan-none, scan-passes, scan-at}
 use Rattle.job.specs.Job.{fileLength, lineNumber}
 use Rattle.job.proofs.Reading.{line-number}
 use Rattle.call_refusals.specs.Calls.{addRefusal, isNegative, keepRefusal, isOutside, mountedRefusal}
@@ -160,7 +165,7 @@ pub record Bestable (earlier : Refusal) (m : ℕ) (lines : List ℕ) (room place
   pub free : earlier .number ≡ 0
   pub bytes : length lines ≤ room
   pub cells : m * m ≤ places
-  pub runs : All (λ s. T (isRun s)) lines
+  pub runs : All (λ s. T (isRunOf (named lines) s)) lines
 
 pub best-none : (earlier : Refusal) (m : ℕ) (lines : List ℕ) (room places : ℕ) → (bestRefusal earlier m lines room places) .number ≡ 0
     → Bestable earlier m lines room places
@@ -174,8 +179,35 @@ best-none earlier m lines room places z =
       free = free;
       bytes = bytes;
       cells = long-enough places (m * m) 5 (λ e. omega arith) table;
-      runs = scan-none isRun (λ _. 25) lines (λ _ e. omega (arith, e)) run;
+      runs = scan-none (isRunOf (named lines)) (λ _. 25) lines (λ _ e. omega (arith, e)) run;
     }
+
+-- 25 IS TOLD at the first line that misses a named tip
+pub record MissTold (lines : List ℕ) (r : Refusal) : Type 0 where
+  pub number-is : r .number ≡ 25
+  pub inside : r .place < length lines
+  pub tip : (c : ℕ) × Misses lines (getD lines (r .place) 0) c
+  pub first : (i c : ℕ) → i < r .place → Misses lines (getD lines i 0) c → ⊥
+
+pub run-told : {m : ℕ} {lines : List ℕ} → m ≤ mostTips → All (Domain m) lines → (runRefusal lines .number ≡ 0 → ⊥)
+    → MissTold lines (runRefusal lines)
+run-told {m} {lines} narrow ds n =
+    rw (scan-at run (λ _. 25) lines inside) (record {
+      number-is = refl;
+      inside = inside;
+      tip = broken-misses lines (getD lines (firstFail run lines) 0) (fails-at run lines inside);
+      first = λ i c l. run-misses narrow (all-at 0 ds i (omega (arith, inside))) lines (fails-first run lines i l) c;
+    })
+  where
+    run : ℕ → Bool
+    run = isRunOf (named lines)
+
+    inside : firstFail run lines < length lines
+    inside =
+        ⊎-elim
+        (λ p. absurd (n (ap (λ r. r .number) (scan-passes run (λ _. 25) lines (none-fails run lines p)))))
+        (λ p. p)
+        (le-or-lt (length lines) (firstFail run lines))
 
 -- the places of a table are few
 pub square-most : {m : ℕ} → m ≤ mostTips → m * m ≤ mostTips * mostTips

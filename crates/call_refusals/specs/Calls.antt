@@ -7,7 +7,7 @@ use lib.IntN.{ℤ, pos, negsuc}
 use lib.ListN.{length}
 use Rattle.model.specs.Limits.{mostLines, mostPlacements}
 use Rattle.model.specs.Choice.{Mounted, bare, tip}
-use Rattle.model.specs.Interval.{isRun}
+use Rattle.model.specs.Interval.{named, isRunOf}
 use Rattle.refusal.specs.declared.Refusal.{Refusal}
 use Rattle.refusal.specs.Refusal.{refuse, orElse, when, scan}
 use Rattle.job.specs.Job.{fileLength, lineNumber}
@@ -38,9 +38,9 @@ mountedRefusal earlier m mounted = cond (isOutside m mounted) (orElse earlier (r
 unfoldable pub planRefusal : Refusal → ℕ → ℕ → Refusal
 planRefusal earlier n room = orElse earlier (when (ltb room n) 4)
 
--- some line is no run: the place is the first such line
+-- some line misses a named tip between its lowest and its highest: the place is the first such line
 abbrev pub runRefusal : List ℕ → Refusal
-runRefusal lines = scan isRun (λ _. 25) lines
+runRefusal lines = scan (isRunOf (named lines)) (λ _. 25) lines
 
 -- best: those of a plan, then a table shorter than m * m places, then a line that is no run
 unfoldable pub bestRefusal : Refusal → ℕ → List ℕ → ℕ → ℕ → Refusal

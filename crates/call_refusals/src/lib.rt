@@ -117,11 +117,11 @@ pub fn plan_refusal(earlier: Refusal, count: usize, room: usize) -> Refusal
     refusal::refuse_when(room < count, 4)
 }
 
-// The first line that is no run.
+// The first line that misses a named tip.
 pub fn run_refusal(lines: &[u64]) -> Refusal
     ensures { λ r. ⌜ r ≡ runRefusal (now (lines .entry)) ⌝ }
 {
-    refusal::refuse_at(25, spans::first_not_run(lines), lines.len())
+    refusal::refuse_at(25, ranks::first_not_run(lines), lines.len())
 }
 
 // The lines are the first `count` sets.

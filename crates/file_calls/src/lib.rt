@@ -148,7 +148,7 @@ pub fn best_outcome(file: &[u8], plan: &mut [u8], table: &mut [u32]) -> Outcome
         read.refusal,
         read.rack,
         read.count,
-        &sets,
+        &mut sets,
         &quantities,
         plan,
         table,

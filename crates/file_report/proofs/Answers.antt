@@ -14,7 +14,7 @@ use Rattle.model.specs.Limits.{mostTips}
 use Rattle.model.specs.Plan.{pairs}
 use Rattle.model.specs.Choice.{bare}
 use Rattle.model.specs.CommonTip.{top, W}
-use Rattle.model.specs.Interval.{isRun, C}
+use Rattle.model.specs.Interval.{named, isRunOf, C}
 use Rattle.model.proofs.Lists.{each-iff}
 use Rattle.model.proofs.Tests.{true-T, same-test}
 use Rattle.placements.specs.Repeated.{total, repeated}
@@ -47,12 +47,17 @@ given-whole {lines = lines} good = record {
 whole : (lines new old : List ℕ) → length old ≡ length lines → new ++ drop (length lines) old ≡ new
 whole lines new old e = rw (drop-of-length-le old {i = length lines} (omega (arith, e))) (append-nil new)
 
+-- each line is a run of the named tips
+abbrev allRuns : List ℕ → Bool
+allRuns lines = each (isRunOf (named lines)) lines
+
 -- no line is refused for being no run exactly where each is one
-runs-each : (lines : List ℕ) → accepts (runRefusal lines) ≡ each isRun lines
+runs-each : (lines : List ℕ) → accepts (runRefusal lines) ≡ allRuns lines
 runs-each lines =
-    same-test (accepts (runRefusal lines)) (each isRun lines)
-    (λ t. each-iff isRun lines .1 (scan-none isRun (λ _. 25) lines (λ _ e. omega (arith, e)) (eqb-true _ 0 (true-T _ t))))
-    (λ t. rw (scan-passes isRun (λ _. 25) lines (each-iff isRun lines .0 t)) tt)
+    let run = isRunOf (named lines) in
+    same-test (accepts (runRefusal lines)) (each run lines)
+    (λ t. each-iff run lines .1 (scan-none run (λ _. 25) lines (λ _ e. omega (arith, e)) (eqb-true _ 0 (true-T _ t))))
+    (λ t. rw (scan-passes run (λ _. 25) lines (each-iff run lines .0 t)) tt)
 
 module _ {m : ℕ} {qs lines : List ℕ} (good : GoodLines m qs lines) {earlier : Refusal} (free : earlier ≡ none) where
   pub common-is : {r : CommonAnswer} → r ≡ commonOf earlier m (take (length lines) qs) (take (length lines) lines)
@@ -79,7 +84,7 @@ module _ {m : ℕ} {qs lines : List ℕ} (good : GoodLines m qs lines) {earlier 
     pub best-is : {places : ℕ} → places ≡ mostTips * mostTips → {r : PlanAnswer} {out : List ℕ}
         → r ≡ bestOf earlier m (take (length lines) qs) (take (length lines) lines) (length old) places
         → out ≡ bestBuffer earlier m (take (length lines) qs) (take (length lines) lines) old places
-        → (eqb (r .refusal .number) 0 ≡ each isRun lines)
+        → (eqb (r .refusal .number) 0 ≡ allRuns lines)
         × (T (eqb (r .refusal .number) 0) → BestShared m qs lines (r .pairs) out)
     unfolding bestOf bestBuffer
     best-is s e f = rw (e, f, free, take-length lines, whole-quantities good, best-left s) (
@@ -109,7 +114,7 @@ without-runs m qs lines x y plan other = refl
 pub same-report : (m : ℕ) (qs lines : List ℕ) {o w x y : ℕ} {runs : Bool} {quick best : List ℕ}
     → (o ≡ total qs - top m (repeated qs lines)) × (w ≡ W m (repeated qs lines))
     → (x ≡ pairs (repeated qs (quickPlanQ bare m qs lines))) × (quick ≡ quickPlanQ bare m qs lines)
-    → runs ≡ each isRun lines → (T runs → BestShared m qs lines y best)
+    → runs ≡ allRuns lines → (T runs → BestShared m qs lines y best)
     → reportOf (record { rack = m; off = o; tips = w; quickPairs = x; runs = runs; bestPairs = y; quick = quick; best = best })
     ≡ reportOf (factsOf m qs lines)
 unfolding facts factsOf

@@ -10,7 +10,7 @@ use Rattle.model.specs.Limits.{mostLines}
 use Rattle.model.specs.Plan.{pairs}
 use Rattle.model.specs.Choice.{bare}
 use Rattle.model.specs.CommonTip.{top, W}
-use Rattle.model.specs.Interval.{isRun, C}
+use Rattle.model.specs.Interval.{named, isRunOf, C}
 use Rattle.placements.specs.Repeated.{total, repeated}
 use Rattle.placements.specs.Plans.{quickPlanQ, bestPlanQ}
 use Rattle.refusal.specs.Refusal.{accepts}
@@ -18,7 +18,7 @@ use Rattle.job.specs.Job.{headerLength, setLength, rackIn, quantitiesIn, setsIn
 use Rattle.report.specs.Report.{Facts, reportOf, refusedText}
 
 -- what is reported of lines with quantities: the least off count and W, both pair counts, and both plans; those of best sharing count only where
--- every line is a run. Counted are placements, planned are lines.
+-- every line is a run of the named tips. Counted are placements, planned are lines.
 unfoldable pub factsOf : ℕ → List ℕ → List ℕ → Facts
 factsOf m qs sets =
     let placements = repeated qs sets in
@@ -28,7 +28,7 @@ factsOf m qs sets =
       off = total qs - top m placements;
       tips = W m placements;
       quickPairs = pairs (repeated qs quick);
-      runs = each isRun sets;
+      runs = each (isRunOf (named sets)) sets;
       bestPairs = C placements 0 m;
       quick = quick;
       best = bestPlanQ bare m qs sets;

@@ -5,7 +5,7 @@ ghost use lib.Dec.{T};
 ghost use lib.ListN.{length};
 ghost use Rattle.model.specs.Count.{each};
 ghost use Rattle.model.specs.Limits.{mostLines};
-ghost use Rattle.model.specs.Interval.{isRun};
+ghost use Rattle.model.specs.Interval.{named, isRunOf};
 ghost use Rattle.placements.specs.Good.{GoodLines};
 ghost use Rattle.report.specs.Report.{reportOf};
 ghost use Rattle.text.specs.Buffer.{Printed};
@@ -32,23 +32,24 @@ fn table_buffer() -> [u32; 4096]
     [0u32; 4096]
 }
 
-// Whether each line is a run, and the pairs of best sharing where it is so.
+// Whether each line is a run of the named tips, and the pairs of best sharing where it is so.
 struct Best {
     runs: bool,
     pairs: u32,
 }
 
-// Best sharing of the lines. Where some line is no run the plan stays as it was.
-fn best_lines<'a>(rack: usize, lines: &'a [u64], quantities: &'a [u8], plan: &mut [u8]) -> Best
+// Best sharing of the lines, which uses them up. Where some line is no run the plan stays as it was.
+fn best_lines(rack: usize, lines: &mut [u64], quantities: &[u8], plan: &mut [u8]) -> Best
     requires { ⌜ GoodLines rack (now quantities) (now lines) × (length (now plan) ≡ length (now lines)) ⌝ }
-    ensures runs { λ r. ⌜ r .runs ≡ each isRun (now (lines .entry)) ⌝ }
+    ensures runs { λ r. ⌜ r .runs ≡ each (isRunOf (named (now (lines .entry)))) (now (lines .entry)) ⌝ }
     ensures best { λ r. ⌜ (T (r .runs) → BestShared rack (now (quantities .entry)) (now (lines .entry)) (r .pairs) (now (plan .exit))) ⌝ }
 {
     let mut table = table_buffer();
+    let count = lines.len();
     let laid = line_calls::best(
         refusal::refuse(0),
         rack,
-        lines.len(),
+        count,
         lines,
         quantities,
         plan,
@@ -61,16 +62,17 @@ fn best_lines<'a>(rack: usize, lines: &'a [u64], quantities: &'a [u8], plan: &mu
     }
 }
 
-// The report on good lines, which quick sharing uses up; both plans have a byte a line.
+// The report on good lines, which quick sharing uses up, and best sharing those of the copy; both plans have a byte a line.
 fn write_lines(
     rack: usize,
     lines: &mut [u64],
+    copy: &mut [u64],
     quantities: &[u8],
     quick: &mut [u8],
     best: &mut [u8],
     out: &mut [u8],
 ) -> usize
-    requires { ⌜ GoodLines rack (now quantities) (now lines) × (textRoom ≤ length (now out)) ⌝ }
+    requires { ⌜ GoodLines rack (now quantities) (now lines) × (now copy ≡ now lines) × (textRoom ≤ length (now out)) ⌝ }
     requires { ⌜ (length (now quick) ≡ length (now lines)) × (length (now best) ≡ length (now lines)) ⌝ }
     ensures { λ r. ⌜ Printed
         (reportOf (factsOf rack (now (quantities .entry)) (now (lines .entry))))
@@ -80,7 +82,7 @@ fn write_lines(
 {
     let count = lines.len();
     let common = line_calls::common(refusal::refuse(0), rack, count, lines, quantities);
-    let shared = best_lines(rack, lines, quantities, best);
+    let shared = best_lines(rack, copy, quantities, best);
     let laid = line_calls::quick(
         refusal::refuse(0),
         rack,
@@ -116,11 +118,13 @@ fn write_file(file: &[u8], out: &mut [u8]) -> usize
         return report::write_refused(refusal.number, out);
     }
     let count = read.count;
+    let mut copy = sets;
     let mut quick = plan_buffer();
     let mut best = plan_buffer();
     write_lines(
         read.rack,
         &mut sets[..count],
+        &mut copy[..count],
         &quantities[..count],
         &mut quick[..count],
         &mut best[..count],

@@ -10,9 +10,10 @@ use borrow.Author.Tests.{eq-eqb, ne-eqb}
 use Rattle.model.specs.Plan.{Valid, pairs}
 use Rattle.model.specs.Choice.{Mounted, bare}
 use Rattle.model.specs.Count.{All}
-use Rattle.model.specs.Interval.{isRun, C, table}
+use Rattle.model.specs.Interval.{named, isRunOf, C, table}
 use Rattle.model.proofs.Valid.{valid-length}
-use Rattle.model.proofs.Unbroken.{unbroken-runs}
+use Rattle.model.proofs.Lists.{all-map, all-both}
+use Rattle.model.proofs.Run.{run-misses}
 use Rattle.placements.specs.Repeated.{repeated}
 use Rattle.placements.specs.Good.{GoodLines}
 use Rattle.placements.specs.Plans.{quickPlanQ, bestPlanQ}
@@ -80,8 +81,8 @@ module _ (earlier : Refusal) (m : ℕ) (mounted : Mounted) (qs lines old : List 
 
 module _ (earlier : Refusal) (m : ℕ) (qs lines old cells : List ℕ) {d : Refusal}
     (e : d ≡ bestRefusal earlier m lines (length old) (length cells)) where
-  -- the lines are runs where best sharing is not refused
-  pub best-runs : d .number ≡ 0 → All (λ s. T (isRun s)) lines
+  -- the lines are runs of the named tips where best sharing is not refused
+  pub best-runs : d .number ≡ 0 → All (λ s. T (isRunOf (named lines) s)) lines
   best-runs z = best-none earlier m lines (length old) (length cells) (number-of e z) .runs
 
   -- the four clauses of best sharing, for what the code answers and leaves
@@ -97,7 +98,7 @@ module _ (earlier : Refusal) (m : ℕ) (qs lines old cells : List ℕ) {d : Refu
     plan-refused e f (C (repeated qs lines) 0 m),
     (
       lent-refused e (length lines) (bestPlanQ bare m qs lines) old f,
-      (lent-refused e (m * m) (table m (repeated qs lines)) cells f, record { plan = λ z. absurd (f z); best = λ z. absurd (f z) }),
+      (lent-refused e (m * m) (table m (repeated qs lines)) cells f, record { runs = λ z. absurd (f z); plan = λ z. absurd (f z); best = λ z. absurd (f z) }),
     ),
   )
 
@@ -106,9 +107,9 @@ module _ (earlier : Refusal) (m : ℕ) (qs lines old cells : List ℕ) {d : Refu
       → Best (record { refusal = d; pairs = x }) (out ++ drop n old) (grid ++ drop (m * m) cells)
   unfolding bestOf bestBuffer bestTable
   best-accepted z r {n} s {x} {out} q o g =
-      let named = unbroken-runs (r .most) (r .domains) (best-runs z) in
+      let runs = best-runs z in
       let plan = bestPlanQ bare m qs lines in
-      let all = best-pairs-placements bare (r .domains) (r .placed) (r .same) (r .most) named in
+      let all = best-pairs-placements bare (r .domains) (r .placed) (r .same) (r .most) runs in
       let counted : x ≡ pairs (repeated qs plan) = q ∙ sym all in (
         plan-accepted e z (C (repeated qs lines) 0 m) q,
         (
@@ -116,8 +117,9 @@ module _ (earlier : Refusal) (m : ℕ) (qs lines old cells : List ℕ) {d : Refu
           (
             lent-accepted e (m * m) (table m (repeated qs lines)) cells z g,
             record {
-              plan = λ _. rw o (handed-out qs n s old x (best-valid-lines bare (r .domains) (r .placed) (r .same) (r .most) named) counted);
-              best = λ _ other v. rw counted (best-placements bare (r .domains) (r .placed) (r .same) (r .most) named v);
+              runs = λ _. all-map (λ s (d, t). run-misses (r .most) d lines t) (all-both (r .domains) runs);
+              plan = λ _. rw o (handed-out qs n s old x (best-valid-lines bare (r .domains) (r .placed) (r .same) (r .most) runs) counted);
+              best = λ _ other v. rw counted (best-placements bare (r .domains) (r .placed) (r .same) (r .most) runs v);
             },
           ),
         ),

@@ -96,6 +96,7 @@ module _ {m n : ℕ} {qs rs lines others : List ℕ} {number : ℕ} (same : numb
 
   pub best-rule-same : {buffer : List ℕ} {shared : ℕ} → BestRule qs lines buffer number shared → BestRule rs others buffer number shared
   best-rule-same r = record {
+    runs = λ z. let (a, b, c) = same z in rw (← c) (r .runs z);
     plan = λ z. let (a, b, c) = same z in rw (← b, ← c) (r .plan z);
     best = λ z. let (a, b, c) = same z in rw (← b, ← c) (r .best z);
   }

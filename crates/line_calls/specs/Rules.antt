@@ -5,7 +5,9 @@ use mathlib.Core.Logic.{_↔_}
 use mathlib.Core.List.{List}
 use lib.Dec.{T}
 use lib.ListN.{length, take}
+use Rattle.model.specs.Count.{All}
 use Rattle.model.specs.Plan.{has, occ, Valid, pairs}
+use Rattle.model.specs.Interval.{Misses}
 use Rattle.placements.specs.Repeated.{repeated}
 use Rattle.placements.specs.Keep.{WithinQ, LeastOffQ}
 
@@ -28,7 +30,9 @@ pub record HalfRule (qs lines buffer : List ℕ) (number shared : ℕ) : Type 0 
   pub plan : number ≡ 0 → HandedOut qs lines buffer shared
   pub half : number ≡ 0 → (other : List ℕ) → Valid lines other → pairs (repeated qs other) ≤ 2 * shared
 
--- the best rule: where best sharing is accepted, its plan is handed out, and every other plan has at most its placement pairs
+-- the best rule: where best sharing is accepted, no line misses a tip that some line names, and which is between its own lowest and highest;
+-- its plan is handed out, and every other plan has at most its placement pairs
 pub record BestRule (qs lines buffer : List ℕ) (number shared : ℕ) : Type 0 where
+  pub runs : number ≡ 0 → All (λ s. (c : ℕ) → Misses lines s c → ⊥) lines
   pub plan : number ≡ 0 → HandedOut qs lines buffer shared
   pub best : number ≡ 0 → (other : List ℕ) → Valid lines other → pairs (repeated qs other) ≤ shared

@@ -125,12 +125,13 @@ pub fn quick(
     PlanAnswer { refusal, pairs }
 }
 
-pub fn best<'a>(
+// The sets are the caller's working copy: best sharing renumbers those of the lines.
+pub fn best(
     earlier: Refusal,
     rack: usize,
     count: usize,
-    sets: &'a [u64],
-    quantities: &'a [u8],
+    sets: &mut [u64],
+    quantities: &[u8],
     plan: &mut [u8],
     table: &mut [u32],
 ) -> PlanAnswer
@@ -151,7 +152,8 @@ pub fn best<'a>(
     let square = rack * rack;
     let pairs = best::plan_lines(
         rack,
-        &sets[..count],
+        Mounted::Nothing,
+        &mut sets[..count],
         &quantities[..count],
         &mut plan[..count],
         &mut table[..square],

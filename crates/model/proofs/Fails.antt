@@ -1,5 +1,5 @@
 -- Laws of the first element that fails a test.
-use Prim.Native.Nat.{ℕ, suc, _+_, _≤_, _<_}
+use Prim.Native.Nat.{ℕ, zero, suc, _+_, _≤_, _<_}
 use native.Mathlib.Omega.{arith}
 use mathlib.Core.Path.{_≡_, refl, ap, _∙_}
 use mathlib.Core.Logic.{⊎-elim}
@@ -43,6 +43,20 @@ module _ (f : ℕ → Bool) where
       (λ t. let g = rw (true-T (f x) t) at h in rw (true-T (f x) t) (fails-at xs (omega arith)))
       (λ n. rw (false-T (f x) n) n)
       (test (f x))
+
+  -- and those before it pass
+  pub fails-first : (xs : List ℕ) (i : ℕ) → i < firstFail f xs → T (f (getD xs i 0))
+  unfolding firstFail
+  fails-first [] i h = absurd (omega arith)
+  fails-first (x ∷ xs) i h =
+      ⊎-elim
+      (λ t. go i t (rw (true-T (f x) t) at h) (fails-first xs))
+      (λ n. let g = rw (false-T (f x) n) at h in absurd (omega arith))
+      (test (f x))
+    where
+      go : (i : ℕ) → T (f x) → i < suc (firstFail f xs) → ((j : ℕ) → j < firstFail f xs → T (f (getD xs j 0))) → T (f (getD (x ∷ xs) i 0))
+      go zero t g ih = t
+      go (suc i) t g ih = ih i (omega arith)
 
   -- one more element tested, by the test's result
   pub fails-next : (xs : List ℕ) (i : ℕ) (b : Bool) → i < length xs → b ≡ f (getD xs i 0) → firstFail f xs ≡ i + firstFail f (drop i xs)

@@ -10,7 +10,8 @@ use lib.Dec.{T, T-not, eqb, eqb→eq}
 use borrow.Author.Tests.{ne-eqb}
 use Rattle.model.specs.Choice.{Mounted, bare, tip, isOn}
 use Rattle.model.specs.Renumber.{rank, tipAt, rankOn, width}
-use Rattle.model.proofs.Tests.{le-or-lt, test, true-T, false-T, false-not, eqb-T, same-test, cond-case, and-left, and-right, and-in, one-le}
+use Rattle.model.proofs.Tests.{le-or-lt, test, true-T, false-T, false-not, eqb-T, same-test, cond-case}
+use Rattle.model.proofs.Tests.{and-left, and-right, and-in, one-le, one-T}
 
 module _ (ok : ℕ → Bool) where
   -- a tip that is ok adds one
@@ -39,6 +40,18 @@ module _ (ok : ℕ → Bool) where
   unfolding rank
   rank-le zero = zero-le
   rank-le (suc m) = omega (arith, rank-le m, one-le (ok m) true (λ _. tt))
+
+  -- where as many are ok as there are, each is
+  pub rank-full : (m : ℕ) → rank ok m ≡ m → (t : ℕ) → t < m → T (ok t)
+  unfolding rank
+  rank-full zero e t l = absurd (omega arith)
+  rank-full (suc m) e t l =
+      let most = rank-le m in
+      let last : T (ok m) = one-T (ok m) (omega (arith, most)) in
+      ⊎-elim
+      (λ p. let q : t ≡ m = omega arith in rw q last)
+      (rank-full m (omega (arith, most, one-le (ok m) true (λ _. tt))) t)
+      (le-or-lt m t)
 
   -- ranks are in the order of the tips
   pub rank-lt : (a b : ℕ) → T (ok a) → a < b → rank ok a < rank ok b

@@ -8,7 +8,7 @@ use lib.Dec.{T, lt→ltb, ltb→lt}
 use Rattle.model.specs.Count.{All, lowestAt}
 use Rattle.model.specs.Plan.{occ, Domain}
 use Rattle.model.specs.Choice.{Mounted, from}
-use Rattle.model.specs.Interval.{any, named, isRunOf, mostOf, C, worth, pickOf, planOf, tipBy, bestTip, bestPlan}
+use Rattle.model.specs.Interval.{any, named, isRunOf, mostOf, C, worth, pickOf, planFor, tipBy, bestTip, bestPlan}
 use Rattle.model.specs.Renumber.{rank, tipAt, ranks, renumbered, rankOn}
 use Rattle.model.proofs.Lists.{all, map-cong, count-map, count-cong}
 use Rattle.model.proofs.Choice.{choice-lt, choice-favour, choice-cong}
@@ -61,16 +61,18 @@ module _ (mounted : Mounted) (lines : List ℕ) where
           tip-full k (a + i + 1) (w - (i + 1)) s (λ p. omega (arith, h (omega arith))),
         )
 
-    -- where each tip is named, the best plan is the one that may choose any
-    pub plan-full : planOf mounted any m lines ≡ bestPlan mounted m lines
-    unfolding bestPlan bestTip
-    plan-full = map-cong (all (λ s. tip-full m 0 m s (λ _. omega arith)) lines)
+    -- where each tip is named, sets are on the tips that they have where any may be chosen
+    pub plan-full : (sets : List ℕ) → planFor mounted any m lines sets ≡ map (bestTip mounted m lines) sets
+    unfolding bestTip
+    plan-full sets = map-cong (all (λ s. tip-full m 0 m s (λ _. omega arith)) sets)
 
 -- THE BEST PLAN is that of the board renumbered, each rank replaced by its tip
 pub best-renumbered : {m : ℕ} {lines : List ℕ} → m ≤ 64 → All (Domain m) lines → All (λ s. T (isRunOf (named lines) s)) lines
     → (mounted : Mounted)
     → bestPlan mounted m lines
     ≡ map (tipAt (named lines) m) (bestPlan (rankOn (named lines) mounted) (rank (named lines) m) (renumbered (named lines) m lines))
+unfolding bestPlan
 best-renumbered {m} {lines} narrow ds rs mounted =
     let N = named lines in
-    best-ranks narrow ds rs mounted ∙ ap (map (tipAt N m)) (plan-full (rankOn N mounted) (renumbered N m lines) (rank N m) (all-named m lines))
+    let lines' = renumbered N m lines in
+    best-ranks narrow ds rs mounted ∙ ap (map (tipAt N m)) (plan-full (rankOn N mounted) lines' (rank N m) (all-named m lines) lines')

@@ -21,9 +21,20 @@ high s = 63 - leadingZeros 64 s
 unfoldable pub named : List ℕ → ℕ → Bool
 named lines t = ltb 0 (occ lines t)
 
--- an unbroken run: the distance from its lowest tip to its highest, plus one, is the number of its tips
-unfoldable pub isRun : ℕ → Bool
-isRun s = eqb (high s - low s + 1) (ones s)
+-- tip t is not between the lowest and the highest tip of s, or s has it
+unfoldable pub fills : ℕ → ℕ → Bool
+fills s t = not (leb (low s) t && leb t (high s)) || has s t
+
+-- a run among the tips that pass the test ok: the set has each of them between its lowest tip and its highest
+unfoldable pub isRunOf : (ℕ → Bool) → ℕ → Bool
+isRunOf ok s = every (λ t. not (ok t) || fills s t) 64
+
+-- the line s misses tip c: some line names it, it is between the lowest and the highest tip of s, and s does not have it
+pub record Misses (lines : List ℕ) (s c : ℕ) : Type 0 where
+  pub names : T (named lines c)
+  pub from : low s ≤ c
+  pub to : c ≤ high s
+  pub lacks : T (not (has s c))
 
 -- the line s lies within the interval
 unfoldable pub lies : ℕ → ℕ → ℕ → Bool
@@ -84,13 +95,9 @@ table m lines = listOf (λ k. C lines (k / m) (k % m + 1 - k / m)) (m * m)
 abbrev pub any : ℕ → Bool
 any c = true
 
--- tip t is not between the lowest and the highest tip of s, or s has it
-unfoldable pub fills : ℕ → ℕ → Bool
-fills s t = not (leb (low s) t && leb t (high s)) || has s t
-
--- a run among the tips that pass the test ok: the set has each of them between its lowest tip and its highest
-unfoldable pub isRunOf : (ℕ → Bool) → ℕ → Bool
-isRunOf ok s = every (λ t. not (ok t) || fills s t) 64
+-- an unbroken run: the distance from its lowest tip to its highest, plus one, is the number of its tips
+unfoldable pub isRun : ℕ → Bool
+isRun s = eqb (high s - low s + 1) (ones s)
 
 -- a line whose tips pass the test ok, and that has each such tip between its lowest and its highest
 pub record Line (ok : ℕ → Bool) (m s : ℕ) : Type 0 where

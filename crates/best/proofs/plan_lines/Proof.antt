@@ -1,70 +1,35 @@
-use Prim.Native.Nat.{ℕ, _-_}
+use Prim.Native.Nat.{ℕ, _*_, _-_, _<_}
+use native.Mathlib.Omega.{arith}
 use mathlib.Core.Path.{_≡_, ap, _∙_}
 use mathlib.Core.List.{List}
-use native.Mathlib.Omega.{arith}
 use lib.ListN.{length, getD}
-use Rattle.model.specs.Interval.{table as tableOf}
+use Rattle.model.specs.Interval.{C, table as tableOf}
 use Rattle.model.proofs.Table.{length-table, table-last}
 use Rattle.placements.specs.Repeated.{repeated}
-use Rattle.table.specs.Cells.{Runs}
-use Rattle.layout.specs.Picks.{Ready}
-use Rattle.best.proofs.Ranges.{wider, first-row}
-use Rattle.best.proofs.Placed.{placed-runs, plan-placed}
+use Rattle.best.proofs.Ranges.{first-row}
+use Rattle.best.proofs.Ranks.{all-full}
 use borrow.Author.Needs.{needs}
 use Rattle.best.proofs.plan_lines.Statement.{statement}
 use Rattle.best.proofs.plan_lines.Tie as tie
 
--- the table filled, from the end; and the call's start from there
-abbrev filled : tie.After-slice-known5 → tie.After-fill-table
-filled c = c .before .before .before .before .before .before .before .before .before
+abbrev begun : tie.After-names-of → tie.Start
+begun c = c .before .before .before .before .before .before
 
-abbrev start : tie.After-fill-table → tie.Start
-start c = c .before .before .before .before .before .before .before .before .before .before
+names-of-requires : tie.Need-names-of-requires
+names-of-requires c κs = search needs
 
--- the placements of the lines
-abbrev placed : tie.Start → List ℕ
-placed c = repeated (c .args .quantities .now) (c .args .sets .now)
+sub-between : tie.Need-sub-between
+sub-between c = search needs
 
-runs : (c : tie.Start) → Runs (c .args .m) (placed c)
-runs c = placed-runs (c .pre .0) (c .pre .1)
+between-requires : tie.Need-between-requires
+between-requires c κs = search needs
 
--- the sums are those of the placements, and so is the table
-table-is : (c : tie.After-fill-table) → c .fill-table .last .1 .1 .0 ≡ tableOf (start c .args .m) (placed (start c))
-table-is c =
-    let summed = c .before .before .before .before .sum-spans .ensures in
-    c .fill-table .ensures (placed (start c)) (record { runs = runs (start c); summed = summed })
-
-ready : (c : tie.After-fill-table)
-    → Ready (start c .args .m) (placed (start c)) (c .before .before .before .before .sum-spans .last .1 .1 .0) (c .fill-table .last .1 .1 .0)
-ready c =
-    let r = runs (start c) in
-    let summed = c .before .before .before .before .sum-spans .ensures in
-    record { good = r .good; runs = r .runs; summed = summed; filled = table-is c }
-
-slice-aggregate-sum-spans : tie.Need-slice-aggregate-sum-spans
-slice-aggregate-sum-spans c = search needs
-
-sum-spans-requires : tie.Need-sum-spans-requires
-sum-spans-requires c κs =
-    record { size = search needs; good = wider (c .before .before .before .before .before .pre .0) }
-
-slice-aggregate-fill-table : tie.Need-slice-aggregate-fill-table
-slice-aggregate-fill-table c = search needs
-
-fill-table-requires : tie.Need-fill-table-requires
-fill-table-requires c κs =
-    let b = c .before .before .before in
-    let s = b .before .before .before .before .before .before in
-    ((placed s, record { runs = runs s; summed = b .sum-spans .ensures }), s .pre .3)
-
-slice-aggregate-plan-lines : tie.Need-slice-aggregate-plan-lines
-slice-aggregate-plan-lines c = search needs
-
-plan-lines-requires : tie.Need-plan-lines-requires
-plan-lines-requires c κs =
-    let f = c .before .before .before .before .before in
-    let p = start f .pre in
-    ((placed (start f), ready f), p .0 .domains, p .1, p .2)
+plan-runs-requires : tie.Need-plan-runs-requires
+plan-runs-requires c κs =
+    let full = c .before .before .before in
+    let union = full .before .before in
+    let p = begun union .pre in
+    (all-full (p .0) (union .names-of .ensures) (full .if1 .taken ∙ full .before .between .ensures), p .1, p .2)
 
 sub-result : tie.Need-sub-result
 sub-result c = search needs
@@ -72,11 +37,17 @@ sub-result c = search needs
 mul-result : tie.Need-mul-result
 mul-result c = search needs
 
+-- the first row's last place is in the table, and has the pairs
+last-place : (m : ℕ) (lines : List ℕ) {table : List ℕ} → 0 < m → table ≡ tableOf m lines → m - 1 < length table
+last-place m lines some e = omega (arith, ap length e, length-table m lines, first-row m some)
+
+last-pairs : (m : ℕ) (lines : List ℕ) {table : List ℕ} → 0 < m → table ≡ tableOf m lines → getD table (m - 1) 0 ≡ C lines 0 m
+last-pairs m lines some e = ap (λ t. getD t (m - 1) 0) e ∙ table-last m lines some
+
 slice-read-result : tie.Need-slice-read-result
 slice-read-result c =
-    let f = filled c in
-    let m = start f .args .m in
-    omega (arith, ap length (table-is f), length-table m (placed (start f)), first-row m (start f .pre .0 .some))
+    let laid = c .before .before .before .before .before in
+    last-place _ _ (begun (laid .before .before .before .before .before .before) .pre .0 .good .some) (laid .plan-runs .ensures .1)
 
 same-length : tie.Need-same-length
 same-length c = search needs
@@ -84,29 +55,64 @@ same-length c = search needs
 same-length-2 : tie.Need-same-length-2
 same-length-2 c = search needs
 
+same-length-3 : tie.Need-same-length-3
+same-length-3 c = search needs
+
 returns : tie.Need-returns
 returns c =
-    let f = filled c in
-    let m = start f .args .m in
-    let p = start f .pre in
-    let plan = c .before .before .before .plan-lines .ensures (placed (start f)) (ready f) in (
-      ap (λ t. getD t (m - 1) 0) (table-is f) ∙ table-last m (placed (start f)) (p .0 .some),
-      (plan ∙ plan-placed (p .0) (p .1), table-is f),
-    )
+    let laid = c .before .before .before .before .before in
+    let (plan, table) = laid .plan-runs .ensures in
+    (last-pairs _ _ (begun (laid .before .before .before .before .before .before) .pre .0 .good .some) table, (plan, table))
+
+plan-named-requires : tie.Need-plan-named-requires
+plan-named-requires c κs = search needs
+
+sub-result-2 : tie.Need-sub-result-2
+sub-result-2 c = search needs
+
+mul-result-2 : tie.Need-mul-result-2
+mul-result-2 c = search needs
+
+slice-read-result-2 : tie.Need-slice-read-result-2
+slice-read-result-2 c =
+    let laid = c .before .before .before .before .before .before .before in
+    last-place _ _ (begun (laid .before .before .before .before .before .before) .pre .0 .good .some) (laid .plan-named .ensures .1)
+
+same-length-4 : tie.Need-same-length-4
+same-length-4 c = search needs
+
+same-length-5 : tie.Need-same-length-5
+same-length-5 c = search needs
+
+same-length-6 : tie.Need-same-length-6
+same-length-6 c = search needs
+
+returns-2 : tie.Need-returns-2
+returns-2 c =
+    let laid = c .before .before .before .before .before .before .before in
+    let (plan, table) = laid .plan-named .ensures in
+    (last-pairs _ _ (begun (laid .before .before .before .before .before .before) .pre .0 .good .some) table, (plan, table))
 
 pub plan-lines-spec : {M : Type 1} → statement M
 plan-lines-spec =
     tie.close
     (tie.spec
-    slice-aggregate-sum-spans
-    sum-spans-requires
-    slice-aggregate-fill-table
-    fill-table-requires
-    slice-aggregate-plan-lines
-    plan-lines-requires
+    names-of-requires
+    sub-between
+    between-requires
+    plan-runs-requires
     sub-result
     mul-result
     slice-read-result
     same-length
     same-length-2
-    returns)
+    same-length-3
+    returns
+    plan-named-requires
+    sub-result-2
+    mul-result-2
+    slice-read-result-2
+    same-length-4
+    same-length-5
+    same-length-6
+    returns-2)

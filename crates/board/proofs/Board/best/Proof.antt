@@ -9,21 +9,28 @@ use Rattle.board.proofs.Board.best.Tie as tie
 abbrev begun : tie.After-quantities2 → tie.Start
 begun a = a .before .before .before .before .before .before
 
-slice-aggregate-lent-sets : tie.Need-slice-aggregate-lent-sets
-slice-aggregate-lent-sets c = search needs
+slice-aggregate-state-refusal : tie.Need-slice-aggregate-state-refusal
+slice-aggregate-state-refusal c = search needs
 
-slice-aggregate-lent-quantities : tie.Need-slice-aggregate-lent-quantities
-slice-aggregate-lent-quantities c = search needs
+slice-aggregate-state-refusal-2 : tie.Need-slice-aggregate-state-refusal-2
+slice-aggregate-state-refusal-2 c = search needs
 
 full : (a : tie.After-quantities2) → Full (begun a .args .self)
-full a = record { sets-full = sym (slice-aggregate-lent-sets (a .before)); quantities-full = sym (slice-aggregate-lent-quantities a) }
+full a =
+    record { sets-full = sym (slice-aggregate-state-refusal (a .before)); quantities-full = sym (slice-aggregate-state-refusal-2 a) }
 
 state-refusal-requires : tie.Need-state-refusal-requires
 state-refusal-requires c κs = search needs
 
+slice-aggregate-best : tie.Need-slice-aggregate-best
+slice-aggregate-best c = search needs
+
+slice-aggregate-best-2 : tie.Need-slice-aggregate-best-2
+slice-aggregate-best-2 c = search needs
+
 best-requires : tie.Need-best-requires
 best-requires c κs =
-    let state = c .before .before in
+    let state = c .before .before .before .before in
     given Closed (begun (state .before) .args .self) (full (state .before)) (state .state-refusal .ensures)
 
 same-length : tie.Need-same-length
@@ -34,8 +41,8 @@ same-length-2 c = search needs
 
 returns : tie.Need-returns
 returns c =
-    let laid = c .before .before .before .before in
-    let state = laid .before .before .before in
+    let laid = c .before .before .before .before .before in
+    let state = laid .before .before .before .before .before in
     let a = begun (state .before) .args in
     let e = state .state-refusal .ensures in
     let (answer, (buffer, (cells, rule))) = laid .best .ensures in
@@ -46,9 +53,11 @@ pub best-spec : {M : Type 1} → statement M
 best-spec =
     tie.close
     (tie.spec
-    slice-aggregate-lent-sets
-    slice-aggregate-lent-quantities
+    slice-aggregate-state-refusal
+    slice-aggregate-state-refusal-2
     state-refusal-requires
+    slice-aggregate-best
+    slice-aggregate-best-2
     best-requires
     same-length
     same-length-2
