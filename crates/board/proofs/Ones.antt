@@ -80,11 +80,11 @@ pub record AsBefore (b : Board) (r : Refusal) (m : ℕ) (lines : List ℕ) : Typ
   pub quick : (room : ℕ) → quickOf b bare room ≡ shared b (planAnswer (planRefusal r (length lines) room) (pairs (quickPlan bare m lines)))
   pub quick-plan : (plan : List ℕ)
       → quickBuffer b bare plan ≡ lentBy (planRefusal r (length lines) (length plan)) (length lines) (quickPlan bare m lines) plan
-  pub best : (room places : ℕ) → bestOf b room places ≡ shared b (planAnswer (bestRefusal r m lines room places) (C lines 0 m))
+  pub best : (room places : ℕ) → bestOf b bare room places ≡ shared b (planAnswer (bestRefusal r m lines room places) (C lines 0 m))
   pub best-plan : (plan : List ℕ) (places : ℕ)
-      → bestBuffer b plan places ≡ lentBy (bestRefusal r m lines (length plan) places) (length lines) (bestPlan bare m lines) plan
+      → bestBuffer b bare plan places ≡ lentBy (bestRefusal r m lines (length plan) places) (length lines) (bestPlan bare m lines) plan
   pub best-table : (room : ℕ) (cells : List ℕ)
-      → bestTable b room cells ≡ lentBy (bestRefusal r m lines room (length cells)) (m * m) (table m lines) cells
+      → bestTable b bare room cells ≡ lentBy (bestRefusal r m lines room (length cells)) (m * m) (table m lines) cells
   pub write : (room : ℕ) → writeOf b room ≡ writtenBefore b r lines room
   pub write-file : (out : List ℕ)
       → writeBuffer b out ≡ lentBy (writeRefusal r 1 (length lines) (length out)) (fileLength 1 (length lines)) (plainFileOf m lines) out

@@ -28,14 +28,14 @@ unfoldable pub quickBuffer : Board → Mounted → List ℕ → List ℕ
 quickBuffer b mounted plan = Lines.quickBuffer (mountedRefusal b mounted) (b .rack) mounted (quantitiesOf b) (linesOf b) plan
 
 -- best sharing, where the plan buffer has room bytes and the table has the places
-unfoldable pub bestOf : Board → ℕ → ℕ → Shared
-bestOf b room places = shared b (Lines.bestOf (stateRefusal Closed b) (b .rack) (quantitiesOf b) (linesOf b) room places)
+unfoldable pub bestOf : Board → Mounted → ℕ → ℕ → Shared
+bestOf b mounted room places = shared b (Lines.bestOf (mountedRefusal b mounted) (b .rack) (quantitiesOf b) (linesOf b) room places)
 
-unfoldable pub bestBuffer : Board → List ℕ → ℕ → List ℕ
-bestBuffer b plan places = Lines.bestBuffer (stateRefusal Closed b) (b .rack) (quantitiesOf b) (linesOf b) plan places
+unfoldable pub bestBuffer : Board → Mounted → List ℕ → ℕ → List ℕ
+bestBuffer b mounted plan places = Lines.bestBuffer (mountedRefusal b mounted) (b .rack) mounted (quantitiesOf b) (linesOf b) plan places
 
-unfoldable pub bestTable : Board → ℕ → List ℕ → List ℕ
-bestTable b room cells = Lines.bestTable (stateRefusal Closed b) (b .rack) (quantitiesOf b) (linesOf b) room cells
+unfoldable pub bestTable : Board → Mounted → ℕ → List ℕ → List ℕ
+bestTable b mounted room cells = Lines.bestTable (mountedRefusal b mounted) (b .rack) (quantitiesOf b) (linesOf b) room cells
 
 -- demand 3, of the bytes in the buffer
 abbrev pub HalfRule : Board → List ℕ → Shared → Type 0

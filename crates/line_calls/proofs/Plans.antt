@@ -8,7 +8,7 @@ use lib.ListN.{length, take, drop}
 use lib.Seq.{take-at}
 use borrow.Author.Tests.{eq-eqb, ne-eqb}
 use Rattle.model.specs.Plan.{Valid, pairs}
-use Rattle.model.specs.Choice.{Mounted, bare}
+use Rattle.model.specs.Choice.{Mounted}
 use Rattle.model.specs.Count.{All}
 use Rattle.model.specs.Interval.{named, isRunOf, C, table}
 use Rattle.model.proofs.Valid.{valid-length}
@@ -79,7 +79,7 @@ module _ (earlier : Refusal) (m : ℕ) (mounted : Mounted) (qs lines old : List 
 
 -- ---- best sharing
 
-module _ (earlier : Refusal) (m : ℕ) (qs lines old cells : List ℕ) {d : Refusal}
+module _ (earlier : Refusal) (m : ℕ) (mounted : Mounted) (qs lines old cells : List ℕ) {d : Refusal}
     (e : d ≡ bestRefusal earlier m lines (length old) (length cells)) where
   -- the lines are runs of the named tips where best sharing is not refused
   pub best-runs : d .number ≡ 0 → All (λ s. T (isRunOf (named lines) s)) lines
@@ -89,7 +89,7 @@ module _ (earlier : Refusal) (m : ℕ) (qs lines old cells : List ℕ) {d : Refu
   abbrev Best : PlanAnswer → List ℕ → List ℕ → Type 0
   Best r last grid =
       (r ≡ bestOf earlier m qs lines (length old) (length cells))
-      × ((last ≡ bestBuffer earlier m qs lines old (length cells))
+      × ((last ≡ bestBuffer earlier m mounted qs lines old (length cells))
       × ((grid ≡ bestTable earlier m qs lines (length old) cells) × BestRule qs lines last (r .refusal .number) (r .pairs)))
 
   pub best-refused : (d .number ≡ 0 → ⊥) → Best (record { refusal = d; pairs = 0 }) old cells
@@ -97,19 +97,19 @@ module _ (earlier : Refusal) (m : ℕ) (qs lines old cells : List ℕ) {d : Refu
   best-refused f = (
     plan-refused e f (C (repeated qs lines) 0 m),
     (
-      lent-refused e (length lines) (bestPlanQ bare m qs lines) old f,
+      lent-refused e (length lines) (bestPlanQ mounted m qs lines) old f,
       (lent-refused e (m * m) (table m (repeated qs lines)) cells f, record { runs = λ z. absurd (f z); plan = λ z. absurd (f z); best = λ z. absurd (f z) }),
     ),
   )
 
   pub best-accepted : d .number ≡ 0 → GoodLines m qs lines → {n : ℕ} → n ≡ length lines → {x : ℕ} {out grid : List ℕ}
-      → x ≡ C (repeated qs lines) 0 m → out ≡ bestPlanQ bare m qs lines → grid ≡ table m (repeated qs lines)
+      → x ≡ C (repeated qs lines) 0 m → out ≡ bestPlanQ mounted m qs lines → grid ≡ table m (repeated qs lines)
       → Best (record { refusal = d; pairs = x }) (out ++ drop n old) (grid ++ drop (m * m) cells)
   unfolding bestOf bestBuffer bestTable
   best-accepted z r {n} s {x} {out} q o g =
       let runs = best-runs z in
-      let plan = bestPlanQ bare m qs lines in
-      let all = best-pairs-placements bare (r .domains) (r .placed) (r .same) (r .most) runs in
+      let plan = bestPlanQ mounted m qs lines in
+      let all = best-pairs-placements mounted (r .domains) (r .placed) (r .same) (r .most) runs in
       let counted : x ≡ pairs (repeated qs plan) = q ∙ sym all in (
         plan-accepted e z (C (repeated qs lines) 0 m) q,
         (
@@ -118,8 +118,8 @@ module _ (earlier : Refusal) (m : ℕ) (qs lines old cells : List ℕ) {d : Refu
             lent-accepted e (m * m) (table m (repeated qs lines)) cells z g,
             record {
               runs = λ _. all-map (λ s (d, t). run-misses (r .most) d lines t) (all-both (r .domains) runs);
-              plan = λ _. rw o (handed-out qs n s old x (best-valid-lines bare (r .domains) (r .placed) (r .same) (r .most) runs) counted);
-              best = λ _ other v. rw counted (best-placements bare (r .domains) (r .placed) (r .same) (r .most) runs v);
+              plan = λ _. rw o (handed-out qs n s old x (best-valid-lines mounted (r .domains) (r .placed) (r .same) (r .most) runs) counted);
+              best = λ _ other v. rw counted (best-placements mounted (r .domains) (r .placed) (r .same) (r .most) runs v);
             },
           ),
         ),

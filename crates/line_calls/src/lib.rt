@@ -129,6 +129,7 @@ pub fn quick(
 pub fn best(
     earlier: Refusal,
     rack: usize,
+    mounted: Mounted,
     count: usize,
     sets: &mut [u64],
     quantities: &[u8],
@@ -138,8 +139,8 @@ pub fn best(
     requires { ⌜ Given earlier rack count (now quantities) (now sets) ⌝ }
     ensures answer { λ r. ⌜ r ≡ bestOf earlier rack (take count (now (quantities .entry))) (take count (now (sets .entry)))
         (length (now (plan .entry))) (length (now (table .entry))) ⌝ }
-    ensures plan { λ _. ⌜ now (plan .exit) ≡ bestBuffer earlier rack (take count (now (quantities .entry))) (take count (now (sets .entry)))
-        (now (plan .entry)) (length (now (table .entry))) ⌝ }
+    ensures plan { λ _. ⌜ now (plan .exit) ≡ bestBuffer earlier rack (onHead mounted) (take count (now (quantities .entry)))
+        (take count (now (sets .entry))) (now (plan .entry)) (length (now (table .entry))) ⌝ }
     ensures table { λ _. ⌜ now (table .exit) ≡ bestTable earlier rack (take count (now (quantities .entry))) (take count (now (sets .entry)))
         (length (now (plan .entry))) (now (table .entry)) ⌝ }
     ensures rule { λ r. ⌜ BestRule (take count (now (quantities .entry))) (take count (now (sets .entry)))
@@ -152,7 +153,7 @@ pub fn best(
     let square = rack * rack;
     let pairs = best::plan_lines(
         rack,
-        Mounted::Nothing,
+        mounted,
         &mut sets[..count],
         &quantities[..count],
         &mut plan[..count],
