@@ -115,17 +115,17 @@ module _ (file : List ℕ) (b : Board) (given : readOf file ≡ answer b none) w
   unfolding quickPlanIn quickBuffer
   quick-plan-as-board mounted plan = on-board (λ r m q l. Lines.quickBuffer (mountedRefusal r m mounted) m mounted q l plan)
 
-  pub best-as-board : (room places : ℕ) → bestIn file room places ≡ ofShared (bestOf b room places)
+  pub best-as-board : (mounted : Mounted) (room places : ℕ) → bestIn file mounted room places ≡ ofShared (bestOf b mounted room places)
   unfolding bestIn bestOf
-  best-as-board room places = on-board (λ r m q l. planOutcome (Lines.bestOf r m q l room places))
+  best-as-board mounted room places = on-board (λ r m q l. planOutcome (Lines.bestOf (mountedRefusal r m mounted) m q l room places))
 
-  pub best-plan-as-board : (plan : List ℕ) (places : ℕ) → bestPlanIn file plan places ≡ bestBuffer b plan places
+  pub best-plan-as-board : (mounted : Mounted) (plan : List ℕ) (places : ℕ) → bestPlanIn file mounted plan places ≡ bestBuffer b mounted plan places
   unfolding bestPlanIn bestBuffer
-  best-plan-as-board plan places = on-board (λ r m q l. Lines.bestBuffer r m q l plan places)
+  best-plan-as-board mounted plan places = on-board (λ r m q l. Lines.bestBuffer (mountedRefusal r m mounted) m mounted q l plan places)
 
-  pub best-table-as-board : (room : ℕ) (cells : List ℕ) → bestTableIn file room cells ≡ bestTable b room cells
+  pub best-table-as-board : (mounted : Mounted) (room : ℕ) (cells : List ℕ) → bestTableIn file mounted room cells ≡ bestTable b mounted room cells
   unfolding bestTableIn bestTable
-  best-table-as-board room cells = on-board (λ r m q l. Lines.bestTable r m q l room cells)
+  best-table-as-board mounted room cells = on-board (λ r m q l. Lines.bestTable (mountedRefusal r m mounted) m q l room cells)
 
   -- the arrays of the board have a place for each line
   full : Full b

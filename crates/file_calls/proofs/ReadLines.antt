@@ -66,23 +66,22 @@ module _ (file : List ℕ) {d : Refusal} (e : d ≡ readRefusal file) {m : ℕ} 
             ),
           )
 
-  module _ (plan : List ℕ) {a : PlanAnswer} {last : List ℕ} where
-    pub best-in : (cells : List ℕ) {grid : List ℕ} → a ≡ bestOf d m qs lines (length plan) (length cells)
-        → last ≡ bestBuffer d m qs lines plan (length cells) → grid ≡ bestTable d m qs lines (length plan) cells
-        → BestRule qs lines last (a .refusal .number) (a .pairs)
-        → (planOutcome a ≡ bestIn file (length plan) (length cells))
-        × ((last ≡ bestPlanIn file plan (length cells))
-        × ((grid ≡ bestTableIn file (length plan) cells) × BestRuleOf file last (planOutcome a)))
-    unfolding bestIn bestPlanIn bestTableIn bestOf
-    best-in cells p q t rule =
-        let free : a .refusal .number ≡ 0 → d .number ≡ 0 =
-        λ z. best-none d m lines (length plan) (length cells) (ap (λ x. x .refusal .number) (sym p) ∙ z) .free in (
-          ap planOutcome (p ∙ best-same d same plan cells ∙ of-file file e (λ r k q l. bestOf r k q l (length plan) (length cells))),
-          (
-            q ∙ best-buffer-same d same plan cells ∙ of-file file e (λ r k q l. bestBuffer r k q l plan (length cells)),
+      pub best-in : (cells : List ℕ) {grid : List ℕ} → a ≡ bestOf h m qs lines (length plan) (length cells)
+          → last ≡ bestBuffer h m mounted qs lines plan (length cells) → grid ≡ bestTable h m qs lines (length plan) cells
+          → BestRule qs lines last (a .refusal .number) (a .pairs)
+          → (planOutcome a ≡ bestIn file mounted (length plan) (length cells))
+          × ((last ≡ bestPlanIn file mounted plan (length cells))
+          × ((grid ≡ bestTableIn file mounted (length plan) cells) × BestRuleOf file last (planOutcome a)))
+      unfolding bestIn bestPlanIn bestTableIn bestOf
+      best-in cells p q t rule =
+          let free : a .refusal .number ≡ 0 → h .number ≡ 0 =
+          λ z. best-none h m lines (length plan) (length cells) (ap (λ x. x .refusal .number) (sym p) ∙ z) .free in (
+            ap planOutcome (p ∙ best-same h mounted-lines plan cells ∙ of-file file by-file (λ r k q l. bestOf r k q l (length plan) (length cells))),
             (
-              t ∙ best-table-same d same plan cells ∙ of-file file e (λ r k q l. bestTable r k q l (length plan) cells),
-              best-rule-same (λ z. same (free z)) rule,
+              q ∙ best-buffer-same h mounted-lines plan cells mounted ∙ of-file file by-file (λ r k q l. bestBuffer r k mounted q l plan (length cells)),
+              (
+                t ∙ best-table-same h mounted-lines plan cells ∙ of-file file by-file (λ r k q l. bestTable r k q l (length plan) cells),
+                best-rule-same (λ z. mounted-lines (free z)) rule,
+              ),
             ),
-          ),
-        )
+          )

@@ -53,15 +53,15 @@ unfoldable pub quickPlanIn : List ℕ → Mounted → List ℕ → List ℕ
 quickPlanIn file mounted plan = quickBuffer (mountedIn file mounted) (rackIn file) mounted (quantitiesIn file) (setsIn file) plan
 
 -- best sharing, with a plan buffer of room bytes and a table of so many places
-unfoldable pub bestIn : List ℕ → ℕ → ℕ → Outcome
-bestIn file room places = planOutcome (bestOf (readRefusal file) (rackIn file) (quantitiesIn file) (setsIn file) room places)
+unfoldable pub bestIn : List ℕ → Mounted → ℕ → ℕ → Outcome
+bestIn file mounted room places = planOutcome (bestOf (mountedIn file mounted) (rackIn file) (quantitiesIn file) (setsIn file) room places)
 
 -- the plan buffer and the table after best sharing
-unfoldable pub bestPlanIn : List ℕ → List ℕ → ℕ → List ℕ
-bestPlanIn file plan places = bestBuffer (readRefusal file) (rackIn file) (quantitiesIn file) (setsIn file) plan places
+unfoldable pub bestPlanIn : List ℕ → Mounted → List ℕ → ℕ → List ℕ
+bestPlanIn file mounted plan places = bestBuffer (mountedIn file mounted) (rackIn file) mounted (quantitiesIn file) (setsIn file) plan places
 
-unfoldable pub bestTableIn : List ℕ → ℕ → List ℕ → List ℕ
-bestTableIn file room cells = bestTable (readRefusal file) (rackIn file) (quantitiesIn file) (setsIn file) room cells
+unfoldable pub bestTableIn : List ℕ → Mounted → ℕ → List ℕ → List ℕ
+bestTableIn file mounted room cells = bestTable (mountedIn file mounted) (rackIn file) (quantitiesIn file) (setsIn file) room cells
 
 -- the margin of keep and the bytes of the kept file; 26 carries its margin, and 11 carries none
 abbrev pub keepOutcome : KeepAnswer → FileAnswer → Outcome

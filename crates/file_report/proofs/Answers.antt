@@ -83,7 +83,7 @@ module _ {m : ℕ} {qs lines : List ℕ} (good : GoodLines m qs lines) {earlier 
 
     pub best-is : {places : ℕ} → places ≡ mostTips * mostTips → {r : PlanAnswer} {out : List ℕ}
         → r ≡ bestOf earlier m (take (length lines) qs) (take (length lines) lines) (length old) places
-        → out ≡ bestBuffer earlier m (take (length lines) qs) (take (length lines) lines) old places
+        → out ≡ bestBuffer earlier m bare (take (length lines) qs) (take (length lines) lines) old places
         → (eqb (r .refusal .number) 0 ≡ allRuns lines)
         × (T (eqb (r .refusal .number) 0) → BestShared m qs lines (r .pairs) out)
     unfolding bestOf bestBuffer
@@ -91,6 +91,11 @@ module _ {m : ℕ} {qs lines : List ℕ} (good : GoodLines m qs lines) {earlier 
       runs-each lines,
       λ t. rw (true-T (accepts (runRefusal lines)) t) (refl, whole lines (bestPlanQ bare m qs lines) old size),
     )
+
+-- best sharing of a copy of the lines is best sharing of the lines
+pub copy-best : (m : ℕ) (qs lines copy : List ℕ) {runs : Bool} {x : ℕ} {plan : List ℕ} → copy ≡ lines
+    → (runs ≡ allRuns copy) × (T runs → BestShared m qs copy x plan) → (runs ≡ allRuns lines) × (T runs → BestShared m qs lines x plan)
+copy-best m qs lines copy e shared = rw e at shared
 
 -- what is reported of lines of which best sharing answers these pairs and this plan
 facts : ℕ → List ℕ → List ℕ → Bool → ℕ → List ℕ → Facts

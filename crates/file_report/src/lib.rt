@@ -49,6 +49,7 @@ fn best_lines(rack: usize, lines: &mut [u64], quantities: &[u8], plan: &mut [u8]
     let laid = line_calls::best(
         refusal::refuse(0),
         rack,
+        Mounted::Nothing,
         count,
         lines,
         quantities,

@@ -4,7 +4,7 @@ use Rattle.file_report.proofs.best_lines.Statement.{statement}
 use Rattle.file_report.proofs.best_lines.Tie as tie
 
 abbrev begun : tie.After-table → tie.Start
-begun c = c .before .before .before .before .before .before .before
+begun c = c .before .before .before .before .before .before .before .before
 
 table-buffer-requires : tie.Need-table-buffer-requires
 table-buffer-requires c κs = search needs
@@ -21,10 +21,13 @@ best-requires c κs = given-whole (begun c .pre .0)
 same-length : tie.Need-same-length
 same-length c = search needs
 
+same-length-2 : tie.Need-same-length-2
+same-length-2 c = search needs
+
 returns : tie.Need-returns
 returns c =
-    let laid = c .before .before .before .before .before in
-    let asked = laid .before .before .before in
+    let laid = c .before .before .before .before .before .before .before in
+    let asked = laid .before .before .before .before in
     let (good, size) = begun (laid .before) .pre in
     let (answer, (plan, _)) = laid .best .ensures in
     best-is good (asked .refuse .ensures) _ size (asked .before .table-buffer .ensures) answer plan
@@ -38,4 +41,5 @@ best-lines-spec =
     slice-aggregate-best
     best-requires
     same-length
+    same-length-2
     returns)

@@ -1,5 +1,5 @@
 use Prim.Native.Nat.{_≤_}
-use mathlib.Core.Path.{_≡_, sym, _∙_}
+use mathlib.Core.Path.{_≡_, refl, sym, _∙_}
 use native.Mathlib.Omega.{arith}
 use lib.ListN.{length, take}
 use lib.Seq.{length-take-le}
@@ -77,42 +77,48 @@ array-borrow-prefix-sets c = let d = c .before .before in given d .room (d .if1 
 slice-aggregate-write-lines : tie.Need-slice-aggregate-write-lines
 slice-aggregate-write-lines c = sym (size (c .before .before .before))
 
-array-share-prefix-quantities : tie.Need-array-share-prefix-quantities
-array-share-prefix-quantities c = let d = c .before .before .before in given d .quantity-room (d .if1 .left)
+array-borrow-prefix-copy : tie.Need-array-borrow-prefix-copy
+array-borrow-prefix-copy c = let d = c .before .before .before in given d .room (d .if1 .left)
 
 slice-aggregate-write-lines-2 : tie.Need-slice-aggregate-write-lines-2
-slice-aggregate-write-lines-2 c =
-    let d = c .before .before .before .before in
+slice-aggregate-write-lines-2 c = sym (size (c .before .before .before .before))
+
+array-share-prefix-quantities : tie.Need-array-share-prefix-quantities
+array-share-prefix-quantities c = let d = c .before .before .before .before in given d .quantity-room (d .if1 .left)
+
+slice-aggregate-write-lines-3 : tie.Need-slice-aggregate-write-lines-3
+slice-aggregate-write-lines-3 c =
+    let d = c .before .before .before .before .before in
     sym (length-take-le _ _ (given d .quantity-room (d .if1 .left)))
 
 array-borrow-prefix-quick : tie.Need-array-borrow-prefix-quick
-array-borrow-prefix-quick c = quick-bytes (c .before .before .before)
-
-slice-aggregate-write-lines-3 : tie.Need-slice-aggregate-write-lines-3
-slice-aggregate-write-lines-3 c = sym (length-take-le _ _ (quick-bytes (c .before .before .before .before)))
-
-array-borrow-prefix-best : tie.Need-array-borrow-prefix-best
-array-borrow-prefix-best c = best-bytes (c .before .before .before)
+array-borrow-prefix-quick c = quick-bytes (c .before .before .before .before)
 
 slice-aggregate-write-lines-4 : tie.Need-slice-aggregate-write-lines-4
-slice-aggregate-write-lines-4 c = sym (length-take-le _ _ (best-bytes (c .before .before .before .before)))
+slice-aggregate-write-lines-4 c = sym (length-take-le _ _ (quick-bytes (c .before .before .before .before .before)))
+
+array-borrow-prefix-best : tie.Need-array-borrow-prefix-best
+array-borrow-prefix-best c = best-bytes (c .before .before .before .before)
+
+slice-aggregate-write-lines-5 : tie.Need-slice-aggregate-write-lines-5
+slice-aggregate-write-lines-5 c = sym (length-take-le _ _ (best-bytes (c .before .before .before .before .before)))
 
 write-lines-requires : tie.Need-write-lines-requires
 write-lines-requires c κs =
-    let laid = c .before .before .before .before .before in
+    let laid = c .before .before .before .before .before .before in
     let d = laid .before .before in
     let s = read d .before .before .before .before .before .before .before in
     let quick = length-take-le _ _ (quick-bytes (laid .before)) in
     let best = length-take-le _ _ (best-bytes laid) in
-    ((good d, s .pre), (quick ∙ sym (size d), best ∙ sym (size d)))
+    ((good d, refl, s .pre), (quick ∙ sym (size d), best ∙ sym (size d)))
 
 same-length-2 : tie.Need-same-length-2
 same-length-2 c = search needs
 
 returns-2 : tie.Need-returns-2
 returns-2 c =
-    let written = c .before .before .before .before .before in
-    let d = written .before .before .before .before .before .before .before .before in
+    let written = c .before .before .before .before .before .before in
+    let d = written .before .before .before .before .before .before .before .before .before in
     let (e, (lines, _)) = read d .read-lines .ensures in
     rw (text-accepted _ e (d .if1 .left) (lines (d .if1 .left))) (written .write-lines .ensures)
 
@@ -132,12 +138,14 @@ write-file-spec =
     plan-buffer-requires-2
     array-borrow-prefix-sets
     slice-aggregate-write-lines
-    array-share-prefix-quantities
+    array-borrow-prefix-copy
     slice-aggregate-write-lines-2
-    array-borrow-prefix-quick
+    array-share-prefix-quantities
     slice-aggregate-write-lines-3
-    array-borrow-prefix-best
+    array-borrow-prefix-quick
     slice-aggregate-write-lines-4
+    array-borrow-prefix-best
+    slice-aggregate-write-lines-5
     write-lines-requires
     same-length-2
     returns-2)

@@ -1,19 +1,21 @@
-use mathlib.Core.Path.{sym, _∙_}
+use mathlib.Core.Path.{_≡_, sym, subst, _∙_}
 use native.Mathlib.Omega.{arith}
-use Rattle.file_report.proofs.Answers.{given-whole, common-is, quick-is, same-report}
+use lib.ListN.{length}
+use Rattle.placements.specs.Good.{GoodLines}
+use Rattle.file_report.proofs.Answers.{given-whole, common-is, quick-is, copy-best, same-report}
 use borrow.Author.Needs.{needs}
 use Rattle.file_report.proofs.write_lines.Statement.{statement}
 use Rattle.file_report.proofs.write_lines.Tie as tie
 
 -- the start, before common tip; best sharing, before quick sharing; quick sharing, before the text
 abbrev begun : tie.After-refuse → tie.Start
-begun c = c .before .before .before .before .before .before
+begun c = c .before .before .before .before .before .before .before
 
 abbrev common : tie.After-best-lines → tie.After-common
 common c = c .before .before .before
 
 abbrev best : tie.After-refuse2 → tie.After-best-lines
-best c = c .before .before .before
+best c = c .before .before .before .before .before
 
 abbrev quick : tie.After-write-report-arg3 → tie.After-quick
 quick c = c .before .before .before .before .before .before .before
@@ -25,7 +27,10 @@ common-requires : tie.Need-common-requires
 common-requires c κs = given-whole (begun (c .before) .pre .0 .0)
 
 best-lines-requires : tie.Need-best-lines-requires
-best-lines-requires c κs = search needs
+best-lines-requires c κs =
+    let s = c .before .before .before .before .before .before .before .before .before .before .before in
+    let ((good, same, _), (_, size)) = s .pre in
+    subst (λ l. GoodLines (s .args .rack) (s .args .quantities .now) l × (length (s .args .best .now) ≡ length l)) (sym same) (good, size)
 
 refuse-requires-2 : tie.Need-refuse-requires-2
 refuse-requires-2 c κs = search needs
@@ -37,7 +42,7 @@ write-report-requires : tie.Need-write-report-requires
 write-report-requires c κs =
     let laid = quick c in
     let shared = best (laid .before .before .before) in
-    let ((good, room), (quick-size, best-size)) = begun (common shared .before .before) .pre in
+    let ((good, _, room), (quick-size, best-size)) = begun (common shared .before .before) .pre in
     let size = laid .quick .kept .1 .1 .1 .1 .1 .1 .0 ∙ quick-size in
     record {
       same-lines = shared .best-lines .kept .1 .1 .1 .0 ∙ best-size ∙ sym size;
@@ -57,6 +62,9 @@ same-length-3 c = search needs
 same-length-4 : tie.Need-same-length-4
 same-length-4 c = search needs
 
+same-length-5 : tie.Need-same-length-5
+same-length-5 c = search needs
+
 returns : tie.Need-returns
 returns c =
     let written = c .before .before in
@@ -67,7 +75,8 @@ returns c =
     let asked = busiest .before .before in
     let s = begun asked in
     let (quick-answer, (plan, _)) = laid .quick .ensures in
-    let (runs, facts) = shared .best-lines .ensures in
+    let (runs, facts) = copy-best (s .args .rack) (s .args .quantities .now) (s .args .lines .now) (s .args .copy .now) (s .pre .0 .1)
+    (shared .best-lines .ensures) in
     let good = s .pre .0 .0 in
     let off = common-is good (asked .refuse .ensures) (busiest .common .ensures .0) in
     let pairs = quick-is good (free .refuse2 .ensures) _ (s .pre .1 .0) quick-answer plan in
@@ -87,4 +96,5 @@ write-lines-spec =
     same-length-2
     same-length-3
     same-length-4
+    same-length-5
     returns)
