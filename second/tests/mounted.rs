@@ -55,6 +55,14 @@ fn mounted_tip_may_change_the_pairs_of_quick_sharing() {
 }
 
 #[test]
+fn mounted_tip_leaves_the_pairs_of_best_sharing() {
+    // Tip 1 first takes two lines, and two single ones are left; best sharing has one pair on tip 0 and one on tip 2.
+    let board = closed(3, &[(&[0], 1), (&[2], 1), (&[0, 1], 1), (&[1, 2], 1)]);
+    assert_eq!((quick(&board, None), best(&board, None)), ((vec![0, 2, 0, 2], 2), (vec![0, 2, 0, 2], 2)));
+    assert_eq!((quick(&board, Some(1)), best(&board, Some(1))), ((vec![0, 2, 1, 1], 1), (vec![0, 2, 0, 2], 2)));
+}
+
+#[test]
 fn mounted_tip_is_chosen_in_every_round_and_only_on_a_tie() {
     // Tip 0 takes three first; then {1,2} is a tie, and in the last board tip 1 takes two before tip 2 can.
     let lines: [(&[usize], u8); 3] = [(&[0], 2), (&[0, 2], 1), (&[1, 2], 1)];
