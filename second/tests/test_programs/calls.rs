@@ -26,7 +26,7 @@ fn show_keep(words: &str, board: Board, k: u16) -> String {
 /// Quick sharing into the first `room` bytes.
 fn show_quick(words: &str, board: &Board, room: usize) -> String {
     let mut plan = junk::plan();
-    let answer = board.clone().quick(&mut plan[..room]);
+    let answer = board.clone().quick(None, &mut plan[..room]);
     format!(
         "{words} quick, room {room}: {} pairs {}; board changed {}; plan {}",
         show_number(&answer),
@@ -40,7 +40,7 @@ fn show_quick(words: &str, board: &Board, room: usize) -> String {
 fn show_best(words: &str, board: &Board, room: usize, places: usize) -> String {
     let mut plan = junk::plan();
     let mut table = junk::table();
-    let answer = board.clone().best(&mut plan[..room], &mut table[..places]);
+    let answer = board.clone().best(None, &mut plan[..room], &mut table[..places]);
     format!(
         "{words} best, room {room} places {places}: {} pairs {}; board changed {}; plan {}; table {}",
         show_number(&answer),
@@ -160,8 +160,8 @@ fn seven_calls(words: &str, board: &Board) -> String {
         seen("close", board, given().close()),
         seen("common tip", board, given().common_tip()),
         seen("keep", board, given().keep_within(5)),
-        seen("quick", board, given().quick(&mut quick_plan)),
-        seen("best", board, given().best(&mut best_plan, &mut table)),
+        seen("quick", board, given().quick(None, &mut quick_plan)),
+        seen("best", board, given().best(None, &mut best_plan, &mut table)),
         seen("write", board, given().write(&mut file)),
     ];
     let numbers: String = calls.iter().map(|call| &call.number[..]).collect();
@@ -336,10 +336,10 @@ fn show_counted(words: &str, lines: [(u64, u8); 4], bounds: [u16; 3], length: us
         ));
     }
     let mut plan = junk::plan();
-    let quick = board.clone().quick(&mut plan);
+    let quick = board.clone().quick(None, &mut plan);
     printed.push(format!("{words} quick: {} pairs {}; tips{}", show_number(&quick), quick.value, listed(&plan[..8])));
     let (mut plan, mut table) = (junk::plan(), junk::table());
-    let best = board.clone().best(&mut plan, &mut table);
+    let best = board.clone().best(None, &mut plan, &mut table);
     printed.push(format!(
         "{words} best: {} pairs {}; tips{}; table{}",
         show_number(&best),

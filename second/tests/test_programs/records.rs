@@ -49,7 +49,7 @@ fn show_keep(board: &Board, k: u16) -> String {
 
 fn show_quick(board: &Board, room: usize) -> String {
     let mut plan = junk::plan();
-    let answer = board.clone().quick(&mut plan[..room]);
+    let answer = board.clone().quick(None, &mut plan[..room]);
     format!(
         "quick, room {room}: {}; board changed {}; pairs {}; plan {}",
         show_number(&answer),
@@ -62,7 +62,7 @@ fn show_quick(board: &Board, room: usize) -> String {
 fn show_best(board: &Board, room: usize, places: usize) -> String {
     let mut plan = junk::plan();
     let mut table = junk::table();
-    let answer = board.clone().best(&mut plan[..room], &mut table[..places]);
+    let answer = board.clone().best(None, &mut plan[..room], &mut table[..places]);
     format!(
         "best, room {room} places {places}: {}; board changed {}; pairs {}; plan {}; table {}",
         show_number(&answer),
@@ -216,7 +216,7 @@ fn large_board(set_of: impl Fn(usize) -> u64, quantity_of: impl Fn(usize) -> u8,
     let lines: Vec<Line> = (0..MOST_LINES).map(line_of).collect();
     let board = placed_board(MOST_TIPS, &lines);
     assert_eq!((board.count, board.is_sound()), (MOST_LINES, true));
-    assert_eq!(board.clone().quick(&mut junk::plan()).value, pairs);
+    assert_eq!(board.clone().quick(None, &mut junk::plan()).value, pairs);
     board
 }
 
