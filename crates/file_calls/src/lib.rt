@@ -135,12 +135,7 @@ pub fn quick_outcome(file: &[u8], mounted: Mounted, plan: &mut [u8]) -> Outcome
     ))
 }
 
-pub fn best_outcome(
-    file: &[u8],
-    mounted: Mounted,
-    plan: &mut [u8],
-    table: &mut [u32],
-) -> Outcome
+pub fn best_outcome(file: &[u8], mounted: Mounted, plan: &mut [u8], table: &mut [u32]) -> Outcome
     ensures outcome { λ r. ⌜ r ≡ bestIn (now (file .entry)) (onHead mounted) (length (now (plan .entry))) (length (now (table .entry))) ⌝ }
     ensures plan { λ _. ⌜ now (plan .exit)
         ≡ bestPlanIn (now (file .entry)) (onHead mounted) (now (plan .entry)) (length (now (table .entry))) ⌝ }

@@ -224,7 +224,14 @@ pub(crate) fn best(state: State, numbers: Numbers) -> State {
     let board = state.board;
     let mut plan = junk_plan();
     let mut table = junk_table();
-    let answer = best_in(board, mounted(numbers.c), &mut plan, numbers.a, &mut table, numbers.b);
+    let answer = best_in(
+        board,
+        mounted(numbers.c),
+        &mut plan,
+        numbers.a,
+        &mut table,
+        numbers.b,
+    );
     let back = answer.board;
     show_number(answer.number, answer.place);
     say(PAIRS, answer.pairs as u64);
