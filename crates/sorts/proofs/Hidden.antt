@@ -1,29 +1,26 @@
 -- EVERY RULE OF TIP SHARING HIDES THE ORDER of the placements.
-use Prim.Native.Nat.{ℕ, zero, suc, _+_, _-_, _*_, _/_, _%_}
+use Prim.Native.Nat.{ℕ, zero, suc, _+_, _-_, _*_, _/_, _%_, _<_}
 use native.Mathlib.Omega.{arith}
 use mathlib.Core.Path.{_≡_, refl, ap, ap₂, sym, _∙_}
 use mathlib.Core.Bool.{not, _&&_}
 use mathlib.Core.List.{List, [], _∷_}
 use lib.Dec.{ltb, leb, eqb}
 use lib.ListN.{length}
-use Rattle.model.specs.Count.{count, each, All}
-use Rattle.model.specs.Plan.{has, occ, uses, pairs, choose2, Domain}
+use Rattle.model.specs.Count.{each, All, none, more}
+use Rattle.model.specs.Plan.{has, occ, uses, pairs, choose2}
 use Rattle.model.specs.Choice.{Mounted}
 use Rattle.model.specs.CommonTip.{top, W, margin}
 use Rattle.model.specs.Greedy.{busiest, rest, rounds, quickTip, quickPlan}
 use Rattle.model.specs.Interval.{named, isRunOf, lies, inside, C, bestTip, table}
-use Rattle.model.proofs.Lists.{all, count-map, count-cong}
+use Rattle.model.proofs.Lists.{all, all-map, count-map, count-cong}
 use Rattle.model.proofs.Largest.{largest-cong}
-use Rattle.model.proofs.Sets.{setOf-cong, has-below}
+use Rattle.model.proofs.Sets.{setOf-cong}
 use Rattle.model.proofs.ListOf.{listOf-cong}
 use Rattle.model.proofs.Choice.{choice-cong}
 use Rattle.model.proofs.Cong.{each-cong, tip-cong, run-cong, most-cong, pick-cong}
-use Rattle.model.proofs.Valid.{valid-all}
-use Rattle.model.proofs.Greedy.{quick-valid}
-use Rattle.placements.specs.PairSum.{sumOf}
 use Rattle.placements.specs.Keep.{commonWithin, scarce, keptQ}
 use Rattle.placements.proofs.PairSum.{sum-cong, pairs-sum}
-use Rattle.sorts.specs.Order.{SameCounts, Hides, OrderHidden}
+use Rattle.sorts.specs.Order.{Hides, OrderHidden}
 use Rattle.sorts.proofs.Counts.{length-hides, each-hides, select-counts}
 
 occ-hides : (t : ℕ) → Hides (λ lines. occ lines t)
@@ -54,6 +51,20 @@ kept-hides m k q s xs ys h = rw (top-hides m xs ys h, length-hides xs ys h, comm
 
 -- ---- quick sharing
 
+-- a number above each element
+above : (xs : List ℕ) → (n : ℕ) × All (λ x. x < n) xs
+above [] = (0, none)
+above (x ∷ xs) = let (n, ls) = above xs in (x + n + 1, more {x = x} (omega arith) (all-map (λ y l. omega arith) ls))
+
+-- the pairs of a plan are settled by how often it uses each tip
+pairs-by-uses : (p q : List ℕ) → ((t : ℕ) → uses p t ≡ uses q t) → pairs p ≡ pairs q
+pairs-by-uses p q h =
+    let (n, ls) = above p in
+    let (k, ms) = above q in
+    pairs-sum (n + k) (all-map (λ x l. omega arith) ls)
+    ∙ sum-cong _ _ (n + k) (λ t _. ap choose2 (h t))
+    ∙ sym (pairs-sum (n + k) (all-map (λ x l. omega arith) ms))
+
 module _ (mounted : Mounted) (m : ℕ) where
   busiest-hides : Hides (λ lines. busiest mounted lines m)
   unfolding busiest
@@ -75,22 +86,17 @@ module _ (mounted : Mounted) (m : ℕ) where
   unfolding quickTip
   quick-hides s xs ys h = rw (length-hides xs ys h, rounds-hides (length ys) xs ys h)
 
-  -- the pairs of the plan are those among the placements on each tip
-  module _ {xs ys : List ℕ} (ds : All (Domain m) xs) (es : All (Domain m) ys) (h : SameCounts xs ys) where
-    same-uses : (t : ℕ) → uses (quickPlan mounted m xs) t ≡ uses (quickPlan mounted m ys) t
-    unfolding uses quickPlan
-    same-uses t =
-        count-map (eqb t) (quickTip mounted m xs) xs
-        ∙ h (λ s. eqb t (quickTip mounted m xs s))
-        ∙ count-cong (all (λ s. ap (eqb t) (quick-hides s xs ys h)) ys)
-        ∙ sym (count-map (eqb t) (quickTip mounted m ys) ys)
+  -- as many placements are on each tip
+  uses-hides : (t : ℕ) → Hides (λ lines. uses (quickPlan mounted m lines) t)
+  unfolding uses quickPlan
+  uses-hides t xs ys h =
+      count-map (eqb t) (quickTip mounted m xs) xs
+      ∙ h (λ s. eqb t (quickTip mounted m xs s))
+      ∙ count-cong (all (λ s. ap (eqb t) (quick-hides s xs ys h)) ys)
+      ∙ sym (count-map (eqb t) (quickTip mounted m ys) ys)
 
-    by-tips : {lines : List ℕ} → All (Domain m) lines
-        → pairs (quickPlan mounted m lines) ≡ sumOf (λ t. choose2 (uses (quickPlan mounted m lines) t)) m
-    by-tips fs = pairs-sum m (valid-all (λ s t d o. has-below m s t (d .below) o) fs (quick-valid mounted fs))
-
-    pub quick-pairs-same : pairs (quickPlan mounted m xs) ≡ pairs (quickPlan mounted m ys)
-    quick-pairs-same = by-tips ds ∙ sum-cong _ _ m (λ t _. ap choose2 (same-uses t)) ∙ sym (by-tips es)
+  quick-pairs-hides : Hides (λ lines. pairs (quickPlan mounted m lines))
+  quick-pairs-hides xs ys h = pairs-by-uses (quickPlan mounted m xs) (quickPlan mounted m ys) (λ t. uses-hides t xs ys h)
 
 -- ---- best sharing
 
@@ -131,6 +137,7 @@ order-hidden m k mounted = record {
   margins = margin-hides m k;
   kept = kept-hides m k;
   quick-tips = quick-hides mounted m;
+  quick-pairs = quick-pairs-hides mounted m;
   best-tips = best-hides mounted m;
   best-pairs = C-hides 0 m;
   tables = table-hides m;

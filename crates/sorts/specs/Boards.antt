@@ -16,7 +16,7 @@ abbrev pub partsOf : Board → List (ℕ × ℕ)
 partsOf b = zip (linesOf b) (quantitiesOf b)
 
 -- sound and closed; a record's arrays have their 512 places
-pub record Ready (b : Board) : Type 0 where
+pub record SoundClosed (b : Board) : Type 0 where
   pub sets-full : length (b .sets) ≡ mostLines
   pub quantities-full : length (b .quantities) ≡ mostLines
   pub is-sound : T (sound b)
@@ -24,8 +24,8 @@ pub record Ready (b : Board) : Type 0 where
 
 -- equal racks, and the lines of the second board are those of the first in another order
 pub record Reordered (b₁ b₂ : Board) : Type 0 where
-  pub ready₁ : Ready b₁
-  pub ready₂ : Ready b₂
+  pub own₁ : SoundClosed b₁
+  pub own₂ : SoundClosed b₂
   pub racks : b₁ .rack ≡ b₂ .rack
   pub parts : Perm (partsOf b₁) (partsOf b₂)
 

@@ -4,8 +4,8 @@ use mathlib.Core.Path.{_≡_}
 use mathlib.Core.Bool.{Bool}
 use mathlib.Core.List.{List}
 use lib.ListN.{length}
-use Rattle.model.specs.Count.{count, each, All}
-use Rattle.model.specs.Plan.{Domain, pairs}
+use Rattle.model.specs.Count.{count, each}
+use Rattle.model.specs.Plan.{pairs}
 use Rattle.model.specs.Choice.{Mounted}
 use Rattle.model.specs.CommonTip.{top, W, margin}
 use Rattle.model.specs.Greedy.{quickTip, quickPlan}
@@ -28,6 +28,7 @@ pub record OrderHidden (m k : ℕ) (mounted : Mounted) : Type 0 where
   pub margins : Hides (λ lines. margin m lines k)
   pub kept : (q s : ℕ) → Hides (λ lines. keptQ m lines k q s)
   pub quick-tips : (s : ℕ) → Hides (λ lines. quickTip mounted m lines s)
+  pub quick-pairs : Hides (λ lines. pairs (quickPlan mounted m lines))
   pub best-tips : (s : ℕ) → Hides (λ lines. bestTip mounted m lines s)
   pub best-pairs : Hides (λ lines. C lines 0 m)
   pub tables : Hides (table m)
