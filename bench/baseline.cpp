@@ -15,17 +15,18 @@ using namespace job;
 
 /*
  * The number of placements that allow each tip, held so that the largest of these numbers names the busiest tip and, on
- * a tie, the lowest: 64 for each placement, plus 63 less the tip. 16 bits do for 512 placements, which start from the
- * least number, and 32 bits for all.
+ * a tie, the first by the order: 64 for each placement, plus 63 less the tip's place in the order. 16 bits do for 512
+ * placements, which start from the least number, and 32 bits for all.
  */
 template <typename Number> struct Counts {
     static constexpr int kLeast = sizeof(Number) == 2 ? -32768 : 0;
     alignas(16) Number of[kMostTips];
+    Order order;
 
-    void clear()
+    explicit Counts(Order order) : order(order)
     {
-        for (size_t tip = 0; tip < kMostTips; tip++) {
-            of[tip] = static_cast<Number>(kLeast + 63 - static_cast<int>(tip));
+        for (unsigned tip = 0; tip < kMostTips; tip++) {
+            of[tip] = static_cast<Number>(kLeast + 63 - static_cast<int>(order.place_of(tip)));
         }
     }
 
@@ -33,7 +34,7 @@ template <typename Number> struct Counts {
 
     void take(size_t tip, uint8_t quantity) { of[tip] = static_cast<Number>(of[tip] - 64 * quantity); }
 
-    /* The busiest tip and its placements as one number: placements * 64 + 63 - tip. */
+    /* The busiest tip and its placements as one number: placements * 64 + 63 - place. */
     unsigned busiest() const
     {
         Number largest = of[0];
@@ -77,7 +78,6 @@ template <typename Number> Common common_tip(const Counts<Number> &occurrences)
 template <typename Quantities>
 void count_all(const uint64_t *sets, Quantities quantities, size_t count, Occurrences<Quantities> &occurrences)
 {
-    occurrences.clear();
     for (size_t line = 0; line < count; line++) {
         for (uint64_t rest = sets[line]; rest != 0; rest &= rest - 1) {
             occurrences.put(lowest(rest), quantities[line]);
@@ -95,7 +95,6 @@ template <typename Quantities>
 void count_and_list(const uint64_t *sets, Quantities quantities, const Job &job, Occurrences<Quantities> &occurrences,
                     LinesOf &lines_of)
 {
-    occurrences.clear();
     memset(lines_of.word, 0, job.rack * sizeof lines_of.word[0]);
     for (size_t line = 0; line < job.count; line++) {
         const uint64_t bit = uint64_t{1} << line % 64;
@@ -117,7 +116,7 @@ uint32_t quick(const uint64_t *sets, Quantities quantities, const Job &job, Occu
     uint32_t pairs = 0;
     for (size_t left = job.total; left != 0;) {
         const unsigned busiest = occurrences.busiest();
-        const unsigned tip = 63 - busiest % 64;
+        const unsigned tip = occurrences.order.tip_at(63 - busiest % 64);
         pairs += pairs_on(busiest / 64);
         left -= busiest / 64;
         for (size_t word = 0; word < words; word++) {
@@ -138,7 +137,7 @@ uint32_t quick(const uint64_t *sets, Quantities quantities, const Job &job, Occu
 
 /*
  * The table of best sharing by ranks, row by row from the last. A stretch and its tip are held in one number, pairs * 64
- * + 63 less the rank of the tip, so that the largest is the lowest tip with the most pairs.
+ * + 63 less the place of the tip's rank in the order, so that the largest is the first tip with the most pairs.
  */
 struct Stretches {
     static constexpr size_t kStep = 8;
@@ -147,15 +146,23 @@ struct Stretches {
     // The number of ranks, and the same in whole steps.
     size_t ranks;
     size_t width;
+    Order order;
     // within[a][b] is four times the number of placements of the lines lying within a to b.
     alignas(16) int16_t within[kMostTips + 1][kMostTips];
     // most[a][b] is 64 times the pairs of a to b; where a is past b + 1 it is too low to be chosen.
     alignas(16) int32_t most[kMostTips + 1][kMostTips];
     alignas(16) int32_t keys[kMostTips][kMostTips];
 
-    explicit Stretches(size_t ranks) : ranks(ranks), width((ranks + kStep - 1) / kStep * kStep) {}
+    Stretches(const Named &named, size_t mounted)
+        : ranks(named.count), width((ranks + kStep - 1) / kStep * kStep),
+          order{named.has(mounted) ? named.rank[mounted] : 0u}
+    {
+    }
 
-    int tip_of(int a, int b) const { return 63 - keys[a][b] % 64; }
+    int tip_of(int a, int b) const
+    {
+        return static_cast<int>(order.tip_at(63 - static_cast<unsigned>(keys[a][b]) % 64));
+    }
 
     uint32_t pairs_of(size_t a, size_t b) const { return static_cast<uint32_t>(keys[a][b]) / 64; }
 
@@ -194,7 +201,8 @@ struct Stretches {
             int16_t on_left = 0;
             for (size_t c = a; c < ranks; c++) {
                 // A line within a to b that allows c lies neither left of c nor right of it.
-                const int32_t with_c = 64 * pairs_left + 63 - static_cast<int32_t>(c);
+                const int32_t place = static_cast<int32_t>(order.place_of(static_cast<unsigned>(c)));
+                const int32_t with_c = 64 * pairs_left + 63 - place;
                 const int16_t *const all = within[a];
                 const int16_t *const on_right = within[c + 1];
                 const int32_t *const most_right = most[c + 1];
@@ -226,9 +234,9 @@ struct Stretches {
     }
 };
 
-uint32_t best(const Lines &lines, const Job &job, const Named &named, uint8_t *plan, uint32_t *table)
+uint32_t best(const Lines &lines, const Job &job, const Named &named, size_t mounted, uint8_t *plan, uint32_t *table)
 {
-    Stretches stretches(named.count);
+    Stretches stretches(named, mounted);
     with_quantities(job, lines.quantities,
                     [&](auto quantities) { stretches.count(lines.sets, quantities, job.count, named); });
     stretches.fill();
@@ -256,7 +264,7 @@ uint32_t baseline_common(const uint8_t *file, size_t file_len, uint64_t *answer,
     const auto read = [&] { return read_sets(file, file_len, lines); };
     return answer_with(answer, answer_len, read, [&](const Job &job) {
         const Common common = with_quantities(job, lines.quantities, [&](auto quantities) {
-            Occurrences<decltype(quantities)> occurrences;
+            Occurrences<decltype(quantities)> occurrences(order_with(TIPSHARE_NO_TIP));
             count_all(lines.sets, quantities, job.count, occurrences);
             return common_tip(occurrences);
         });
@@ -271,7 +279,7 @@ uint32_t baseline_keep(const uint8_t *file, size_t file_len, uint16_t k, uint8_t
     const auto read = [&] { return read_sets(file, file_len, lines); };
     return answer_with(answer, answer_len, read, [&](const Job &job) {
         return with_quantities(job, lines.quantities, [&](auto quantities) {
-            Occurrences<decltype(quantities)> occurrences;
+            Occurrences<decltype(quantities)> occurrences(order_with(TIPSHARE_NO_TIP));
             count_all(lines.sets, quantities, job.count, occurrences);
             const auto tips_with = [&](unsigned placements) { return occurrences.tips_with(placements); };
             const auto strike = [&](const Kept &kept, uint8_t *to) {
@@ -285,18 +293,21 @@ uint32_t baseline_keep(const uint8_t *file, size_t file_len, uint16_t k, uint8_t
     });
 }
 
-uint32_t baseline_quick(const uint8_t *file, size_t file_len, uint8_t *plan, size_t plan_len, uint64_t *answer,
-                        size_t answer_len)
+uint32_t baseline_quick(const uint8_t *file, size_t file_len, size_t mounted, uint8_t *plan, size_t plan_len,
+                        uint64_t *answer, size_t answer_len)
 {
     Lines lines;
     const auto read = [&] { return read_sets(file, file_len, lines); };
     return answer_with(answer, answer_len, read, [&](const Job &job) {
+        if (is_outside(mounted, job)) {
+            return refused(answer, TIPSHARE_MOUNTED_OUTSIDE);
+        }
         if (plan_len < job.count) {
             return refused(answer, TIPSHARE_SHORT_PLAN);
         }
         LinesOf lines_of;
         const uint32_t pairs = with_quantities(job, lines.quantities, [&](auto quantities) {
-            Occurrences<decltype(quantities)> occurrences;
+            Occurrences<decltype(quantities)> occurrences(order_with(mounted));
             count_and_list(lines.sets, quantities, job, occurrences, lines_of);
             return quick(lines.sets, quantities, job, occurrences, lines_of, plan);
         });
@@ -304,14 +315,14 @@ uint32_t baseline_quick(const uint8_t *file, size_t file_len, uint8_t *plan, siz
     });
 }
 
-uint32_t baseline_best(const uint8_t *file, size_t file_len, uint8_t *plan, size_t plan_len, uint32_t *table,
-                       size_t table_len, uint64_t *answer, size_t answer_len)
+uint32_t baseline_best(const uint8_t *file, size_t file_len, size_t mounted, uint8_t *plan, size_t plan_len,
+                       uint32_t *table, size_t table_len, uint64_t *answer, size_t answer_len)
 {
     Lines lines;
     const auto read = [&] { return read_sets(file, file_len, lines); };
     return answer_with(answer, answer_len, read, [&](const Job &job) {
-        const auto pairs = [&](const Named &named) { return best(lines, job, named, plan, table); };
-        return answer_best(lines.sets, job, plan_len, table_len, answer, pairs);
+        const auto pairs = [&](const Named &named) { return best(lines, job, named, mounted, plan, table); };
+        return answer_best(lines.sets, job, mounted, plan_len, table_len, answer, pairs);
     });
 }
 
@@ -331,7 +342,7 @@ size_t baseline_report(const uint8_t *file, size_t file_len, uint8_t *out, size_
     LinesOf lines_of;
     Found found{};
     with_quantities(job, lines.quantities, [&](auto quantities) {
-        Occurrences<decltype(quantities)> occurrences;
+        Occurrences<decltype(quantities)> occurrences(order_with(TIPSHARE_NO_TIP));
         count_and_list(lines.sets, quantities, job, occurrences, lines_of);
         const Common common = common_tip(occurrences);
         found.off = job.total - common.top;
@@ -342,7 +353,7 @@ size_t baseline_report(const uint8_t *file, size_t file_len, uint8_t *out, size_
     const Named named(lines.sets, job.count);
     found.runs = named.first_no_run(lines.sets, job.count) == job.count;
     if (found.runs) {
-        found.best = best(lines, job, named, best_plan, table);
+        found.best = best(lines, job, named, TIPSHARE_NO_TIP, best_plan, table);
         found.best_plan = best_plan;
     }
     return write_report(out, job, found);

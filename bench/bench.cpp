@@ -85,10 +85,11 @@ uint64_t make_call(const Library &library, Call call, const File &file, Buffers 
     case Call::common: return library.common(bytes, length, lent.answer, places);
     case Call::keep:
         return library.keep(bytes, length, file.k, lent.out, job::kLongestFile, lent.answer, places);
-    case Call::quick: return library.quick(bytes, length, lent.plan, sizeof lent.plan, lent.answer, places);
+    case Call::quick:
+        return library.quick(bytes, length, file.mounted, lent.plan, sizeof lent.plan, lent.answer, places);
     case Call::best:
-        return library.best(bytes, length, lent.plan, sizeof lent.plan, lent.table, TIPSHARE_MOST_PLACES, lent.answer,
-                            places);
+        return library.best(bytes, length, file.mounted, lent.plan, sizeof lent.plan, lent.table, TIPSHARE_MOST_PLACES,
+                            lent.answer, places);
     case Call::report: return library.report(bytes, length, lent.out, sizeof lent.out);
     }
     return 0;

@@ -123,7 +123,7 @@ File file_of(const std::vector<uint64_t> &sets, size_t rack, Quantities quantiti
     } else {
         bytes.resize(job::write_file(bytes.data(), rack, sets.data(), job::Single{}, sets.size()));
     }
-    return {std::move(bytes), least_bound(sets, quantities)};
+    return {std::move(bytes), least_bound(sets, quantities), TIPSHARE_NO_TIP};
 }
 
 /* The set with each tip so many times as high. */
@@ -157,6 +157,15 @@ Boards boards_of(std::string name, std::string description, size_t lines, size_t
     return boards;
 }
 
+/* The boards with a mounted tip. */
+Boards with_mounted(Boards boards, size_t tip)
+{
+    for (File &file : boards.files) {
+        file.mounted = tip;
+    }
+    return boards;
+}
+
 }  // namespace
 
 std::vector<Boards> main_boards()
@@ -186,6 +195,7 @@ std::vector<Boards> main_boards()
                   from_1_to_7),
         boards_of("small-counted", "small-runs with quantities 1 to 7", 20, 8, run_of(1, 4), from_1_to_7),
         boards_of("runs-of-1", "any-runs in a file of version 2, every quantity 1", 512, 64, any_run, all_1),
+        with_mounted(boards_of("runs-mounted", "any-runs with the last tip mounted", 512, 64, any_run), 63),
     };
 }
 

@@ -6,10 +6,14 @@
 #include <string>
 #include <vector>
 
-/* A job file, with the bound that keep is called with: the least that is accepted, so that it strikes tips. */
+/*
+ * A job file, with the bound that keep is called with, the least that is accepted, so that it strikes tips, and the tip
+ * that is mounted for the plans.
+ */
 struct File {
     std::vector<uint8_t> bytes;
     uint16_t k;
+    size_t mounted;
 };
 
 /* Many boards of one description: of a few, the processor soon foresees every branch, which it cannot of a new one. */

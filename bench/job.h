@@ -320,6 +320,24 @@ template <typename TipsWith, typename Strike>
     return answered(answer, TIPSHARE_ACCEPTED, 0, static_cast<uint64_t>(margin), written, 0);
 }
 
+/* Whether a call names a mounted tip that the rack has not. */
+inline bool is_outside(size_t mounted, const Job &job) { return mounted >= job.rack && mounted != TIPSHARE_NO_TIP; }
+
+/* The order in which a tie between tips, or between ranks, is decided: one of them first, then by number. */
+struct Order {
+    // 0 where none is mounted, which is first by its number.
+    unsigned first;
+
+    unsigned place_of(unsigned tip) const { return tip == first ? 0 : tip + (tip < first); }
+
+    unsigned tip_at(unsigned place) const { return place == 0 ? first : place - (place <= first); }
+};
+
+inline Order order_with(size_t mounted)
+{
+    return {mounted == TIPSHARE_NO_TIP ? 0 : static_cast<unsigned>(mounted)};
+}
+
 /* The tips that some line has, by tip and by rank: rank 0 is the lowest of them. */
 struct Named {
     uint64_t tips;
@@ -338,6 +356,9 @@ struct Named {
             rank[lowest(rest)] = static_cast<uint8_t>(count++);
         }
     }
+
+    /* Whether some line has the mounted tip: no other is ever chosen. */
+    bool has(size_t mounted) const { return mounted < kMostTips && (tips >> mounted & 1) != 0; }
 
     unsigned first(uint64_t set) const { return rank[lowest(set)]; }
 
@@ -392,11 +413,18 @@ template <typename Most>
     }
 }
 
-/* Answers best sharing on a good file: refused by a short buffer or a line that is no run, else by pairs(named). */
+/*
+ * Answers best sharing on a good file: refused by the mounted tip, a short buffer or a line that is no run, else by
+ * pairs(named).
+ */
 template <typename Pairs>
-[[gnu::always_inline]] inline uint32_t answer_best(const uint64_t *sets, const Job &job, size_t plan_len,
-                                                   size_t table_len, uint64_t *answer, const Pairs &pairs)
+[[gnu::always_inline]] inline uint32_t answer_best(const uint64_t *sets, const Job &job, size_t mounted,
+                                                   size_t plan_len, size_t table_len, uint64_t *answer,
+                                                   const Pairs &pairs)
 {
+    if (is_outside(mounted, job)) {
+        return refused(answer, TIPSHARE_MOUNTED_OUTSIDE);
+    }
     if (plan_len < job.count) {
         return refused(answer, TIPSHARE_SHORT_PLAN);
     }

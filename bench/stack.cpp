@@ -12,6 +12,7 @@ enum { DEEP = 131072, BOARDS = 4000, PAINT = 0xA5 };
 
 static uint8_t file[job::kLongestFile];
 static size_t length;
+static size_t mounted;
 static uint64_t answer[TIPSHARE_ANSWER_PLACES];
 static uint8_t plan[TIPSHARE_MOST_LINES];
 static uint8_t out[job::kLongestFile];
@@ -24,10 +25,14 @@ static void keep_it()
 {
     tipshare_keep(file, length, (uint16_t)rand(), out, sizeof out, answer, TIPSHARE_ANSWER_PLACES);
 }
-static void quick_it() { tipshare_quick(file, length, plan, sizeof plan, answer, TIPSHARE_ANSWER_PLACES); }
+static void quick_it()
+{
+    tipshare_quick(file, length, mounted, plan, sizeof plan, answer, TIPSHARE_ANSWER_PLACES);
+}
 static void best_it()
 {
-    tipshare_best(file, length, plan, sizeof plan, table, TIPSHARE_MOST_PLACES, answer, TIPSHARE_ANSWER_PLACES);
+    tipshare_best(file, length, mounted, plan, sizeof plan, table, TIPSHARE_MOST_PLACES, answer,
+                  TIPSHARE_ANSWER_PLACES);
 }
 static void report_it() { tipshare_report(file, length, text, sizeof text); }
 
@@ -78,6 +83,7 @@ static uint64_t run_between(int low, int high) { return (~0ull >> (63 - high)) &
 static void make_file(int board)
 {
     const int tips = 1 + rand() % 64;
+    mounted = board % 7 < 4 ? TIPSHARE_NO_TIP : (size_t)(rand() % tips);
     const int lines = board % 3 == 0 ? TIPSHARE_MOST_LINES : rand() % (TIPSHARE_MOST_LINES + 1);
     uint64_t sets[TIPSHARE_MOST_LINES];
     uint8_t quantities[TIPSHARE_MOST_LINES];

@@ -411,8 +411,10 @@ struct Taken {
 
 /* Quick sharing; gives the number of pairs. The planes are those of all lines and are used up. */
 template <typename Quantities>
-uint32_t quick(const Raw &raw, Quantities quantities, const Job &job, Planes &planes, uint8_t *__restrict plan)
+uint32_t quick(const Raw &raw, Quantities quantities, const Job &job, size_t mounted, Planes &planes,
+               uint8_t *__restrict plan)
 {
+    const uint64_t mounted_tip = mounted == TIPSHARE_NO_TIP ? 0 : uint64_t{1} << mounted;
     // Fewer lines than this are looked through in each round.
     constexpr size_t kManyLines = 48;
     LinesOf lines_of;
@@ -427,7 +429,8 @@ uint32_t quick(const Raw &raw, Quantities quantities, const Job &job, Planes &pl
     for (size_t left = job.total; left != 0;) {
         uint64_t tips;
         const unsigned most = planes.largest(tips);
-        const unsigned tip = lowest(__builtin_bswap64(tips));
+        const uint64_t tied = __builtin_bswap64(tips);
+        const unsigned tip = lowest((tied & mounted_tip) != 0 ? mounted_tip : tied);
         pairs += pairs_on(most);
         left -= most;
         taken.number = 0;
@@ -471,21 +474,34 @@ struct Stretches {
     alignas(16) Row right[kMostTips + 1];
     alignas(16) Row left[kMostTips + 1];
 
-    explicit Stretches(size_t ranks) : ranks(ranks) {}
+    // The rank of the mounted tip, -1 where there is none that some line has.
+    int mounted;
 
-    /* The lowest tip with the most pairs. */
+    Stretches(const Named &named, size_t mounted)
+        : ranks(named.count), mounted(named.has(mounted) ? named.rank[mounted] : -1)
+    {
+    }
+
+    /* Whether the tip that stands so far from the first has the most pairs. */
+    bool has_most(int a, int length, int d) const
+    {
+        const float *const right_of_tip = within[length - 1 - d] + a + d + 1;
+        const float in_neither = within[length][a] - 1 - within[d][a] - *right_of_tip;
+        return in_neither * in_neither + left[d][a] + right[length - 1 - d][a + d + 1] == right[length][a];
+    }
+
+    /* Of the tips with the most pairs the mounted one, else the lowest. */
     int tip_of(int a, int b) const
     {
         const int length = b - a + 1;
-        const float most = right[length][a];
-        int d = 0;
-        for (;; d++) {
-            const float *const right_of_tip = within[length - 1 - d] + a + d + 1;
-            const float in_neither = within[length][a] - 1 - within[d][a] - *right_of_tip;
-            if (in_neither * in_neither + left[d][a] + right[length - 1 - d][a + d + 1] == most) {
-                return a + d;
-            }
+        if (a <= mounted && mounted <= b && has_most(a, length, mounted - a)) {
+            return mounted;
         }
+        int d = 0;
+        while (!has_most(a, length, d)) {
+            d++;
+        }
+        return a + d;
     }
 
     template <typename Quantities>
@@ -616,31 +632,34 @@ uint32_t tuned_keep(const uint8_t *file, size_t file_len, uint16_t k, uint8_t *o
     });
 }
 
-uint32_t tuned_quick(const uint8_t *file, size_t file_len, uint8_t *plan, size_t plan_len, uint64_t *answer,
-                     size_t answer_len)
+uint32_t tuned_quick(const uint8_t *file, size_t file_len, size_t mounted, uint8_t *plan, size_t plan_len,
+                     uint64_t *answer, size_t answer_len)
 {
     Raw raw;
     const auto read = [&] { return read_raw(file, file_len, raw); };
     return answer_with(answer, answer_len, read, [&](const Job &job) {
+        if (is_outside(mounted, job)) {
+            return refused(answer, TIPSHARE_MOUNTED_OUTSIDE);
+        }
         if (plan_len < job.count) {
             return refused(answer, TIPSHARE_SHORT_PLAN);
         }
         Planes planes;
         planes.count_file(raw, job);
         const uint32_t pairs = with_quantities(
-            job, raw.quantities, [&](auto quantities) { return quick(raw, quantities, job, planes, plan); });
+            job, raw.quantities, [&](auto quantities) { return quick(raw, quantities, job, mounted, planes, plan); });
         return answered(answer, TIPSHARE_ACCEPTED, 0, pairs, 0, 0);
     });
 }
 
-uint32_t tuned_best(const uint8_t *file, size_t file_len, uint8_t *plan, size_t plan_len, uint32_t *table,
-                    size_t table_len, uint64_t *answer, size_t answer_len)
+uint32_t tuned_best(const uint8_t *file, size_t file_len, size_t mounted, uint8_t *plan, size_t plan_len,
+                    uint32_t *table, size_t table_len, uint64_t *answer, size_t answer_len)
 {
     Lines lines;
     const auto read = [&] { return read_sets(file, file_len, lines); };
     return answer_with(answer, answer_len, read, [&](const Job &job) {
-        return answer_best(lines.sets, job, plan_len, table_len, answer, [&](const Named &named) {
-            Stretches stretches(named.count);
+        return answer_best(lines.sets, job, mounted, plan_len, table_len, answer, [&](const Named &named) {
+            Stretches stretches(named, mounted);
             const uint32_t pairs = best(lines.sets, lines.quantities, job, named, stretches, plan);
             write_table(named, job.rack, [&](size_t a, size_t b) { return stretches.pairs_of(a, b); }, table);
             return pairs;
@@ -671,13 +690,14 @@ size_t tuned_report(const uint8_t *file, size_t file_len, uint8_t *out, size_t o
     Found found{};
     found.off = job.total - top;
     found.common = top == 0 ? 0 : __builtin_bswap64(tips);
-    found.quick = with_quantities(
-        job, raw.quantities, [&](auto quantities) { return quick(raw, quantities, job, planes, quick_plan); });
+    found.quick = with_quantities(job, raw.quantities, [&](auto quantities) {
+        return quick(raw, quantities, job, TIPSHARE_NO_TIP, planes, quick_plan);
+    });
     found.quick_plan = quick_plan;
     const Named named(sets, job.count);
     found.runs = named.first_no_run(sets, job.count) == job.count;
     if (found.runs) {
-        Stretches stretches(named.count);
+        Stretches stretches(named, TIPSHARE_NO_TIP);
         found.best = best(sets, raw.quantities, job, named, stretches, best_plan);
         found.best_plan = best_plan;
     }

@@ -18,6 +18,10 @@
  * margin and pairs counted lines and count placements, pairs up to 2096128; 15
  * and 30 are new. A file of version 1 gets the answers that it got before.
  *
+ * For a caller who knows no mounted tip: tipshare_quick and tipshare_best take
+ * one more argument, mounted, directly after the file, and refuse with 16. Put
+ * TIPSHARE_NO_TIP there, and every answer is as before.
+ *
  * Every length counts elements, not bytes. No pointer may be null, not even
  * with length 0, each is good for its length, and no two buffers of one call
  * may overlap. A call needs up to 70 KB of stack (docs/PERFORMANCE.md), and
@@ -54,6 +58,8 @@
  *    11  out is shorter than the file that is  lend file_len; 4616 always do
  *        to be written
  *    15  line answer[0] has quantity 0         give that line 1 to 255
+ *    16  mounted is no tip of the rack and     give 0 to m - 1, or
+ *        not TIPSHARE_NO_TIP                   TIPSHARE_NO_TIP for none
  *    25  line answer[0], the first such, is    use tipshare_quick, which takes
  *        no run: it lacks a tip between its    any lines
  *        lowest and its highest that another
@@ -84,6 +90,7 @@ extern "C" {
 #define TIPSHARE_LONGEST_FILE 4616    /* the longest good job file, in bytes, and an out that always does */
 #define TIPSHARE_ANSWER_PLACES 4      /* the places of an answer */
 #define TIPSHARE_REPORT_SPACE 16384   /* the bytes that a report needs lent */
+#define TIPSHARE_NO_TIP SIZE_MAX      /* no tip is mounted */
 
 #define TIPSHARE_ACCEPTED 0
 #define TIPSHARE_RACK_SIZE 1
@@ -98,6 +105,7 @@ extern "C" {
 #define TIPSHARE_FILE_LENGTH 10
 #define TIPSHARE_SHORT_OUTPUT 11
 #define TIPSHARE_ZERO_QUANTITY 15
+#define TIPSHARE_MOUNTED_OUTSIDE 16
 #define TIPSHARE_NO_RUN 25
 #define TIPSHARE_NO_PLAN 26
 #define TIPSHARE_TOO_MANY_PLACEMENTS 30
@@ -147,17 +155,19 @@ uint32_t tipshare_keep(const uint8_t *file, size_t file_len, uint16_t k,
 
 /*
  * Plans by rounds: each round takes the tip that most unplanned placements
- * allow, the lowest number on a tie, and plans all of their lines on it. The
- * plan has at least half as many pairs as any other.
- * file: file_len bytes, any number. plan: at least n bytes. answer: at least 4
- * places.
+ * allow, and plans all of their lines on it. On a tie it takes the mounted tip
+ * where that is among the tied, else the lowest number. The plan has at least
+ * half as many pairs as any other, whichever tip is mounted; another mounted
+ * tip may give another number of pairs.
+ * file: file_len bytes, any number. mounted: the tip on the head, 0 to m - 1,
+ * or TIPSHARE_NO_TIP. plan: at least n bytes. answer: at least 4 places.
  * Accepted: plan[i] is the tip of line i, for i below n, the rest of plan is
  * untouched; answer is 0, the number of pairs in the plan (2096128 at most), 0,
  * 0.
- * Refused (1, 2, 3, 6 to 10, 15, 30, then 4): plan is untouched; answer is the
- * line, 0, 0, 0.
+ * Refused (1, 2, 3, 6 to 10, 15, 30, then 16, 4): plan is untouched; answer is
+ * the line, 0, 0, 0.
  */
-uint32_t tipshare_quick(const uint8_t *file, size_t file_len,
+uint32_t tipshare_quick(const uint8_t *file, size_t file_len, size_t mounted,
                         uint8_t *plan, size_t plan_len,
                         uint64_t *answer, size_t answer_len);
 
@@ -165,24 +175,28 @@ uint32_t tipshare_quick(const uint8_t *file, size_t file_len,
  * Plans with the most pairs, where every line is a run: it has every tip
  * between its lowest and its highest that some line has. Tips that no line has
  * are holes in the rack: none is in the plan, and the table has their rows and
- * columns.
- * file: file_len bytes, any number. plan: at least n bytes. table: at least
- * m * m places. answer: at least 4 places.
+ * columns. Where several tips of a stretch reach the most pairs, the mounted tip
+ * is taken if it is among them, else the lowest. The pairs and the table are the
+ * same for every mounted tip.
+ * file: file_len bytes, any number. mounted: the tip on the head, 0 to m - 1,
+ * or TIPSHARE_NO_TIP. plan: at least n bytes. table: at least m * m places.
+ * answer: at least 4 places.
  * Accepted: plan[i] is the tip of line i, for i below n; table[a * m + b] is
  * the most pairs among the placements of the lines that lie within the tips a
  * to b, for a up to b, and 0 for a above b; the rest of plan and table is
  * untouched; answer is 0, the number of pairs in the plan (2096128 at most), 0,
  * 0.
- * Refused (1, 2, 3, 6 to 10, 15, 30, then 4, 5, 25): plan and table are
+ * Refused (1, 2, 3, 6 to 10, 15, 30, then 16, 4, 5, 25): plan and table are
  * untouched; answer is the line, 0, 0, 0.
  */
-uint32_t tipshare_best(const uint8_t *file, size_t file_len,
+uint32_t tipshare_best(const uint8_t *file, size_t file_len, size_t mounted,
                        uint8_t *plan, size_t plan_len,
                        uint32_t *table, size_t table_len,
                        uint64_t *answer, size_t answer_len);
 
 /*
- * Writes the text that the program tipshare prints for the file.
+ * Writes the text that the program tipshare prints for the file: its plans are
+ * those without a mounted tip.
  * file: file_len bytes, any number; past 4617 only the first 4617 count, as
  * the program takes no more. out: at least 16384 bytes.
  * Writes the text to the beginning of out, with no zero byte after it, and

@@ -39,7 +39,7 @@ fn at_places(set: u64, places: &[usize]) -> u64 {
 
 /// Boards that are always compared: those of the rules, and the ends of each range.
 pub fn fixed_boards() -> Vec<Board> {
-    [fixed_single_boards(), fixed_counted_boards(), fixed_boards_with_absent_tips()].concat()
+    [fixed_single_boards(), fixed_counted_boards(), fixed_boards_with_absent_tips(), fixed_boards_with_ties()].concat()
 }
 
 fn fixed_single_boards() -> Vec<Board> {
@@ -139,6 +139,16 @@ fn fixed_boards_with_absent_tips() -> Vec<Board> {
         boards.push(Board::of_sets(64, &[&lines[..511], &[last_line]].concat()));
     }
     boards
+}
+
+/// Boards where a mounted tip decides: in the whole rack or the first round, and only after that.
+fn fixed_boards_with_ties() -> Vec<Board> {
+    vec![
+        counted(4, &[(0b1110, 3), (0b0010, 2), (0b1100, 1)]),
+        counted(4, &[(0b0001, 2), (0b1100, 1)]),
+        counted(3, &[(0b001, 2), (0b101, 1), (0b110, 1)]),
+        Board::of_sets(3, &[0b001, 0b010, 0b101, 0b110]),
+    ]
 }
 
 /// Hands on every board of a rack with this many lines and these quantities.
@@ -342,7 +352,7 @@ mod tests {
         let (mut taken, mut refused) = (0, 0);
         for seed in 0..2000 {
             let board = seeded_board(&mut Random::new(seed), Size::Middle);
-            let number = board.clone().best(&mut [0; 512], &mut [0; 4096]).number;
+            let number = board.clone().best(None, &mut [0; 512], &mut [0; 4096]).number;
             taken += usize::from(number == 0 && !board.lines().all(|line| is_unbroken(line.set)));
             refused += usize::from(number == 25);
         }

@@ -16,8 +16,8 @@ pub enum Call {
     Read { answer: usize },
     Common { answer: usize },
     Keep { k: u16, out: usize, answer: usize },
-    Quick { plan: usize, answer: usize },
-    Best { plan: usize, table: usize, answer: usize },
+    Quick { mounted: usize, plan: usize, answer: usize },
+    Best { mounted: usize, plan: usize, table: usize, answer: usize },
     Report { out: usize },
 }
 
@@ -80,8 +80,8 @@ impl Buffers {
         let (bytes, table, answer) = match *call {
             Call::Read { answer } | Call::Common { answer } => (0, 0, answer),
             Call::Keep { out, answer, .. } => (out, 0, answer),
-            Call::Quick { plan, answer } => (plan, 0, answer),
-            Call::Best { plan, table, answer } => (plan, table, answer),
+            Call::Quick { plan, answer, .. } => (plan, 0, answer),
+            Call::Best { plan, table, answer, .. } => (plan, table, answer),
             Call::Report { out } => (out, 0, 0),
         };
         let mut random = Random::new(junk);
@@ -105,8 +105,8 @@ macro_rules! made_by {
             Call::Read { .. } => $module::read(file, answer).into(),
             Call::Common { .. } => $module::common(file, answer).into(),
             Call::Keep { k, .. } => $module::keep(file, k, bytes, answer).into(),
-            Call::Quick { .. } => $module::quick(file, bytes, answer).into(),
-            Call::Best { .. } => $module::best(file, bytes, table, answer).into(),
+            Call::Quick { mounted, .. } => $module::quick(file, mounted, bytes, answer).into(),
+            Call::Best { mounted, .. } => $module::best(file, mounted, bytes, table, answer).into(),
             Call::Report { .. } => $module::report(file, bytes) as u64,
         }
     }};

@@ -4,7 +4,7 @@
 //! wrote, so that nothing is worked out a third time.
 
 use second::file::{AT_COUNT, AT_RACK, AT_VERSION, HEAD, MARK};
-use second::interface::{ANSWER_PLACES, REPORT_SPACE};
+use second::interface::{ANSWER_PLACES, NO_TIP, REPORT_SPACE};
 use second::{Board, Line, Version, LONGEST_FILE, MOST_PLACEMENTS};
 
 use crate::boards::{is_counted, is_unbroken, single};
@@ -18,7 +18,7 @@ pub type Mistake = (&'static str, Caller);
 pub fn mistakes() -> impl Iterator<Item = &'static Mistake> {
     let of_calls = [OF_READING, OF_COMMON, OF_KEEP, OF_QUICK, OF_BEST, OF_ANSWERS, OF_REPORTS];
     let of_quantities = [OF_READING_QUANTITIES, OF_COUNTING_PLACEMENTS, OF_KEEPING_PLACEMENTS, OF_VERSIONS];
-    let of_tips = [OF_NAMED_TIPS];
+    let of_tips = [OF_NAMED_TIPS, OF_REFUSED_MOUNTED_TIPS, OF_MOUNTED_TIPS];
     of_calls.into_iter().chain(of_quantities).chain(of_tips).flatten()
 }
 
@@ -567,20 +567,16 @@ const OF_COUNTING_PLACEMENTS: &[Mistake] = &[
     ("the rounds of quick sharing choose by lines", |call, lent| {
         on_quick_plan(call, lent, |board, plan| {
             if is_counted(board) {
-                single(board).quick(plan);
+                single(board).quick(None, plan);
             }
         })
     }),
     ("the first round alone chooses by placements", |call, lent| {
         on_quick_plan(call, lent, |board, plan| {
             let chosen = lowest(board.clone().common_tip().value.tips);
-            let left: Vec<Line> = board.lines().filter(|line| line.set >> chosen & 1 == 0).collect();
-            let mut rest = vec![0; left.len()];
-            single(&Board::of_lines(board.rack, &left)).quick(&mut rest);
-            let mut rest = rest.into_iter();
-            for (tip, line) in plan.iter_mut().zip(board.lines()) {
-                *tip = if line.set >> chosen & 1 == 1 { chosen } else { rest.next().expect("a tip") };
-            }
+            lay_first(board, chosen, plan, |board, plan| {
+                single(&board).quick(None, plan);
+            });
         })
     }),
     ("two placements of one line are no pair", |call, lent| {
@@ -597,8 +593,8 @@ const OF_COUNTING_PLACEMENTS: &[Mistake] = &[
         on_best(call, lent, |board, lent| {
             if is_counted(board) {
                 let mut table = vec![0; board.rack * board.rack];
-                library::best(&single(board).file(), &mut lent.bytes.inside()[..board.count], &mut table)
-                    .expect("a board of runs");
+                let plan = &mut lent.bytes.inside()[..board.count];
+                library::best(&single(board).file(), mounted_tip(call), plan, &mut table).expect("a board of runs");
             }
         })
     }),
@@ -853,6 +849,135 @@ const OF_NAMED_TIPS: &[Mistake] = &[
     }),
 ];
 
+const OF_REFUSED_MOUNTED_TIPS: &[Mistake] = &[
+    ("a mounted tip outside the rack is taken for none", |call, lent| {
+        on_mounted(call, lent, |rack, tip| if tip >= rack { NO_TIP } else { tip })
+    }),
+    ("a mounted tip with the number of the rack size is taken for none", |call, lent| {
+        on_mounted(call, lent, |rack, tip| if tip == rack { NO_TIP } else { tip })
+    }),
+    ("a mounted tip below 64 is taken for none outside the rack", |call, lent| {
+        on_mounted(call, lent, |rack, tip| if tip >= rack && tip < 64 { NO_TIP } else { tip })
+    }),
+    ("the last tip of the rack is refused as mounted", |call, lent| {
+        on_mounted(call, lent, |rack, tip| if tip + 1 == rack { rack } else { tip })
+    }),
+    ("the mounted tip has 8 bits", |call, lent| on_mounted(call, lent, |_, tip| tip & 0xFF)),
+    ("the mounted tip has 32 bits", |call, lent| on_mounted(call, lent, |_, tip| tip & 0xFFFF_FFFF)),
+    ("the largest number but none is taken for none", |call, lent| {
+        on_mounted(call, lent, |_, tip| if tip == NO_TIP - 1 { NO_TIP } else { tip })
+    }),
+    ("no mounted tip is refused", |call, lent| {
+        let call = &with_any_mounted(call, |tip| if tip == NO_TIP { NO_TIP - 1 } else { tip });
+        call_library(call, lent)
+    }),
+    ("refusal 16 comes after 4", |call, lent| {
+        let returned = call_library(call, lent);
+        match board_of(lent) {
+            Some(board) if refusal(call, returned) == 16 && lent.bytes.length < board.count => 4,
+            _ => returned,
+        }
+    }),
+    ("refusal 16 comes after 5", |call, lent| {
+        let returned = call_library(call, lent);
+        match (call, board_of(lent)) {
+            (Call::Best { plan, table, .. }, Some(board))
+                if returned == 16 && *plan >= board.count && *table < board.rack * board.rack =>
+            {
+                5
+            }
+            _ => returned,
+        }
+    }),
+    ("refusal 16 comes after 25", |call, lent| {
+        let returned = call_library(call, lent);
+        let no_run = |board: &Board| board.lines().position(|line| missed(line.set, board.named_tips()) != 0);
+        match (call, board_of(lent)) {
+            (Call::Best { plan, table, .. }, Some(board))
+                if returned == 16 && *plan >= board.count && *table >= board.rack * board.rack =>
+            {
+                no_run(&board).map_or(returned, |line| {
+                    lent.answer.inside()[0] = line as u64;
+                    25
+                })
+            }
+            _ => returned,
+        }
+    }),
+    ("refusal 16 comes before those of reading", |call, lent| {
+        let returned = call_library(call, lent);
+        let is_outside = mounted_tip(call).is_some_and(|tip| tip >= 64);
+        if is_outside && !matches!(refusal(call, returned), 0 | 16 | 100) {
+            lent.answer.inside()[..ANSWER_PLACES].fill(0);
+            return 16;
+        }
+        returned
+    }),
+    ("refusal 16 comes before 100", |call, lent| {
+        let returned = call_library(call, lent);
+        let is_outside = mounted_tip(call).is_some_and(|tip| tip >= 64);
+        if is_outside && refusal(call, returned) == 100 {
+            16
+        } else {
+            returned
+        }
+    }),
+    ("refusal 16 names the mounted tip", |call, lent| {
+        at_refusal(call, lent, &[16], |lent| lent.answer.inside()[0] = mounted_tip(call).unwrap_or(0) as u64)
+    }),
+    ("refusal 16 writes to the plan", |call, lent| at_refusal(call, lent, &[16], touch)),
+    ("refusal 16 clears the table", |call, lent| at_refusal(call, lent, &[16], |lent| lent.table.inside().fill(0))),
+];
+
+const OF_MOUNTED_TIPS: &[Mistake] = &[
+    ("the mounted tip is not looked at in quick sharing", |call, lent| match call {
+        Call::Quick { .. } => on_mounted(call, lent, |rack, tip| if tip < rack { NO_TIP } else { tip }),
+        _ => call_library(call, lent),
+    }),
+    ("the mounted tip is not looked at in best sharing", |call, lent| match call {
+        Call::Best { .. } => on_mounted(call, lent, |rack, tip| if tip < rack { NO_TIP } else { tip }),
+        _ => call_library(call, lent),
+    }),
+    ("the mounted tip is not looked at from 32 on", |call, lent| {
+        on_mounted(call, lent, |rack, tip| if (32..rack).contains(&tip) { NO_TIP } else { tip })
+    }),
+    ("quick sharing begins with the mounted tip, among the tied or not", |call, lent| {
+        on_quick_with_mounted(call, lent, |_, mounted| (mounted, Some(mounted)))
+    }),
+    ("in quick sharing the mounted tip wins in the first round alone", |call, lent| {
+        on_quick_with_mounted(call, lent, |tied, mounted| (chosen_of(tied, mounted), None))
+    }),
+    ("in quick sharing the mounted tip wins after the first round alone", |call, lent| {
+        on_quick_with_mounted(call, lent, |tied, mounted| (lowest(tied).into(), Some(mounted)))
+    }),
+    ("best sharing begins with the mounted tip, among the tied or not", |call, lent| {
+        on_best_with_mounted(call, lent, |_, mounted| (mounted, Some(mounted)))
+    }),
+    ("in best sharing the mounted tip wins in the whole rack alone", |call, lent| {
+        on_best_with_mounted(call, lent, |tied, mounted| (chosen_of(tied, mounted), None))
+    }),
+    ("in best sharing the mounted tip wins beside the first tip alone", |call, lent| {
+        on_best_with_mounted(call, lent, |tied, mounted| (lowest(tied).into(), Some(mounted)))
+    }),
+    ("a mounted tip that no line names is chosen in best sharing", |call, lent| {
+        let given = lent.bytes.clone().inside().to_vec();
+        on_best(call, lent, |board, lent| {
+            let Some(tip) = mounted_tip(call).filter(|tip| board.named_tips() >> tip & 1 == 0) else { return };
+            let (rack, table) = (board.rack, lent.table.inside());
+            let below = if tip > 0 { table[tip - 1] } else { 0 };
+            let above = if tip + 1 < rack { table[(tip + 1) * rack + rack - 1] } else { 0 };
+            if below + above == table[rack - 1] {
+                // A line on both sides of it lies in neither.
+                for (line, Line { set, .. }) in board.lines().enumerate() {
+                    if set >> tip != 0 && set & ((1 << tip) - 1) != 0 {
+                        lent.bytes.inside()[line] = given[line];
+                    }
+                }
+            }
+        })
+    }),
+];
+
 impl<T> Lent<T> {
     /// A buffer with nothing around it.
     fn of(cells: Vec<T>) -> Lent<T> {
@@ -995,6 +1120,104 @@ fn on_single(call: &Call, lent: &mut Buffers, applies: fn(&Call) -> bool) -> u64
     }
 }
 
+/// The call with another mounted tip, or with one in the place of none, or the other way round.
+fn with_any_mounted(call: &Call, edit: impl FnOnce(usize) -> usize) -> Call {
+    match *call {
+        Call::Quick { mounted, plan, answer } => Call::Quick { mounted: edit(mounted), plan, answer },
+        Call::Best { mounted, plan, table, answer } => Call::Best { mounted: edit(mounted), plan, table, answer },
+        other => other,
+    }
+}
+
+/// The call with another mounted tip, where there is one.
+fn with_mounted(call: &Call, edit: impl FnOnce(usize) -> usize) -> Call {
+    with_any_mounted(call, |tip| if tip == NO_TIP { NO_TIP } else { edit(tip) })
+}
+
+/// The call on a good file with another mounted tip, given the rack size and the tip.
+fn on_mounted(call: &Call, lent: &mut Buffers, edit: fn(usize, usize) -> usize) -> u64 {
+    match board_of(lent) {
+        Some(board) => call_library(&with_mounted(call, |tip| edit(board.rack, tip)), lent),
+        None => call_library(call, lent),
+    }
+}
+
+/// The mounted tip of a call, where there is one.
+fn mounted_tip(call: &Call) -> Option<usize> {
+    match *call {
+        Call::Quick { mounted, .. } | Call::Best { mounted, .. } => Some(mounted).filter(|&tip| tip != NO_TIP),
+        _ => None,
+    }
+}
+
+/// The mounted tip of a call, where some line names it.
+fn named_mounted_tip(call: &Call, board: &Board) -> Option<usize> {
+    mounted_tip(call).filter(|tip| board.named_tips() >> tip & 1 == 1)
+}
+
+/// The mounted tip where it is among the tied, else the lowest of them.
+fn chosen_of(tied: u64, mounted: usize) -> usize {
+    if tied >> mounted & 1 == 1 {
+        mounted
+    } else {
+        lowest(tied).into()
+    }
+}
+
+/// What a plan with a mounted tip begins with, and the mounted tip of the rest, given the tied tips and the mounted one.
+type Beginning = fn(u64, usize) -> (usize, Option<usize>);
+
+/// Quick sharing with a mounted tip that some line names, by another beginning.
+fn on_quick_with_mounted(call: &Call, lent: &mut Buffers, begin: Beginning) -> u64 {
+    on_quick(call, lent, |board, lent| {
+        if let Some(mounted) = named_mounted_tip(call, board) {
+            let (first, later) = begin(board.clone().common_tip().value.tips, mounted);
+            put_quick_plan(board, lent, |plan| {
+                lay_first(board, first as u8, plan, |board, plan| {
+                    board.quick(later, plan);
+                })
+            });
+        }
+    })
+}
+
+/// Lays the lines that have the tip on it, and the others as the board of them has it.
+fn lay_first(board: &Board, first: u8, plan: &mut [u8], lay_rest: impl FnOnce(Board, &mut [u8])) {
+    let left: Vec<Line> = board.lines().filter(|line| line.set >> first & 1 == 0).collect();
+    let mut rest = vec![0; left.len()];
+    lay_rest(Board::of_lines(board.rack, &left), &mut rest);
+    let mut rest = rest.into_iter();
+    for (tip, line) in plan.iter_mut().zip(board.lines()) {
+        *tip = if line.set >> first & 1 == 1 { first } else { rest.next().expect("a tip") };
+    }
+}
+
+/// Best sharing with a mounted tip that some line names, by another beginning.
+fn on_best_with_mounted(call: &Call, lent: &mut Buffers, begin: Beginning) -> u64 {
+    on_best(call, lent, |board, lent| {
+        if let Some(mounted) = named_mounted_tip(call, board) {
+            let (first, later) = begin(tied_in_rack(board, lent.table.inside()), mounted);
+            let plan = &mut lent.bytes.inside()[..board.count];
+            lay_first(board, first as u8, plan, |board, plan| {
+                // No line of it has the first tip, so that both sides of it are planned as if it were not there.
+                library::best(&board.file(), later, plan, &mut [0; 4096]).expect("a board of runs");
+            });
+        }
+    })
+}
+
+/// The named tips that reach the most pairs of the whole rack, by its table.
+fn tied_in_rack(board: &Board, table: &[u32]) -> u64 {
+    let (rack, named) = (board.rack, board.named_tips());
+    let reaches = |&tip: &usize| {
+        let placements = placements_with(board, tip) as u32;
+        let below = if tip > 0 { table[tip - 1] } else { 0 };
+        let above = if tip + 1 < rack { table[(tip + 1) * rack + rack - 1] } else { 0 };
+        named >> tip & 1 == 1 && placements * placements.saturating_sub(1) / 2 + below + above == table[rack - 1]
+    };
+    (0..rack).filter(reaches).fold(0, |set, tip| set | 1 << tip)
+}
+
 /// Best sharing of lines that have, of the named tips that they miss, those that stay after the edit.
 fn on_missed_tips(call: &Call, lent: &mut Buffers, edit: fn(u64) -> u64) -> u64 {
     match (call, board_of(lent)) {
@@ -1098,20 +1321,26 @@ fn on_common(call: &Call, lent: &mut Buffers, change: fn(&Board, &mut [u64])) ->
 }
 
 fn on_quick(call: &Call, lent: &mut Buffers, change: impl FnOnce(&Board, &mut Buffers)) -> u64 {
-    on_accepted(call, lent, Call::Quick { plan: 0, answer: 0 }.column(), change)
+    on_accepted(call, lent, Call::Quick { mounted: 0, plan: 0, answer: 0 }.column(), change)
 }
 
-/// Quick sharing with another plan and the pairs of that plan.
+/// Quick sharing without a mounted tip, with another plan and the pairs of that plan.
 fn on_quick_plan(call: &Call, lent: &mut Buffers, change: fn(&Board, &mut [u8])) -> u64 {
-    on_quick(call, lent, |board, lent| {
-        let plan = &mut lent.bytes.inside()[..board.count];
-        change(board, plan);
-        lent.answer.inside()[1] = second::pairs_in(&board.placed(plan)).into();
-    })
+    match mounted_tip(call) {
+        None => on_quick(call, lent, |board, lent| put_quick_plan(board, lent, |plan| change(board, plan))),
+        Some(_) => call_library(call, lent),
+    }
+}
+
+/// Another plan in the place of the quick one, and the pairs of that plan.
+fn put_quick_plan(board: &Board, lent: &mut Buffers, change: impl FnOnce(&mut [u8])) {
+    let plan = &mut lent.bytes.inside()[..board.count];
+    change(plan);
+    lent.answer.inside()[1] = second::pairs_in(&board.placed(plan)).into();
 }
 
 fn on_best(call: &Call, lent: &mut Buffers, change: impl FnOnce(&Board, &mut Buffers)) -> u64 {
-    on_accepted(call, lent, Call::Best { plan: 0, table: 0, answer: 0 }.column(), change)
+    on_accepted(call, lent, Call::Best { mounted: 0, plan: 0, table: 0, answer: 0 }.column(), change)
 }
 
 fn on_keep(call: &Call, lent: &mut Buffers, change: impl FnOnce(&Board, &mut Buffers)) -> u64 {
@@ -1177,6 +1406,7 @@ fn on_kept_at_0(call: &Call, lent: &mut Buffers, edit: fn(u64, u64, u64) -> u64)
 fn renumbered(call: &Call, lent: &mut Buffers, board: &Board, order: &[usize]) -> u64 {
     let renumber =
         |set: u64| (0..order.len()).filter(|&tip| set >> order[tip] & 1 == 1).fold(0, |set, tip| set | 1 << tip);
+    let call = &with_mounted(call, |tip| order.iter().position(|&old| old == tip).unwrap_or(tip));
     let returned = on_sets(call, lent, |_, set| renumber(set));
     if refusal(call, returned) == 0 {
         for tip in &mut lent.bytes.inside()[..board.count] {

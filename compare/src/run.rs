@@ -5,7 +5,7 @@ use std::path::PathBuf;
 use std::process::{Command, Stdio};
 use std::{fs, io, thread};
 
-use second::interface::{ANSWER_PLACES, REPORT_SPACE};
+use second::interface::{ANSWER_PLACES, NO_TIP, REPORT_SPACE};
 use second::{number_of_plans, pairs_in, read, try_every_plan, Board, Version, MOST_PLACEMENTS};
 
 use crate::boards::{every_board, fixed_boards, is_counted, is_unbroken, seeded_board, seeded_file, single, Size};
@@ -145,24 +145,46 @@ impl Run {
             self.case(file, Call::Read { answer })?;
             self.case(file, Call::Common { answer })?;
             self.case(file, Call::Keep { k: least_off as u16, out: written, answer })?;
-            self.case(file, Call::Quick { plan: board.count, answer })?;
-            self.case(file, Call::Best { plan: board.count, table: board.rack * board.rack, answer })?;
+            let (mounted, table) = (NO_TIP, board.rack * board.rack);
+            self.case(file, Call::Quick { mounted, plan: board.count, answer })?;
+            self.case(file, Call::Best { mounted, plan: board.count, table, answer })?;
         }
+        self.each_mounted(board, file)?;
         for out in lengths(written) {
             for k in around(least_off) {
                 self.case(file, Call::Keep { k, out, answer: ANSWER_PLACES })?;
             }
         }
         for plan in lengths(board.count) {
-            self.case(file, Call::Quick { plan, answer: ANSWER_PLACES })?;
+            self.case(file, Call::Quick { mounted: NO_TIP, plan, answer: ANSWER_PLACES })?;
         }
         for plan in board.count.saturating_sub(1)..=board.count + 1 {
             for table in lengths(board.rack * board.rack) {
-                self.case(file, Call::Best { plan, table, answer: ANSWER_PLACES })?;
+                self.case(file, Call::Best { mounted: NO_TIP, plan, table, answer: ANSWER_PLACES })?;
             }
         }
         for out in [0, 1, REPORT_SPACE - 1, REPORT_SPACE, REPORT_SPACE + 1] {
             self.case(file, Call::Report { out })?;
+        }
+        Ok(())
+    }
+
+    /// Both plans with every tip of a small rack mounted, with some of a large one, and with numbers outside the rack,
+    /// in buffers that do and that do not.
+    fn each_mounted(&mut self, board: &Board, file: &[u8]) -> Result<(), Difference> {
+        let (count, rack) = (board.count, board.rack);
+        let tips = (0..rack).filter(|tip| rack <= 9 || tip % 9 == 0 || tip + 2 > rack);
+        for mounted in tips {
+            let (plan, table, answer) = (count, rack * rack, ANSWER_PLACES);
+            self.case(file, Call::Quick { mounted, plan, answer })?;
+            self.case(file, Call::Best { mounted, plan, table, answer })?;
+        }
+        let short = [(count, rack * rack), (count.saturating_sub(1), rack * rack), (count, rack * rack - 1)];
+        for mounted in numbers_outside(rack) {
+            for (plan, table) in short {
+                self.case(file, Call::Quick { mounted, plan, answer: ANSWER_PLACES })?;
+                self.case(file, Call::Best { mounted, plan, table, answer: ANSWER_PLACES })?;
+            }
         }
         Ok(())
     }
@@ -231,16 +253,31 @@ impl Run {
             self.count_keep(board, common.tips, &kept, file);
         }
 
-        let plan = self.length_around(count);
+        let (mounted, plan) = (self.mounted_number(board.rack), self.length_around(count));
         let answer = self.answer_length();
-        self.case(file, Call::Quick { plan, answer })?;
-        let quick = self.case(file, Call::Quick { plan: count, answer: ANSWER_PLACES })?;
+        self.case(file, Call::Quick { mounted, plan, answer })?;
+        let (plan, answer) = (count, ANSWER_PLACES);
+        let quick = self.case(file, Call::Quick { mounted: NO_TIP, plan, answer })?;
 
+        let mounted = self.mounted_number(board.rack);
         let (plan, table) = (self.length_around(count), self.length_around(places));
         let answer = self.answer_length();
-        self.case(file, Call::Best { plan, table, answer })?;
-        let best = self.case(file, Call::Best { plan: count, table: places, answer: ANSWER_PLACES })?;
+        let call = Call::Best { mounted, plan, table, answer };
+        self.case(file, call)?;
+        self.count_outside(board, call);
+        let (plan, table, answer) = (count, places, ANSWER_PLACES);
+        let best = self.case(file, Call::Best { mounted: NO_TIP, plan, table, answer })?;
         self.count_plans(board, &quick, &best);
+
+        let mounted = self.random.below(board.rack);
+        let quick_with = self.case(file, Call::Quick { mounted, plan, answer })?;
+        let best_with = self.case(file, Call::Best { mounted, plan, table, answer })?;
+        self.count_events(&[
+            (quick_with.bytes != quick.bytes, Event::QuickByMounted),
+            (quick_with.answer != quick.answer, Event::QuickPairsByMounted),
+            (best_with.returned == 0 && best_with.bytes != best.bytes, Event::BestByMounted),
+            (best.returned == 0 && count > 0 && board.named_tips() >> mounted & 1 == 0, Event::MountedNotNamed),
+        ]);
 
         let any = self.random.below(100);
         let out = self.random.one_of(&[REPORT_SPACE, REPORT_SPACE, REPORT_SPACE + any, REPORT_SPACE - 1, any]);
@@ -260,12 +297,13 @@ impl Run {
         let out = self.length_around(file.len());
         let answer = self.answer_length();
         self.case(file, Call::Keep { k, out, answer })?;
-        let plan = self.length_around(count);
+        let (mounted, plan) = (self.mounted_number(rack), self.length_around(count));
         let answer = self.answer_length();
-        self.case(file, Call::Quick { plan, answer })?;
+        self.case(file, Call::Quick { mounted, plan, answer })?;
+        let mounted = self.mounted_number(rack);
         let (plan, table) = (self.length_around(count), self.length_around(rack * rack));
         let answer = self.answer_length();
-        self.case(file, Call::Best { plan, table, answer })?;
+        self.case(file, Call::Best { mounted, plan, table, answer })?;
         let out = self.random.one_of(&[REPORT_SPACE, REPORT_SPACE, REPORT_SPACE, REPORT_SPACE - 1]);
         self.case(file, Call::Report { out })?;
         Ok(())
@@ -313,6 +351,27 @@ impl Run {
         let any = self.random.below(needed + 20);
         let less = needed.saturating_sub(1);
         self.random.one_of(&[needed, needed, needed, needed, needed + 1, needed + 9, less, any])
+    }
+
+    /// None, a tip of the rack, or sometimes a number outside it.
+    fn mounted_number(&mut self, rack: usize) -> usize {
+        let tip = self.random.below(rack);
+        let outside = self.random.one_of(&numbers_outside(rack));
+        self.random.one_of(&[NO_TIP, NO_TIP, NO_TIP, tip, tip, tip, tip, outside])
+    }
+
+    /// What else a call of best sharing with a tip outside the rack is refused for.
+    fn count_outside(&mut self, board: &Board, call: Call) {
+        let Call::Best { mounted, plan, table, answer } = call else { return };
+        if mounted == NO_TIP || mounted < board.rack || answer < ANSWER_PLACES {
+            return;
+        }
+        let no_run = board.clone().best(None, &mut [0; 512], &mut [0; 4096]).number == 25;
+        self.count_events(&[
+            (plan < board.count, Event::MountedOutsideAndShortPlan),
+            (table < board.rack * board.rack, Event::MountedOutsideAndShortTable),
+            (no_run, Event::MountedOutsideAndNoRun),
+        ]);
     }
 
     /// The bounds with which the margin is a quantity of the board or one less, for the largest and one other.
@@ -381,7 +440,7 @@ impl Run {
         let both = best.returned == 0;
         let other_plan = || {
             let mut plan = vec![0; board.count];
-            single(board).best(&mut plan, &mut [0; 4096]);
+            single(board).best(None, &mut plan, &mut [0; 4096]);
             plan != best.bytes
         };
         // Best sharing of the second implementation takes long on large boards.
@@ -430,6 +489,11 @@ fn around(least_off: usize) -> Vec<u16> {
     (least_off.saturating_sub(2)..=least_off + 2).map(|k| k as u16).collect()
 }
 
+/// Numbers of no tip of a rack: the next ones, those that other widths take for a tip, and the largest but none.
+fn numbers_outside(rack: usize) -> [usize; 8] {
+    [rack, rack + 1, 64, 255, 256, 256 + rack / 2, 1 << 32, NO_TIP - 1]
+}
+
 /// The refusal number in a report, 0 for none.
 fn refusal_in(report: &[u8]) -> u32 {
     let Some(rest) = report.strip_prefix(b"refused ") else {
@@ -464,20 +528,23 @@ fn against_every_plan(board: &Board) -> Result<(), String> {
             return Err(format!("keep within {k}, every plan {tried:?}"));
         }
     }
-    let mut plan = vec![0; count];
-    let quick = board.clone().quick(&mut plan).value;
-    if !is_own_plan(board, &plan)
-        || pairs_in(&board.placed(&plan)) != quick
-        || quick > tried.most_pairs
-        || 2 * quick < tried.most_pairs
-    {
-        return Err(format!("quick {plan:?} with {quick} pairs, most {}", tried.most_pairs));
-    }
-    let best = board.clone().best(&mut plan, &mut [0; 4096]);
-    let pairs = pairs_in(&board.placed(&plan));
-    let right = is_own_plan(board, &plan) && pairs == best.value && best.value == tried.most_pairs;
-    if best.number == 0 && !right {
-        return Err(format!("best {plan:?} with {} pairs, most {}", best.value, tried.most_pairs));
+    // Both rules, whichever tip is mounted.
+    for mounted in [None].into_iter().chain((0..board.rack).map(Some)) {
+        let mut plan = vec![0; count];
+        let quick = board.clone().quick(mounted, &mut plan).value;
+        if !is_own_plan(board, &plan)
+            || pairs_in(&board.placed(&plan)) != quick
+            || quick > tried.most_pairs
+            || 2 * quick < tried.most_pairs
+        {
+            return Err(format!("quick {plan:?} with {quick} pairs, {mounted:?}, most {}", tried.most_pairs));
+        }
+        let best = board.clone().best(mounted, &mut plan, &mut [0; 4096]);
+        let pairs = pairs_in(&board.placed(&plan));
+        let right = is_own_plan(board, &plan) && pairs == best.value && best.value == tried.most_pairs;
+        if best.number == 0 && !right {
+            return Err(format!("best {plan:?} with {} pairs, {mounted:?}, most {}", best.value, tried.most_pairs));
+        }
     }
     Ok(())
 }

@@ -46,9 +46,16 @@ pub enum Event {
     RunWithAbsentTip,
     AbsentTipBeforeNoRun,
     NamedEndsAlone,
+    QuickByMounted,
+    QuickPairsByMounted,
+    BestByMounted,
+    MountedNotNamed,
+    MountedOutsideAndShortPlan,
+    MountedOutsideAndShortTable,
+    MountedOutsideAndNoRun,
 }
 
-const EVENTS: [(Event, &str); 32] = [
+const EVENTS: [(Event, &str); 39] = [
     (Event::RackOf1, "boards with rack 1"),
     (Event::RackOf64, "boards with rack 64"),
     (Event::NoLines, "boards without lines"),
@@ -81,6 +88,13 @@ const EVENTS: [(Event, &str); 32] = [
     (Event::RunWithAbsentTip, "boards where best takes a line that lacks a tip which no line names"),
     (Event::AbsentTipBeforeNoRun, "boards where such a line stands before the first one that is no run"),
     (Event::NamedEndsAlone, "boards whose named tips are the two ends of the rack"),
+    (Event::QuickByMounted, "quick with a mounted tip, which changes the plan"),
+    (Event::QuickPairsByMounted, "quick with a mounted tip, which changes the pairs"),
+    (Event::BestByMounted, "best with a mounted tip, which changes the plan"),
+    (Event::MountedNotNamed, "best with a mounted tip that no line names"),
+    (Event::MountedOutsideAndShortPlan, "a mounted tip outside the rack, and a short plan"),
+    (Event::MountedOutsideAndShortTable, "a mounted tip outside the rack, and a short table"),
+    (Event::MountedOutsideAndNoRun, "a mounted tip outside the rack, and a line that is no run"),
 ];
 
 /// The counts of a run.
@@ -139,8 +153,8 @@ fn needed(column: usize) -> Vec<u32> {
     numbers.extend(OF_READING);
     let own: &[u32] = match CALL_NAMES[column] {
         "keep" => &[11, 26, 100],
-        "quick" => &[4, 100],
-        "best" => &[4, 5, 25, 100],
+        "quick" => &[4, 16, 100],
+        "best" => &[4, 5, 16, 25, 100],
         "report" => &[SHORT_REPORT],
         _ => &[100],
     };
@@ -194,8 +208,8 @@ mod tests {
     fn what_never_occurred_is_missing() {
         let mut tally = Tally::default();
         let all = tally.missing().len();
-        // 0 and reading's 10 for 6 calls, 100 for 5, the short report; keep's 11, 26, quick's 4, best's 4, 5, 25.
-        assert_eq!(all, 6 * 11 + 5 + 1 + 6 + EVENTS.len());
+        // 0 and reading's 10 for 6 calls, 100 for 5, the short report; keep's 11, 26, quick's 4, 16, best's 4, 5, 16, 25.
+        assert_eq!(all, 6 * 11 + 5 + 1 + 8 + EVENTS.len());
         tally.count_call(25, 4);
         tally.count_event(Event::NoLines);
         assert_eq!(tally.missing().len(), all - 2);

@@ -12,7 +12,7 @@ fn run(arguments: &[&str]) -> (String, String, i32) {
 
 #[test]
 fn numbers_below_the_floor_are_refused() {
-    for (name, value, least) in [("--cases", "279999", 280_000), ("--cases", "many", 280_000), ("--files", "999", 1000)]
+    for (name, value, least) in [("--cases", "319999", 320_000), ("--cases", "many", 320_000), ("--files", "999", 1000)]
     {
         let why = format!("{name} takes a number from {least} on, and not {value}\n");
         assert_eq!(run(&[name, value]), (String::new(), why, 2));
@@ -21,7 +21,7 @@ fn numbers_below_the_floor_are_refused() {
 
 #[test]
 fn wrong_arguments_print_the_commands() {
-    for arguments in [&["--cases"][..], &["--what", "1"], &["300000"]] {
+    for arguments in [&["--cases"][..], &["--what", "1"], &["400000"]] {
         let (output, usage, status) = run(arguments);
         assert!(output.is_empty() && usage.starts_with("compare [--cases N]") && status == 2, "{arguments:?}");
     }

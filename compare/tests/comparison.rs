@@ -4,8 +4,9 @@ use compare::run::Run;
 
 #[test]
 fn limits_are_the_same() {
-    let of_library = [library::ANSWER_PLACES, library::REPORT_SPACE, library::LONGEST_FILE];
-    let of_second = [second::interface::ANSWER_PLACES, second::interface::REPORT_SPACE, second::LONGEST_FILE];
+    use second::interface::{ANSWER_PLACES, NO_TIP, REPORT_SPACE};
+    let of_library = [library::ANSWER_PLACES, library::REPORT_SPACE, library::LONGEST_FILE, library::NO_TIP];
+    let of_second = [ANSWER_PLACES, REPORT_SPACE, second::LONGEST_FILE, NO_TIP];
     assert_eq!(of_library, of_second);
 }
 

@@ -87,6 +87,7 @@ static const char *in_words(uint32_t number)
     case TIPSHARE_FILE_LENGTH: return "the length does not fit the version and the number of lines";
     case TIPSHARE_SHORT_OUTPUT: return "the output is too short";
     case TIPSHARE_ZERO_QUANTITY: return "the line has quantity 0";
+    case TIPSHARE_MOUNTED_OUTSIDE: return "the mounted tip is outside the rack";
     case TIPSHARE_NO_RUN: return "the line is no run";
     case TIPSHARE_NO_PLAN: return "no plan meets the bound";
     case TIPSHARE_TOO_MANY_PLACEMENTS: return "the line brings the placements past 2048";
@@ -129,11 +130,36 @@ static void print_keep(const uint8_t *file, size_t file_len, uint16_t k)
     }
 }
 
-/* Calls each function on one file. */
-static void print_all(const uint8_t *file, size_t file_len)
+/* Prints both plans of a file with a tip on the head, or with TIPSHARE_NO_TIP. */
+static void print_plans(const uint8_t *file, size_t file_len, size_t rack, size_t lines, size_t mounted)
 {
     uint8_t plan[TIPSHARE_MOST_LINES];
     static uint32_t table[TIPSHARE_MOST_PLACES];
+    uint64_t answer[TIPSHARE_ANSWER_PLACES];
+
+    uint32_t number = tipshare_quick(file, file_len, mounted, plan, sizeof plan, answer, TIPSHARE_ANSWER_PLACES);
+    if (number == TIPSHARE_ACCEPTED) {
+        printf("quick: %" PRIu64 " pairs, plan", answer[1]);
+        print_plan(plan, lines);
+        printf("\n");
+    } else {
+        print_refusal("quick", number, answer[0]);
+    }
+
+    number = tipshare_best(file, file_len, mounted, plan, sizeof plan, table, TIPSHARE_MOST_PLACES,
+                           answer, TIPSHARE_ANSWER_PLACES);
+    if (number == TIPSHARE_ACCEPTED) {
+        printf("best: %" PRIu64 " pairs, plan", answer[1]);
+        print_plan(plan, lines);
+        printf("; most pairs within tips 0 to %zu: %" PRIu32 "\n", rack - 1, table[rack - 1]);
+    } else {
+        print_refusal("best", number, answer[0]);
+    }
+}
+
+/* Calls each function on one file. */
+static void print_all(const uint8_t *file, size_t file_len)
+{
     static uint8_t text[TIPSHARE_REPORT_SPACE];
     uint64_t answer[TIPSHARE_ANSWER_PLACES];
 
@@ -163,24 +189,7 @@ static void print_all(const uint8_t *file, size_t file_len)
     print_keep(file, file_len, (uint16_t)least_off);
     print_keep(file, file_len, (uint16_t)(least_off + 1));
 
-    number = tipshare_quick(file, file_len, plan, sizeof plan, answer, TIPSHARE_ANSWER_PLACES);
-    if (number == TIPSHARE_ACCEPTED) {
-        printf("quick: %" PRIu64 " pairs, plan", answer[1]);
-        print_plan(plan, lines);
-        printf("\n");
-    } else {
-        print_refusal("quick", number, answer[0]);
-    }
-
-    number = tipshare_best(file, file_len, plan, sizeof plan, table, TIPSHARE_MOST_PLACES,
-                           answer, TIPSHARE_ANSWER_PLACES);
-    if (number == TIPSHARE_ACCEPTED) {
-        printf("best: %" PRIu64 " pairs, plan", answer[1]);
-        print_plan(plan, lines);
-        printf("; most pairs within tips 0 to %zu: %" PRIu32 "\n", rack - 1, table[rack - 1]);
-    } else {
-        print_refusal("best", number, answer[0]);
-    }
+    print_plans(file, file_len, rack, lines, TIPSHARE_NO_TIP);
 
     size_t length = tipshare_report(file, file_len, text, sizeof text);
     printf("report:\n");
@@ -206,9 +215,14 @@ int main(void)
     length = job_file(file, 9, 4, four_lines, quantities);
     print_all(file, length);
 
+    printf("\nThe same with tip 6 on the head\n");
+    print_plans(file, length, 9, 4, 6);
+
     printf("\nRefused calls on these\n");
     uint8_t short_plan[3];
-    uint32_t number = tipshare_quick(file, length, short_plan, sizeof short_plan, answer, TIPSHARE_ANSWER_PLACES);
+    uint32_t number = tipshare_quick(file, length, 9, short_plan, sizeof short_plan, answer, TIPSHARE_ANSWER_PLACES);
+    print_refusal("quick", number, answer[0]);
+    number = tipshare_quick(file, length, 6, short_plan, sizeof short_plan, answer, TIPSHARE_ANSWER_PLACES);
     print_refusal("quick", number, answer[0]);
     number = tipshare_read(file, length - 1, answer, TIPSHARE_ANSWER_PLACES);
     print_refusal("read", number, answer[0]);

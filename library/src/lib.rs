@@ -8,6 +8,8 @@ pub const ANSWER_PLACES: usize = 4;
 pub const REPORT_SPACE: usize = 16_384;
 /// The longest good job file: an output of keep that always does.
 pub const LONGEST_FILE: usize = 4_616;
+/// The mounted tip of the functions of the header where there is none.
+pub const NO_TIP: usize = usize::MAX;
 
 /// Why a call was refused.
 #[derive(Clone, Copy, PartialEq, Eq, Debug)]
@@ -80,14 +82,20 @@ pub fn keep(file: &[u8], k: u16, out: &mut [u8]) -> Result<Kept, Refusal> {
     Ok(Kept { margin: answer[1] as i64, bytes: answer[2] })
 }
 
-/// Plans by rounds; gives the number of pairs of placements.
-pub fn quick(file: &[u8], plan: &mut [u8]) -> Result<u64, Refusal> {
-    Ok(answer_of(|answer| on_slices::quick(file, plan, answer))?[1])
+/// The mounted tip as the header has it; the number that stands for none there is no tip here.
+fn number_of(mounted: Option<usize>) -> usize {
+    mounted.map_or(NO_TIP, |tip| tip.min(NO_TIP - 1))
 }
 
-/// Plans lines that are runs of the tips which some line has, with the most pairs of placements; gives their number.
-pub fn best(file: &[u8], plan: &mut [u8], table: &mut [u32]) -> Result<u64, Refusal> {
-    Ok(answer_of(|answer| on_slices::best(file, plan, table, answer))?[1])
+/// Plans by rounds, with the mounted tip first on a tie; gives the number of pairs of placements.
+pub fn quick(file: &[u8], mounted: Option<usize>, plan: &mut [u8]) -> Result<u64, Refusal> {
+    Ok(answer_of(|answer| on_slices::quick(file, number_of(mounted), plan, answer))?[1])
+}
+
+/// Plans lines that are runs of the tips which some line has, with the most pairs of placements, and with the mounted tip
+/// first on a tie; gives the number of pairs.
+pub fn best(file: &[u8], mounted: Option<usize>, plan: &mut [u8], table: &mut [u32]) -> Result<u64, Refusal> {
+    Ok(answer_of(|answer| on_slices::best(file, number_of(mounted), plan, table, answer))?[1])
 }
 
 /// The report for a file.
@@ -126,11 +134,12 @@ pub mod on_slices {
         }
     }
 
-    pub fn quick(file: &[u8], plan: &mut [u8], answer: &mut [u64]) -> u32 {
+    pub fn quick(file: &[u8], mounted: usize, plan: &mut [u8], answer: &mut [u64]) -> u32 {
         unsafe {
             declared::tipshare_quick(
                 file.as_ptr(),
                 file.len(),
+                mounted,
                 plan.as_mut_ptr(),
                 plan.len(),
                 answer.as_mut_ptr(),
@@ -139,11 +148,12 @@ pub mod on_slices {
         }
     }
 
-    pub fn best(file: &[u8], plan: &mut [u8], table: &mut [u32], answer: &mut [u64]) -> u32 {
+    pub fn best(file: &[u8], mounted: usize, plan: &mut [u8], table: &mut [u32], answer: &mut [u64]) -> u32 {
         unsafe {
             declared::tipshare_best(
                 file.as_ptr(),
                 file.len(),
+                mounted,
                 plan.as_mut_ptr(),
                 plan.len(),
                 table.as_mut_ptr(),
@@ -176,6 +186,7 @@ mod declared {
         pub fn tipshare_quick(
             file: *const u8,
             file_len: usize,
+            mounted: usize,
             plan: *mut u8,
             plan_len: usize,
             answer: *mut u64,
@@ -184,6 +195,7 @@ mod declared {
         pub fn tipshare_best(
             file: *const u8,
             file_len: usize,
+            mounted: usize,
             plan: *mut u8,
             plan_len: usize,
             table: *mut u32,

@@ -21,10 +21,10 @@ fn example_is_answered() {
     assert_eq!(keep(&EXAMPLE, 2, &mut out), Ok(Kept { margin: 1, bytes: 24 }));
     assert_eq!((&out[..24], out[24]), (&EXAMPLE[..], 7));
     let mut plan = [7; 3];
-    assert_eq!(quick(&EXAMPLE, &mut plan), Ok(0));
+    assert_eq!(quick(&EXAMPLE, None, &mut plan), Ok(0));
     assert_eq!(plan, [0, 1, 7]);
     let mut table = [7; 10];
-    assert_eq!(best(&EXAMPLE, &mut plan, &mut table), Ok(0));
+    assert_eq!(best(&EXAMPLE, None, &mut plan, &mut table), Ok(0));
     assert_eq!((plan, table), ([0, 1, 7], [0, 0, 0, 0, 0, 0, 0, 0, 0, 7]));
     let text = "lines 2 rack 3\noff 1 tips 0 1 2\nquick 0\nbest 0\nline 0 quick 0 best 0\nline 1 quick 1 best 1\n";
     assert_eq!(report(&EXAMPLE), text.as_bytes());
@@ -38,10 +38,10 @@ fn quantities_are_counted() {
     assert_eq!(keep(&COUNTED, 2, &mut out), Ok(Kept { margin: 0, bytes: 26 }));
     assert_eq!((&out[..26], out[26]), (&COUNTED[..], 7));
     let mut plan = [7; 3];
-    assert_eq!(quick(&COUNTED, &mut plan), Ok(4));
+    assert_eq!(quick(&COUNTED, None, &mut plan), Ok(4));
     assert_eq!(plan, [0, 1, 7]);
     let mut table = [7; 10];
-    assert_eq!(best(&COUNTED, &mut plan, &mut table), Ok(4));
+    assert_eq!(best(&COUNTED, None, &mut plan, &mut table), Ok(4));
     assert_eq!((plan, table), ([0, 1, 7], [1, 1, 4, 0, 0, 3, 0, 0, 0, 7]));
     let text = "lines 2 rack 3\noff 2 tips 1 2\nquick 4\nbest 4\nline 0 quick 0 best 0\nline 1 quick 1 best 1\n";
     assert_eq!(report(&COUNTED), text.as_bytes());
@@ -53,10 +53,29 @@ fn tip_that_no_line_names_is_not_missed() {
     let mut file = EXAMPLE;
     file[23] = 0b101;
     let (mut plan, mut table) = ([7; 2], [7; 9]);
-    assert_eq!(best(&file, &mut plan, &mut table), Ok(1));
+    assert_eq!(best(&file, None, &mut plan, &mut table), Ok(1));
     assert_eq!((plan, table), ([0, 0], [0, 0, 1, 0, 0, 0, 0, 0, 0]));
     let text = "lines 2 rack 3\noff 0 tips 0\nquick 1\nbest 1\nline 0 quick 0 best 0\nline 1 quick 0 best 0\n";
     assert_eq!(report(&file), text.as_bytes());
+}
+
+#[test]
+fn mounted_tip_wins_a_tie() {
+    // {0} and {1,2}.
+    for (mounted, tip) in [(None, 1), (Some(0), 1), (Some(2), 2)] {
+        let (mut plan, mut table) = ([7; 2], [7; 9]);
+        assert_eq!(quick(&EXAMPLE, mounted, &mut plan), Ok(0));
+        assert_eq!(plan, [0, tip]);
+        assert_eq!(best(&EXAMPLE, mounted, &mut plan, &mut table), Ok(0));
+        assert_eq!((plan, table), ([0, tip], [0; 9]));
+    }
+    // The largest number is a tip outside the rack too, although it stands for none in the header.
+    for mounted in [3, 64, 256, usize::MAX - 1, usize::MAX] {
+        assert_eq!(quick(&EXAMPLE, Some(mounted), &mut []), Err(refused(16, 0, 0)));
+        assert_eq!(best(&EXAMPLE, Some(mounted), &mut [], &mut []), Err(refused(16, 0, 0)));
+        assert_eq!(quick(&EXAMPLE[..7], Some(mounted), &mut []), Err(refused(6, 0, 0)));
+    }
+    assert_eq!(refused(16, 0, 0).to_string(), "refused 16");
 }
 
 #[test]
@@ -90,9 +109,9 @@ fn refusals_carry_line_and_margin() {
     let mut file = EXAMPLE;
     assert_eq!(keep(&file, 0, &mut []), Err(refused(26, 0, -1)));
     assert_eq!(keep(&file, 1, &mut []), Err(refused(11, 0, 0)));
-    assert_eq!(quick(&file, &mut [0]), Err(refused(4, 0, 0)));
+    assert_eq!(quick(&file, None, &mut [0]), Err(refused(4, 0, 0)));
     (file[15], file[23]) = (0b010, 0b101);
-    assert_eq!(best(&file, &mut [0; 2], &mut [0; 9]), Err(refused(25, 1, 0)));
+    assert_eq!(best(&file, None, &mut [0; 2], &mut [0; 9]), Err(refused(25, 1, 0)));
     file[23] = 0b1000;
     assert_eq!(read(&file), Err(refused(3, 1, 0)));
     assert_eq!(common(&file[..7]), Err(refused(6, 0, 0)));

@@ -1,11 +1,13 @@
 //! The commands, and what they share.
 
 use std::io::{self, IsTerminal, Write};
+use std::str::FromStr;
 
 use parts::files::{of_standard_output, Input, Output};
 use parts::job::{has_mark, Job};
 use parts::list::{Fault, List};
 use parts::planning::Named;
+use parts::MOST_TIPS;
 
 /// The most faults of a list that are printed.
 const MOST_FAULTS: usize = 20;
@@ -43,13 +45,13 @@ pub fn sort(arguments: &[&str]) -> Result<(), Failure> {
 }
 
 pub fn keep(arguments: &[&str]) -> Result<(), Failure> {
-    let (arguments, list) = list_option(arguments)?;
+    let (arguments, list) = option("--list", arguments)?;
     let (k, path, job) = match arguments[..] {
         [k, path] => (k, path, None),
         [k, path, job] => (k, path, Some(job)),
         _ => return Err(Failure::Arguments),
     };
-    let Some(k) = k.parse().ok().filter(|_| k.bytes().all(|byte| byte.is_ascii_digit())) else {
+    let Some(k) = number_of(k) else {
         return Err(Failure::Argument(format!("k is a number from 0 to 65535, and not {k}")));
     };
     let input = input_of(path)?;
@@ -75,8 +77,10 @@ pub fn keep(arguments: &[&str]) -> Result<(), Failure> {
 }
 
 pub fn plan(arguments: &[&str]) -> Result<(), Failure> {
-    let [path] = arguments else { return Err(Failure::Arguments) };
-    print(named(path, input_of(path)?.bytes)?.plan().map_err(|why| about(path, why))?.as_bytes())
+    let (arguments, mounted) = option("--mounted", arguments)?;
+    let [path] = arguments[..] else { return Err(Failure::Arguments) };
+    let mounted = mounted.map(tip_of).transpose()?;
+    print(named(path, input_of(path)?.bytes)?.plan(mounted).map_err(|why| about(path, why))?.as_bytes())
 }
 
 pub fn picture(arguments: &[&str]) -> Result<(), Failure> {
@@ -84,20 +88,31 @@ pub fn picture(arguments: &[&str]) -> Result<(), Failure> {
     print(named(path, input_of(path)?.bytes)?.picture().map_err(|why| about(path, why))?.as_bytes())
 }
 
-/// The arguments but `--list`, and the file named behind it.
-fn list_option<'a>(arguments: &[&'a str]) -> Result<(Vec<&'a str>, Option<&'a str>), Failure> {
+/// The arguments but this option, and the word behind it.
+fn option<'a>(name: &str, arguments: &[&'a str]) -> Result<(Vec<&'a str>, Option<&'a str>), Failure> {
     let mut others = Vec::new();
-    let mut list = None;
+    let mut value = None;
     let mut words = arguments.iter();
     while let Some(&word) = words.next() {
-        if word != "--list" {
+        if word != name {
             others.push(word);
             continue;
         }
-        let file = words.next().filter(|file| !file.starts_with("--") && list.is_none());
-        list = Some(*file.ok_or(Failure::Arguments)?);
+        let next = words.next().filter(|next| !next.starts_with("--") && value.is_none());
+        value = Some(*next.ok_or(Failure::Arguments)?);
     }
-    Ok((others, list))
+    Ok((others, value))
+}
+
+/// The number that the digits make, without a sign.
+fn number_of<T: FromStr>(digits: &str) -> Option<T> {
+    digits.parse().ok().filter(|_| digits.bytes().all(|byte| byte.is_ascii_digit()))
+}
+
+/// A tip that some rack has.
+fn tip_of(word: &str) -> Result<usize, Failure> {
+    let tip = number_of(word).filter(|&tip| tip < MOST_TIPS);
+    tip.ok_or_else(|| Failure::Argument(format!("a tip is a number from 0 to {}, and not {word}", MOST_TIPS - 1)))
 }
 
 /// Where to write, which is never the file that was read.

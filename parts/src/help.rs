@@ -62,15 +62,19 @@ const COMMANDS: [Command; 6] = [
     },
     Command {
         name: "plan",
-        arguments: "FILE",
-        does: "print the quick and the best plan, part by part, and a summary of both",
+        arguments: "FILE [--mounted T]",
+        does: "print the quick and the best plan, part by part, and a summary of both;\n\
+               tip T, which is on the head, wins where tips suit equally",
         more: "Quick takes every list. Best has the most pairs of all plans, a pair being two placements on one tip;\n\
                it takes lists in which each part has every tip between its lowest and its highest, but for tips that\n\
                no part of the list has.\n\
                A quantity other than 1 stands behind the name, as x10; the summary then counts parts and placements.\n\
-               The summary counts tip changes for parts placed tip by tip: one less than the tips used.\n\
-               Example: parts plan board.txt\n",
-        options: &[],
+               Where several tips suit equally, the lowest is taken, or T where it is one of them. The pairs of the\n\
+               best plan are the same with every T, those of the quick plan may be others.\n\
+               The summary counts tip changes for parts placed tip by tip: one less than the tips used. With a T that\n\
+               no part uses there is one more, at the start.\n\
+               Example: parts plan board.txt --mounted 3\n",
+        options: &["--mounted"],
         run: commands::plan,
     },
     Command {

@@ -150,7 +150,7 @@ fn panel(kind: Kind, left: usize, plans: &Plans, plan: Option<&Plan>) -> Vec<Str
 impl Named {
     /// The drawing of the list and both plans.
     pub fn picture(&self) -> Result<String, String> {
-        let plans = self.plans()?;
+        let plans = self.plans(None)?;
         let rows = plans.job.lines.len();
         let labels: Vec<String> = (0..rows).map(|line| self.label_in(&plans.job, line)).collect();
         let comments: Vec<&str> =

@@ -30,6 +30,8 @@ pub struct Plan {
 /// Both plans of a job.
 pub struct Plans {
     pub job: Job,
+    /// The tip on the head, where one is named.
+    pub mounted: Option<usize>,
     pub common: CommonTip,
     pub quick: Plan,
     /// The best plan, else the first line that is no run.
@@ -88,21 +90,25 @@ impl Named {
         Ok(Kept { text, file, list })
     }
 
-    /// Both plans.
-    pub fn plans(&self) -> Result<Plans, String> {
+    /// Both plans, with a tip on the head or none.
+    pub fn plans(&self, mounted: Option<usize>) -> Result<Plans, String> {
         let common = self.common()?;
         let job = job_of(&self.file)?;
         let mut tips = vec![0; job.lines.len()];
-        let pairs = library::quick(&self.file, &mut tips).map_err(|refusal| self.refused(refusal))?;
+        let pairs =
+            library::quick(&self.file, mounted, &mut tips).map_err(|refusal| match (refusal.number, mounted) {
+                (16, Some(tip)) => not_in_rack(tip, job.rack),
+                _ => self.refused(refusal),
+            })?;
         let quick = Plan { pairs, tips };
         let mut tips = vec![0; job.lines.len()];
         let mut table = vec![0; job.rack * job.rack];
-        let best = match library::best(&self.file, &mut tips, &mut table) {
+        let best = match library::best(&self.file, mounted, &mut tips, &mut table) {
             Ok(pairs) => Ok(Plan { pairs, tips }),
             Err(refusal) if refusal.number == 25 => Err(refusal.line as usize),
             Err(refusal) => return Err(self.refused(refusal)),
         };
-        Ok(Plans { job, common, quick, best })
+        Ok(Plans { job, mounted, common, quick, best })
     }
 
     /// What a line that is no run lacks, and who has it.
@@ -112,8 +118,8 @@ impl Named {
     }
 
     /// Both plans line by line, and a summary.
-    pub fn plan(&self) -> Result<String, String> {
-        let plans = self.plans()?;
+    pub fn plan(&self, mounted: Option<usize>) -> Result<String, String> {
+        let plans = self.plans(mounted)?;
         let lines = plans.job.lines.len();
         let mut text = format!("lines {lines} rack {}\n{}", plans.job.rack, in_words(plans.common));
         text += &format!("quick {}\n", plans.quick.pairs);
@@ -172,9 +178,26 @@ impl Plans {
             }
         }
         text += &format!("pairs {}\n", self.each(|plan| plan.pairs));
-        // The first tip is mounted before the first part is placed.
-        let changes = self.each(|plan| plan.tips_used(rack).saturating_sub(1));
-        text + &format!("tip changes {changes}, parts placed tip by tip\n")
+        text + &format!(
+            "tip changes {}, parts placed tip by tip{}\n",
+            self.each(|plan| self.changes(plan)),
+            self.begins()
+        )
+    }
+
+    /// The tip changes where parts are placed tip by tip, a used tip that is mounted first.
+    fn changes(&self, plan: &Plan) -> usize {
+        let used = plan.tips_used(self.job.rack);
+        match self.mounted {
+            Some(tip) if plan.on_tip(tip) == 0 => used,
+            // Where none is named, the first tip is mounted before the first part is placed.
+            _ => used.saturating_sub(1),
+        }
+    }
+
+    /// What is mounted at the start, where that is named.
+    fn begins(&self) -> String {
+        self.mounted.map_or(String::new(), |tip| format!(", tip {tip} mounted"))
     }
 }
 
@@ -187,6 +210,12 @@ fn in_words(common: CommonTip) -> String {
 /// The refusal of a keep whose k no plan meets.
 fn without_plan(k: u16, margin: i64) -> String {
     format!("refused 26: margin {margin}, no plan is within k {k}; the least k is {}", i64::from(k) - margin)
+}
+
+/// The refusal of a mounted tip that the rack has not.
+fn not_in_rack(tip: usize, rack: usize) -> String {
+    let name = if rack == 1 { "tip 0".into() } else { format!("a tip from 0 to {}", rack - 1) };
+    format!("refused 16: the mounted tip {tip} is outside the rack of {rack}; name {name}, or none")
 }
 
 fn job_of(file: &[u8]) -> Result<Job, String> {

@@ -150,7 +150,7 @@ fn every_command_has_a_page() {
 
 #[test]
 fn wrong_arguments_print_the_usage_of_their_command() {
-    let cases: [(&[&str], &str); 16] = [
+    let cases: [(&[&str], &str); 19] = [
         (&["make"], "make LIST"),
         (&["make", "a", "b"], "make LIST"),
         (&["make", "--list", "a"], "make LIST"),
@@ -163,8 +163,11 @@ fn wrong_arguments_print_the_usage_of_their_command() {
         (&["keep", "1", "a", "--list"], "keep K FILE [JOB] [--list LIST]"),
         (&["keep", "1", "a", "--list", "b", "--list", "c"], "keep K FILE [JOB] [--list LIST]"),
         (&["keep", "1", "a", "--job", "b"], "keep K FILE [JOB] [--list LIST]"),
-        (&["plan"], "plan FILE"),
-        (&["plan", "a", "b"], "plan FILE"),
+        (&["plan"], "plan FILE [--mounted T]"),
+        (&["plan", "a", "b"], "plan FILE [--mounted T]"),
+        (&["plan", "a", "--mounted"], "plan FILE [--mounted T]"),
+        (&["plan", "a", "--mounted", "1", "--mounted", "2"], "plan FILE [--mounted T]"),
+        (&["picture", "a", "--mounted", "1"], "picture FILE"),
         (&["picture"], "picture FILE"),
         (&["help", "make", "show"], "make LIST"),
     ];
@@ -403,6 +406,24 @@ fn pipe_is_written_to_as_it_is() {
     program.args(["-c", pipe, "sh", env!("CARGO_BIN_EXE_parts")]);
     program.stdin(Stdio::null()).stdout(Stdio::piped()).stderr(Stdio::piped());
     assert_eq!(run_with(&mut program, b""), given(b"rack 1\n0 : 0\n"));
+}
+
+#[test]
+fn mounted_tip_is_named_before_the_file_or_behind_it() {
+    let plan = "lines 2 rack 3\noff 1 tips 0 1 2\nquick 0\nbest 0\nC1 quick 0 best 0\nC2 quick 2 best 2\n\n\
+                tips used quick 2 best 2\nparts on tip 0 quick 1 best 1\nparts on tip 2 quick 1 best 1\n\
+                pairs quick 0 best 0\ntip changes quick 1 best 1, parts placed tip by tip, tip 2 mounted\n";
+    for arguments in [["plan", "-", "--mounted", "2"], ["plan", "--mounted", "2", "-"]] {
+        assert_eq!(run(&arguments, LIST.as_bytes()), given(plan.as_bytes()));
+    }
+    let why = "-: refused 16: the mounted tip 3 is outside the rack of 3; name a tip from 0 to 2, or none";
+    assert_eq!(run(&["plan", "-", "--mounted", "3"], LIST.as_bytes()), refused(why));
+    let why = "-: refused 16: the mounted tip 63 is outside the rack of 1; name tip 0, or none";
+    assert_eq!(run(&["plan", "-", "--mounted", "63"], b"rack 1\n"), refused(why));
+    for tip in ["64", "-1", "x", "", "+1", "1.0", "18446744073709551615"] {
+        let why = format!("a tip is a number from 0 to 63, and not {tip}");
+        assert_eq!(run(&["plan", "-", "--mounted", tip], LIST.as_bytes()), wrong_argument(&why));
+    }
 }
 
 #[test]

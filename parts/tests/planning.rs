@@ -71,7 +71,7 @@ fn quantities_of_1_are_kept_as_version_1() {
     for k in [1, 2] {
         assert_eq!(longer.keep(k).unwrap().file, plain.keep(k).unwrap().file);
     }
-    assert!(longer.plan().unwrap().contains("\nline 3 quick 5 best 5\n\ntips used "));
+    assert!(longer.plan(None).unwrap().contains("\nline 3 quick 5 best 5\n\ntips used "));
 }
 
 #[test]
@@ -94,7 +94,7 @@ fn plan_names_both_tips_and_sums_up() {
          line 3 quick 2 best 2\n\n\
          tips used quick 2 best 2\nparts on tip 0 quick 2 best 2\nparts on tip 2 quick 2 best 2\n\
          pairs quick 2 best 2\ntip changes quick 1 best 1, parts placed tip by tip\n";
-    assert_eq!(named("rack 3\nA : 0\nB : 2\nC : 0-1\n: 1-2\n").plan(), Ok(text.into()));
+    assert_eq!(named("rack 3\nA : 0\nB : 2\nC : 0-1\n: 1-2\n").plan(None), Ok(text.into()));
 }
 
 #[test]
@@ -104,7 +104,7 @@ fn plan_names_the_line_that_is_no_run() {
          C quick 0 best -\nD quick 0 best -\n\n\
          tips used quick 3 best -\nparts on tip 0 quick 2 best -\nparts on tip 1 quick 1 best -\n\
          parts on tip 2 quick 1 best -\npairs quick 1 best -\ntip changes quick 2 best -, parts placed tip by tip\n";
-    assert_eq!(named("rack 3\nA : 1\nB : 2\nC : 0-1\nD : 0 2\n").plan(), Ok(text.into()));
+    assert_eq!(named("rack 3\nA : 1\nB : 2\nC : 0-1\nD : 0 2\n").plan(None), Ok(text.into()));
 }
 
 #[test]
@@ -114,14 +114,14 @@ fn tip_that_no_part_has_may_be_missing() {
                 D quick 4 best 4\n\n\
                 tips used quick 2 best 2\nparts on tip 2 quick 1 best 1\nparts on tip 4 quick 3 best 3\n\
                 pairs quick 3 best 3\ntip changes quick 1 best 1, parts placed tip by tip\n";
-    assert_eq!(named(board).plan(), Ok(text.into()));
+    assert_eq!(named(board).plan(None), Ok(text.into()));
     // The first part that is no run, the lowest tip that it lacks, and the first part that has it.
     for (more, why) in [
         ("E : 3\n", "A is no run: it lacks tip 3, which E has"),
         (": 1 4\nF : 3\nG : 3\n", "A is no run: it lacks tip 3, which F has"),
         (": 0-1\n: 0 4\n", "line 5 is no run: it lacks tip 1, which line 4 has"),
     ] {
-        let plan = named(&(board.to_string() + more)).plan().unwrap();
+        let plan = named(&(board.to_string() + more)).plan(None).unwrap();
         assert!(plan.contains(&format!("\nbest none, {why}\nA quick 4 best -\n")), "{plan}");
     }
 }
@@ -136,8 +136,8 @@ fn plan_counts_parts_and_placements() {
                 placements on tip 1 quick 2 best 2\npairs quick 79 best 79\n\
                 tip changes quick 1 best 1, parts placed tip by tip\n";
     let board = "rack 3\nA x10 : 0\nB x3 : 0-1\nC : 1-2\n: 1\n";
-    assert_eq!(named(board).plan(), Ok(text.into()));
-    let without = named(&board.replace(" x10", "").replace(" x3", "")).plan().unwrap();
+    assert_eq!(named(board).plan(None), Ok(text.into()));
+    let without = named(&board.replace(" x10", "").replace(" x3", "")).plan(None).unwrap();
     assert!(without.contains("\nB quick 1 best 1\n") && !without.contains("placements"), "{without}");
 }
 
@@ -147,7 +147,7 @@ fn most_placements_on_one_tip_are_planned() {
                 parts 1 placements 255\ntips used quick 1 best 1\nparts on tip 0 quick 1 best 1\n\
                 placements on tip 0 quick 255 best 255\npairs quick 32385 best 32385\n\
                 tip changes quick 0 best 0, parts placed tip by tip\n";
-    assert_eq!(named("rack 1\nA x255 : 0\n").plan(), Ok(text.into()));
+    assert_eq!(named("rack 1\nA x255 : 0\n").plan(None), Ok(text.into()));
     let most = "rack 64\n".to_string() + &"x255 : 0-63\n".repeat(8) + "x8 : 5\n";
     let summary = "parts 9 placements 2048\ntips used quick 1 best 1\nparts on tip 5 quick 9 best 9\n\
                    placements on tip 5 quick 2048 best 2048\npairs quick 2096128 best 2096128\n\
@@ -157,7 +157,7 @@ fn most_placements_on_one_tip_are_planned() {
 
 /// What stands below the empty line of a plan.
 fn summary_of(text: &str) -> String {
-    let plan = named(text).plan().unwrap();
+    let plan = named(text).plan(None).unwrap();
     plan.split_once("\n\n").expect("a summary").1.into()
 }
 
@@ -178,6 +178,44 @@ fn summary_counts_the_tips_of_either_plan() {
 }
 
 #[test]
+fn mounted_tip_wins_a_tie_and_spares_a_change_where_it_is_used() {
+    let board = named("rack 3\nA : 0\nB : 1-2\n");
+    for (mounted, tip) in [(None, 1), (Some(0), 1), (Some(1), 1), (Some(2), 2)] {
+        let plan = board.plan(mounted).unwrap();
+        assert!(plan.contains(&format!("\nA quick 0 best 0\nB quick {tip} best {tip}\n\n")), "{plan}");
+        let end = mounted.map_or(String::new(), |tip| format!(", tip {tip} mounted"));
+        assert!(plan.contains(&format!("\ntip changes quick 1 best 1, parts placed tip by tip{end}\n")), "{plan}");
+    }
+    // No part uses tip 1, so that it is changed at the start, unless there is no part.
+    let plan = named("rack 3\nA : 0\nB : 2\n").plan(Some(1)).unwrap();
+    assert!(plan.ends_with("\ntip changes quick 2 best 2, parts placed tip by tip, tip 1 mounted\n"), "{plan}");
+    let plan = named("rack 3\n").plan(Some(1)).unwrap();
+    assert!(plan.ends_with("\ntip changes quick 0 best 0, parts placed tip by tip, tip 1 mounted\n"), "{plan}");
+    // Without a best plan there is no number for it.
+    let plan = named("rack 3\nA : 1\nB : 0 2\n").plan(Some(2)).unwrap();
+    assert!(plan.contains("\nA quick 1 best -\nB quick 2 best -\n"), "{plan}");
+    assert!(plan.ends_with("\ntip changes quick 1 best -, parts placed tip by tip, tip 2 mounted\n"), "{plan}");
+}
+
+#[test]
+fn mounted_tip_may_change_the_pairs_of_quick_alone() {
+    let board = named("rack 3\nA : 0\nB : 2\nC : 0-1\nD : 1-2\n");
+    let pairs = |mounted| board.plans(mounted).map(|plans| (plans.quick.pairs, plans.best.map(|best| best.pairs)));
+    assert_eq!(pairs(None), Ok((2, Ok(2))));
+    assert_eq!(pairs(Some(1)), Ok((1, Ok(2))));
+    assert_eq!(pairs(Some(2)), Ok((2, Ok(2))));
+}
+
+#[test]
+fn mounted_tip_outside_the_rack_is_refused_in_words() {
+    let why = "refused 16: the mounted tip 3 is outside the rack of 3; name a tip from 0 to 2, or none";
+    assert_eq!(named("rack 3\nA : 0\n").plan(Some(3)), Err(why.into()));
+    // A bad file is told first.
+    let damaged = Named { file: b"TIP\x00\x01\x03\x00\x02\x00".to_vec(), list: None };
+    assert!(damaged.plan(Some(3)).unwrap_err().starts_with("refused 10: "));
+}
+
+#[test]
 fn summary_without_parts_has_no_tip_change() {
     let expected = "tips used quick 0 best 0\npairs quick 0 best 0\n\
                     tip changes quick 0 best 0, parts placed tip by tip\n";
@@ -190,6 +228,6 @@ fn damaged_files_are_refused_in_words() {
     let why =
         "refused 10: the file names 2 lines, which take 24 bytes, and has 9; hand over the whole file and no more";
     assert_eq!(damaged.keep(1).err(), Some(why.into()));
-    assert_eq!(damaged.plan(), Err(why.into()));
+    assert_eq!(damaged.plan(None), Err(why.into()));
     assert_eq!(damaged.picture(), Err(why.into()));
 }

@@ -8,6 +8,8 @@ use crate::refusal;
 pub const REPORT_SPACE: usize = 16_384;
 /// The places of an answer.
 pub const ANSWER_PLACES: usize = 4;
+/// The mounted tip where there is none.
+pub const NO_TIP: usize = usize::MAX;
 
 /// Writes the four places of an answer and hands the number on.
 fn answered(answer: &mut [u64], number: u32, places: [u64; ANSWER_PLACES]) -> u32 {
@@ -62,18 +64,23 @@ pub fn keep(file: &[u8], k: u16, out: &mut [u8], answer: &mut [u64]) -> u32 {
     })
 }
 
+/// The mounted tip of a call, where there is one.
+fn mounted_tip(mounted: usize) -> Option<usize> {
+    (mounted != NO_TIP).then_some(mounted)
+}
+
 /// Quick sharing: place, pairs, 0, 0.
-pub fn quick(file: &[u8], plan: &mut [u8], answer: &mut [u64]) -> u32 {
+pub fn quick(file: &[u8], mounted: usize, plan: &mut [u8], answer: &mut [u64]) -> u32 {
     on_board(file, answer, |board, answer| {
-        let quick = board.quick(plan);
+        let quick = board.quick(mounted_tip(mounted), plan);
         answered(answer, quick.number, [quick.place as u64, u64::from(quick.value), 0, 0])
     })
 }
 
 /// Best sharing: place, pairs, 0, 0.
-pub fn best(file: &[u8], plan: &mut [u8], table: &mut [u32], answer: &mut [u64]) -> u32 {
+pub fn best(file: &[u8], mounted: usize, plan: &mut [u8], table: &mut [u32], answer: &mut [u64]) -> u32 {
     on_board(file, answer, |board, answer| {
-        let best = board.best(plan, table);
+        let best = board.best(mounted_tip(mounted), plan, table);
         answered(answer, best.number, [best.place as u64, u64::from(best.value), 0, 0])
     })
 }

@@ -27,6 +27,8 @@ pub const FILE_LENGTH: u32 = 10;
 pub const SHORT_OUTPUT: u32 = 11;
 /// A line's quantity is 0.
 pub const ZERO_QUANTITY: u32 = 15;
+/// The mounted tip is outside the rack.
+pub const MOUNTED_OUTSIDE: u32 = 16;
 
 /// The board's rack size or number of lines is out of range.
 pub const OUT_OF_RANGE: u32 = 21;

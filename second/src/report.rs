@@ -26,10 +26,10 @@ fn write_report(file: &[u8], text: &mut Vec<u8>) -> std::io::Result<()> {
     let (rack, count) = (board.rack, board.count);
     let common = board.clone().common_tip().value;
     let mut quick_plan = [0; MOST_LINES];
-    let quick = board.clone().quick(&mut quick_plan);
+    let quick = board.clone().quick(None, &mut quick_plan);
     let mut best_plan = [0; MOST_LINES];
     let mut table = vec![0; MOST_TIPS * MOST_TIPS];
-    let best = board.best(&mut best_plan, &mut table);
+    let best = board.best(None, &mut best_plan, &mut table);
     let all_runs = best.number == refusal::NONE;
 
     writeln!(text, "lines {count} rack {rack}")?;

@@ -1,4 +1,4 @@
-//! Quick sharing by rounds, and best sharing of runs.
+//! Quick sharing by rounds, and best sharing of runs; on a tie the mounted tip wins, where there is one.
 
 use crate::board::{has, Answer, Board, Line, Stage, MOST_TIPS};
 use crate::refusal;
@@ -62,43 +62,77 @@ fn pairs_choosing(within: &[Line], table: &[u32], rack: usize, a: usize, b: usiz
     on_tip + below + above
 }
 
+/// Of tied tips, the lowest first, the mounted one where it is among them, else the lowest.
+fn chosen_of(tied: &[usize], mounted: Option<usize>) -> usize {
+    match mounted {
+        Some(tip) if tied.contains(&tip) => tip,
+        _ => tied[0],
+    }
+}
+
+/// What laying a best plan needs.
+struct Laying<'a> {
+    board: &'a Board,
+    mounted: Option<usize>,
+    /// The tips that some line names.
+    named: u64,
+    /// The most pairs of each stretch.
+    table: &'a [u32],
+}
+
 /// Lays the lines lying within the stretch a to b: first those on its tip, then the two stretches beside it.
-fn lay_stretch(board: &Board, named: u64, table: &[u32], plan: &mut [u8], a: usize, b: usize) {
+fn lay_stretch(laying: &Laying, plan: &mut [u8], a: usize, b: usize) {
+    let &Laying { board, mounted, named, table } = laying;
     let stretch = tips_from_to(a, b);
     if named & stretch == 0 {
         return;
     }
     let within = lines_within(board, a, b);
-    let mut c = a;
-    while !has(named, c) || pairs_choosing(&within, table, board.rack, a, b, c) != table[a * board.rack + b] {
-        c += 1;
+    let mut tied = Vec::new();
+    for c in a..=b {
+        if has(named, c) && pairs_choosing(&within, table, board.rack, a, b, c) == table[a * board.rack + b] {
+            tied.push(c);
+        }
     }
+    let c = chosen_of(&tied, mounted);
     for line in 0..board.count {
         if board.sets[line] & !stretch == 0 && has(board.sets[line], c) {
             plan[line] = c as u8;
         }
     }
     if c > a {
-        lay_stretch(board, named, table, plan, a, c - 1);
+        lay_stretch(laying, plan, a, c - 1);
     }
     if c < b {
-        lay_stretch(board, named, table, plan, c + 1, b);
+        lay_stretch(laying, plan, c + 1, b);
     }
 }
 
 impl Board {
-    /// Quick sharing: each round plans all lines of the tip that most unplanned placements allow.
-    pub fn quick(self, plan: &mut [u8]) -> Answer<u32> {
+    /// The refusal of a plan for the board's state, then for the mounted tip, then for the plan buffer; 0 for none.
+    fn refusal_of_plan(&self, mounted: Option<usize>, plan: &[u8]) -> (u32, usize) {
         let (number, place) = self.refusal_in(Stage::Closed);
+        if number != refusal::NONE {
+            return (number, place);
+        }
+        if mounted.is_some_and(|tip| tip >= self.rack) {
+            return (refusal::MOUNTED_OUTSIDE, 0);
+        }
+        if plan.len() < self.count {
+            return (refusal::SHORT_PLAN, 0);
+        }
+        (refusal::NONE, 0)
+    }
+
+    /// Quick sharing: each round plans all lines of the tip that most unplanned placements allow.
+    pub fn quick(self, mounted: Option<usize>, plan: &mut [u8]) -> Answer<u32> {
+        let (number, place) = self.refusal_of_plan(mounted, plan);
         if number != refusal::NONE {
             return Answer::refused_at(self, number, place);
         }
-        if plan.len() < self.count {
-            return Answer::refused(self, refusal::SHORT_PLAN);
-        }
         let mut planned = vec![false; self.count];
         while planned.contains(&false) {
-            let mut chosen = 0;
+            let mut tied = Vec::new();
             let mut most = 0;
             for tip in 0..self.rack {
                 let mut allowing = 0;
@@ -107,12 +141,15 @@ impl Board {
                         allowing += u32::from(self.quantities[line]);
                     }
                 }
-                // Only a larger number replaces the tip, so a tie goes to the lowest.
                 if allowing > most {
                     most = allowing;
-                    chosen = tip;
+                    tied.clear();
+                }
+                if allowing == most {
+                    tied.push(tip);
                 }
             }
+            let chosen = chosen_of(&tied, mounted);
             for line in 0..self.count {
                 if !planned[line] && has(self.sets[line], chosen) {
                     planned[line] = true;
@@ -125,15 +162,12 @@ impl Board {
     }
 
     /// Best sharing of lines that are runs among the named tips; the table ends with the most pairs of each stretch.
-    pub fn best(self, plan: &mut [u8], table: &mut [u32]) -> Answer<u32> {
-        let (number, place) = self.refusal_in(Stage::Closed);
+    pub fn best(self, mounted: Option<usize>, plan: &mut [u8], table: &mut [u32]) -> Answer<u32> {
+        let (number, place) = self.refusal_of_plan(mounted, plan);
         if number != refusal::NONE {
             return Answer::refused_at(self, number, place);
         }
         let m = self.rack;
-        if plan.len() < self.count {
-            return Answer::refused(self, refusal::SHORT_PLAN);
-        }
         if table.len() < m * m {
             return Answer::refused(self, refusal::SHORT_TABLE);
         }
@@ -160,7 +194,7 @@ impl Board {
                 table[a * m + b] = most;
             }
         }
-        lay_stretch(&self, named, table, plan, 0, m - 1);
+        lay_stretch(&Laying { board: &self, mounted, named, table }, plan, 0, m - 1);
         let pairs = table[m - 1];
         Answer::accepted(self, pairs)
     }

@@ -19,7 +19,7 @@ type Best = Result<(Vec<u8>, u32, Vec<u32>), usize>;
 fn best(board: &Board) -> Best {
     let mut plan = vec![0xA5; board.count];
     let mut table = vec![0xA5A5_A5A5; board.rack * board.rack];
-    let answer = board.clone().best(&mut plan, &mut table);
+    let answer = board.clone().best(None, &mut plan, &mut table);
     assert_eq!(&answer.board, board);
     match answer.number {
         0 => Ok((plan, answer.value, table)),

@@ -37,7 +37,7 @@ fn ten_lines() -> Board {
 fn quick(board: Board) -> (Vec<u8>, u32) {
     let count = board.count;
     let mut plan = vec![0xA5; count + 3];
-    let answer = accepted(board.clone().quick(&mut plan));
+    let answer = accepted(board.clone().quick(None, &mut plan));
     assert_eq!(answer.board, board);
     assert_eq!(plan[count..], [0xA5; 3]);
     plan.truncate(count);
@@ -51,7 +51,7 @@ fn best(board: Board) -> (Vec<u8>, u32, Vec<u32>) {
     let places = board.rack * board.rack;
     let mut plan = vec![0xA5; count + 3];
     let mut table = vec![0xA5A5_A5A5; places + 3];
-    let answer = accepted(board.clone().best(&mut plan, &mut table));
+    let answer = accepted(board.clone().best(None, &mut plan, &mut table));
     assert_eq!(answer.board, board);
     assert_eq!(plan[count..], [0xA5; 3]);
     assert_eq!(table[places..], [0xA5A5_A5A5; 3]);
@@ -96,7 +96,7 @@ fn b4_quick_reaches_half() {
 fn b5_best_needs_runs() {
     let mut plan = [7; 4];
     let mut table = [7; 9];
-    let answer = four_lines().best(&mut plan, &mut table);
+    let answer = four_lines().best(None, &mut plan, &mut table);
     assert_eq!((answer.number, answer.place, answer.value), (25, 3, 0));
     assert_eq!(answer.board, four_lines());
     assert_eq!((plan, table), ([7; 4], [7; 9]));

@@ -22,7 +22,7 @@ fn accepted<T>(answer: Answer<T>) -> Answer<T> {
 
 fn quick(board: &Board) -> (Vec<u8>, u32) {
     let mut plan = vec![0xA5; board.count];
-    let pairs = accepted(board.clone().quick(&mut plan)).value;
+    let pairs = accepted(board.clone().quick(None, &mut plan)).value;
     assert_eq!(pairs_in(&board.placed(&plan)), pairs);
     (plan, pairs)
 }
@@ -30,7 +30,7 @@ fn quick(board: &Board) -> (Vec<u8>, u32) {
 fn best(board: &Board) -> (Vec<u8>, u32, Vec<u32>) {
     let mut plan = vec![0xA5; board.count];
     let mut table = vec![0xA5A5_A5A5; board.rack * board.rack];
-    let pairs = accepted(board.clone().best(&mut plan, &mut table)).value;
+    let pairs = accepted(board.clone().best(None, &mut plan, &mut table)).value;
     assert_eq!(pairs_in(&board.placed(&plan)), pairs);
     (plan, pairs, table)
 }

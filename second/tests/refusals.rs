@@ -119,8 +119,8 @@ fn assert_closed_calls_refused(board: &Board, number: u32, place: usize) {
         assert_refused(board.clone().common_tip(), board, number, place, Default::default());
         assert_refused(board.clone().keep_within(0), board, number, place, 0);
         assert_refused(board.clone().keep_within(u16::MAX), board, number, place, 0);
-        assert_refused(board.clone().quick(&mut plan), board, number, place, 0);
-        assert_refused(board.clone().best(&mut plan, &mut table), board, number, place, 0);
+        assert_refused(board.clone().quick(None, &mut plan), board, number, place, 0);
+        assert_refused(board.clone().best(None, &mut plan, &mut table), board, number, place, 0);
         assert_refused(board.clone().write(&mut out), board, number, place, 0);
         assert!(plan.iter().all(|&byte| byte == 7));
         assert!(table.iter().all(|&place| place == 7));
@@ -221,19 +221,19 @@ fn short_buffers() {
     for length in 0..2 {
         let mut plan = vec![7; length];
         let mut table = vec![7; 9];
-        assert_refused(board.clone().quick(&mut plan), &board, 4, 0, 0);
-        assert_refused(board.clone().best(&mut plan, &mut table), &board, 4, 0, 0);
+        assert_refused(board.clone().quick(None, &mut plan), &board, 4, 0, 0);
+        assert_refused(board.clone().best(None, &mut plan, &mut table), &board, 4, 0, 0);
         // The plan is looked at before the table.
-        assert_refused(board.clone().best(&mut plan, &mut table[..8]), &board, 4, 0, 0);
+        assert_refused(board.clone().best(None, &mut plan, &mut table[..8]), &board, 4, 0, 0);
         assert_eq!((plan, table), (vec![7; length], vec![7; 9]));
     }
     let no_runs = Board::of_sets(3, &[0b010, 0b101]);
     for length in 0..9 {
         let mut plan = vec![7; 2];
         let mut table = vec![7; length];
-        assert_refused(board.clone().best(&mut plan, &mut table), &board, 5, 0, 0);
+        assert_refused(board.clone().best(None, &mut plan, &mut table), &board, 5, 0, 0);
         // The table is looked at before the runs.
-        assert_refused(no_runs.clone().best(&mut plan, &mut table), &no_runs, 5, 0, 0);
+        assert_refused(no_runs.clone().best(None, &mut plan, &mut table), &no_runs, 5, 0, 0);
         assert_eq!((plan, table), (vec![7; 2], vec![7; length]));
     }
     // By the length of the version that is written.
@@ -257,7 +257,7 @@ fn no_run_names_the_first_such_line() {
         board.sets[line..512.min(line + 511)].fill(1 | 1 << 63);
         let mut plan = [7; 512];
         let mut table = [7; 4096];
-        assert_refused(board.clone().best(&mut plan, &mut table), &board, 25, line, 0);
+        assert_refused(board.clone().best(None, &mut plan, &mut table), &board, 25, line, 0);
         assert_eq!((plan, table), ([7; 512], [7; 4096]));
     }
 }
@@ -298,8 +298,8 @@ fn assert_not_read(file: &[u8], number: u32, place: usize) {
             &mut |answer| interface::read(file, answer),
             &mut |answer| interface::common(file, answer),
             &mut |answer| interface::keep(file, 0, &mut out, answer),
-            &mut |answer| interface::quick(file, &mut other_plan, answer),
-            &mut |answer| interface::best(file, &mut plan, &mut table, answer),
+            &mut |answer| interface::quick(file, interface::NO_TIP, &mut other_plan, answer),
+            &mut |answer| interface::best(file, interface::NO_TIP, &mut plan, &mut table, answer),
         ];
         for call in calls {
             let mut answer = [9; 6];
@@ -479,8 +479,8 @@ fn interface_answers() {
             assert_eq!(interface::read(input, &mut answer), 100);
             assert_eq!(interface::common(input, &mut answer), 100);
             assert_eq!(interface::keep(input, 1, &mut out, &mut answer), 100);
-            assert_eq!(interface::quick(input, &mut plan, &mut answer), 100);
-            assert_eq!(interface::best(input, &mut plan, &mut table, &mut answer), 100);
+            assert_eq!(interface::quick(input, interface::NO_TIP, &mut plan, &mut answer), 100);
+            assert_eq!(interface::best(input, interface::NO_TIP, &mut plan, &mut table, &mut answer), 100);
         }
         assert_eq!((answer, plan, out, table), (vec![9; places], [7; 2], [7; 24], [7; 9]));
     }

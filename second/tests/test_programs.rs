@@ -13,21 +13,22 @@ mod boards;
 mod calls;
 #[path = "test_programs/counts.rs"]
 mod counts;
-#[path = "test_programs/files.rs"]
-mod files;
 #[path = "test_programs/junk.rs"]
 mod junk;
-#[path = "test_programs/records.rs"]
-mod records;
 #[path = "test_programs/small.rs"]
 mod small;
 #[path = "test_programs/sorts.rs"]
 mod sorts;
 
+/// A file of a test program.
+fn file_of(program: &str, file: &str) -> String {
+    let kept = Path::new(env!("CARGO_MANIFEST_DIR")).join("../crates").join(program).join(file);
+    std::fs::read_to_string(kept).expect(program)
+}
+
 /// The kept output of a test program.
 fn printed_by(program: &str) -> String {
-    let kept = Path::new(env!("CARGO_MANIFEST_DIR")).join("../crates").join(program).join("stdout");
-    std::fs::read_to_string(kept).expect(program)
+    file_of(program, "stdout")
 }
 
 /// Whole texts are compared, lines only to name the first that differs.
@@ -41,17 +42,7 @@ fn assert_same(printed: &str, worked_out: &[String]) {
 
 #[test]
 fn calls() {
-    assert_same(&printed_by("try_calls"), &calls::lines());
-}
-
-#[test]
-fn files() {
-    assert_same(&printed_by("try_files"), &files::lines());
-}
-
-#[test]
-fn records() {
-    assert_same(&printed_by("try_records"), &records::lines());
+    assert_same(&printed_by("try_calls"), &calls::lines(&file_of("try_calls", "stdin")));
 }
 
 #[test]

@@ -29,7 +29,7 @@ use Rattle.job.specs.Before.{plainFileOf}
 use Rattle.job.proofs.Writing.{version-one}
 use Rattle.job.proofs.Before.{written-before}
 use Rattle.call_refusals.specs.declared.Stage.the-variants.{Open, Closed}
-use Rattle.call_refusals.specs.Calls.{addRefusal, keepRefusal, planRefusal, bestRefusal, writeRefusal}
+use Rattle.call_refusals.specs.Calls.{addRefusal, keepRefusal, mountedRefusal, planRefusal, bestRefusal, writeRefusal}
 use Rattle.call_refusals.proofs.Calls.{keep-none}
 use Rattle.line_calls.specs.Lines
 use Rattle.line_calls.specs.Lines.{planAnswer}
@@ -77,14 +77,14 @@ pub record AsBefore (b : Board) (r : Refusal) (m : ℕ) (lines : List ℕ) : Typ
   pub add : (s : ℕ) → addOf b s 1 ≡ addedBefore b (stateRefusal Open b) s
   pub common-tip : commonOf b ≡ commonBefore b r m lines
   pub keep : (k : ℕ) → keepOf b k ≡ keptBefore b r m lines k
-  pub quick : (room : ℕ) → quickOf b room ≡ shared b (planAnswer (planRefusal r (length lines) room) (pairs (quickPlan bare m lines)))
+  pub quick : (room : ℕ) → quickOf b bare room ≡ shared b (planAnswer (planRefusal r (length lines) room) (pairs (quickPlan bare m lines)))
   pub quick-plan : (plan : List ℕ)
-      → quickBuffer b plan ≡ lentBy (planRefusal r (length lines) (length plan)) (length lines) (quickPlan bare m lines) plan
-  pub best : (room places : ℕ) → bestOf b room places ≡ shared b (planAnswer (bestRefusal r m lines room places) (C lines 0 m))
+      → quickBuffer b bare plan ≡ lentBy (planRefusal r (length lines) (length plan)) (length lines) (quickPlan bare m lines) plan
+  pub best : (room places : ℕ) → bestOf b bare room places ≡ shared b (planAnswer (bestRefusal r m lines room places) (C lines 0 m))
   pub best-plan : (plan : List ℕ) (places : ℕ)
-      → bestBuffer b plan places ≡ lentBy (bestRefusal r m lines (length plan) places) (length lines) (bestPlan bare m lines) plan
+      → bestBuffer b bare plan places ≡ lentBy (bestRefusal r m lines (length plan) places) (length lines) (bestPlan bare m lines) plan
   pub best-table : (room : ℕ) (cells : List ℕ)
-      → bestTable b room cells ≡ lentBy (bestRefusal r m lines room (length cells)) (m * m) (table m lines) cells
+      → bestTable b bare room cells ≡ lentBy (bestRefusal r m lines room (length cells)) (m * m) (table m lines) cells
   pub write : (room : ℕ) → writeOf b room ≡ writtenBefore b r lines room
   pub write-file : (out : List ℕ)
       → writeBuffer b out ≡ lentBy (writeRefusal r 1 (length lines) (length out)) (fileLength 1 (length lines)) (plainFileOf m lines) out
@@ -160,7 +160,7 @@ module _ (b : Board) (full : Full b) (ones : All (λ q. q ≡ 1) (quantitiesOf b
 
   pub ones-as-before : AsBefore b (stateRefusal Closed b) m lines
   unfolding commonOf quickOf quickBuffer bestOf bestBuffer bestTable writeOf writeBuffer Lines.commonOf Lines.quickOf Lines.quickBuffer
-      Lines.bestOf Lines.bestBuffer Lines.bestTable Lines.writeOf Lines.writeBuffer
+      Lines.bestOf Lines.bestBuffer Lines.bestTable Lines.writeOf Lines.writeBuffer mountedRefusal
   ones-as-before = record {
     add = add-before;
     common-tip = rw (placements, all) refl;

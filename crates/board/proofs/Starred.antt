@@ -16,7 +16,7 @@ use Rattle.refusal.specs.Refusal.{orElse, scan}
 use Rattle.job.specs.Job.{lineNumber}
 use Rattle.sound.specs.Sound.{countOk, firstWrong, firstHeld, soundRefusal}
 use Rattle.call_refusals.specs.State.{stageRefusal, stateRefusal}
-use Rattle.call_refusals.specs.Calls.{addRefusal, keepRefusal, planRefusal, bestRefusal}
+use Rattle.call_refusals.specs.Calls.{addRefusal, keepRefusal, mountedRefusal, planRefusal, bestRefusal}
 use Rattle.line_calls.specs.Lines
 use Rattle.board.specs.Board.{addOf, closeOf}
 use Rattle.board.specs.Common.{commonOf, keepOf}
@@ -27,15 +27,17 @@ use Rattle.board.specs.Rows.{B15-rack-0, B15-rack-65, B16-count-513, B16
 use Rattle.board.specs.Rows.{B18-last, B18-both, B19-21, B19-27, B19-27-open, B19-27-closed, B19-28-closed}
 use Rattle.board.specs.Rows.{B20-quick, B20-best, B21-common, B21-keep-0, B21-keep-1, B21-keep-2, B21-keep-3, B21-keep-4, B22-quick, B23-quick}
 use Rattle.board.specs.Rows.{B23-best, B24-none, B24-bad-set, B24-last, B24-over, B25-none, B25-over, B25-first, B26-next, B26-after-set}
-use Rattle.board.specs.Rows.{B27-common, B27-best, B31-best, B32-best, B33-best, B34-best, B35-best}
+use Rattle.board.specs.Rows.{B27-common, B27-best, B31-best, B32-best, B33-best, B34-best, B35-best, B36-quick-0, B36-quick-2}
+use Rattle.board.specs.Rows.{B36-best-1, B36-best-2, B37-quick, B37-best, B38-quick, B39-none, B39-best, B40-quick, B40-best, B41-quick}
+use Rattle.board.specs.Rows.{B41-best, B41-open}
 
 pub starred : All Gives rows
 unfolding run addOf closeOf commonOf keepOf quickOf quickBuffer bestOf bestBuffer bestTable Lines.commonOf Lines.keepOf Lines.keptSets
-    Lines.quickOf Lines.quickBuffer Lines.bestOf Lines.bestBuffer Lines.bestTable addRefusal keepRefusal planRefusal bestRefusal orElse scan
-    stageRefusal stateRefusal soundRefusal firstWrong firstHeld firstOver countOk rackOk isDomain inRack each firstFail lineNumber total repeated
-    margin pruneQ zipWith keptQ scarce commonWithin narrowed covers every W setOf top largest occ has count quickPlanQ quickTip rounds first
-    busiest choice lowestAt select pairs uses table listOf bestPlanQ bestTip tipBy pickOf worth from named C most lies inside low high fills isRunOf
-    choose2 leadingZeros trailingZeros
+    Lines.quickOf Lines.quickBuffer Lines.bestOf Lines.bestBuffer Lines.bestTable addRefusal keepRefusal mountedRefusal planRefusal bestRefusal
+    orElse scan stageRefusal stateRefusal soundRefusal firstWrong firstHeld firstOver countOk rackOk isDomain inRack each firstFail lineNumber
+    total repeated margin pruneQ zipWith keptQ scarce commonWithin narrowed covers every W setOf top largest occ has count quickPlanQ quickTip
+    rounds first busiest choice lowestAt select pairs uses table listOf bestPlanQ bestTip tipBy pickOf worth from named C most lies inside low
+    high choose2 leadingZeros trailingZeros fills isRunOf
 starred =
     more {x = B1-common} refl
     (more {x = B1-keep} refl
@@ -90,7 +92,21 @@ starred =
     (more {x = B32-best} refl
     (more {x = B33-best} refl
     (more {x = B34-best} refl
-    (more {x = B35-best} refl none)))))))))))))))))))))))))))))))))))))))))))))))))))))
+    (more {x = B35-best} refl
+    (more {x = B36-quick-0} refl
+    (more {x = B36-quick-2} refl
+    (more {x = B36-best-1} refl
+    (more {x = B36-best-2} refl
+    (more {x = B37-quick} refl
+    (more {x = B37-best} refl
+    (more {x = B38-quick} refl
+    (more {x = B39-none} refl
+    (more {x = B39-best} refl
+    (more {x = B40-quick} refl
+    (more {x = B40-best} refl
+    (more {x = B41-quick} refl
+    (more {x = B41-best} refl
+    (more {x = B41-open} refl none)))))))))))))))))))))))))))))))))))))))))))))))))))))))))))))))))))
 
 pub half-reached : HalfReached
 unfolding has pairs uses count

@@ -18,7 +18,7 @@ use Rattle.refusal.specs.declared.Refusal.{Refusal}
 use Rattle.refusal.specs.Refusal.{orElse, when, scan, lentBy}
 use Rattle.refusal.proofs.Laws.{or-same, scan-passes}
 use Rattle.call_refusals.specs.declared.Stage.the-variants.{Closed}
-use Rattle.call_refusals.specs.Calls.{planRefusal, bestRefusal}
+use Rattle.call_refusals.specs.Calls.{mountedRefusal, planRefusal, bestRefusal}
 use Rattle.call_refusals.proofs.Calls.{plan-none, best-none}
 use Rattle.line_calls.specs.Lines
 use Rattle.line_calls.specs.Lines.{planAnswer}
@@ -39,12 +39,12 @@ tableBefore m lines = listOf (λ k. mostOf any lines (k / m) (k % m + 1 - k / m)
 
 pub record AsBefore (b : Board) (r : Refusal) (m : ℕ) (qs lines : List ℕ) : Type 0 where
   pub best : (room places : ℕ)
-      → bestOf b room places ≡ shared b (planAnswer (refusalBefore r m lines room places) (mostOf any (repeated qs lines) 0 m))
+      → bestOf b bare room places ≡ shared b (planAnswer (refusalBefore r m lines room places) (mostOf any (repeated qs lines) 0 m))
   pub best-plan : (plan : List ℕ) (places : ℕ)
-      → bestBuffer b plan places
+      → bestBuffer b bare plan places
       ≡ lentBy (refusalBefore r m lines (length plan) places) (length lines) (planFor bare any m (repeated qs lines) lines) plan
   pub best-table : (room : ℕ) (cells : List ℕ)
-      → bestTable b room cells ≡ lentBy (refusalBefore r m lines room (length cells)) (m * m) (tableBefore m (repeated qs lines)) cells
+      → bestTable b bare room cells ≡ lentBy (refusalBefore r m lines room (length cells)) (m * m) (tableBefore m (repeated qs lines)) cells
 
 module _ (b : Board) (full : Full b) (unbroken : All (λ s. T (isRun s)) (linesOf b)) where
   abbrev m : ℕ
@@ -83,7 +83,7 @@ module _ (b : Board) (full : Full b) (unbroken : All (λ s. T (isRun s)) (linesO
 
   -- UNBROKEN RUNS KEEP PAIRS, PLANS AND TABLES
   pub unbroken-as-before : AsBefore b (stateRefusal Closed b) (b .rack) (quantitiesOf b) (linesOf b)
-  unfolding bestOf bestBuffer bestTable Lines.bestOf Lines.bestBuffer Lines.bestTable C
+  unfolding bestOf bestBuffer bestTable Lines.bestOf Lines.bestBuffer Lines.bestTable C mountedRefusal
   unbroken-as-before = record {
     best = λ room places. rw (← refusal-before room places, ← C-any (repeated qs lines) 0 m) refl;
     best-plan = λ plan places. rw (← refusal-before (length plan) places) (plan-before plan places);

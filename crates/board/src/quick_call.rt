@@ -2,14 +2,16 @@
 use crate::Board;
 use crate::Shared;
 use crate::Stage;
+use head::Mounted;
 ghost use mathlib.Core.Path.{_≡_};
 ghost use lib.ListN.{length};
+ghost use Rattle.head.specs.OnHead.{onHead};
 ghost use Rattle.board.specs.Sharing.{quickOf, quickBuffer, HalfRule};
 
 impl Board {
-    pub fn quick(self, plan: &mut [u8]) -> Shared
-        ensures answer { λ r. ⌜ r ≡ quickOf self (length (now (plan .entry))) ⌝ }
-        ensures buffer { λ _. ⌜ now (plan .exit) ≡ quickBuffer self (now (plan .entry)) ⌝ }
+    pub fn quick(self, mounted: Mounted, plan: &mut [u8]) -> Shared
+        ensures answer { λ r. ⌜ r ≡ quickOf self (onHead mounted) (length (now (plan .entry))) ⌝ }
+        ensures buffer { λ _. ⌜ now (plan .exit) ≡ quickBuffer self (onHead mounted) (now (plan .entry)) ⌝ }
         ensures rule { λ r. ⌜ HalfRule self (now (plan .exit)) r ⌝ }
     {
         let stage = self.stage;
@@ -23,7 +25,16 @@ impl Board {
             &left,
             &quantities,
         );
-        let laid = line_calls::quick(state, self.rack, self.count, &mut left, &quantities, plan);
+        let refusal = call_refusals::mounted_refusal(state, self.rack, mounted);
+        let laid = line_calls::quick(
+            refusal,
+            self.rack,
+            mounted,
+            self.count,
+            &mut left,
+            &quantities,
+            plan,
+        );
         Shared {
             board: self,
             number: laid.refusal.number,

@@ -1,7 +1,7 @@
 -- What is known where a call is not refused.
 use Prim.Native.Nat.{ℕ, _+_, _*_, _≤_, _<_}
-use mathlib.Core.Path.{_≡_, refl, ap}
-use mathlib.Core.Bool.{Bool, false}
+use mathlib.Core.Path.{_≡_, refl, sym, ap, _∙_}
+use mathlib.Core.Bool.{Bool, true, false, cond}
 use mathlib.Core.List.{List}
 use mathlib.Core.Logic.{⊎-elim}
 use native.Mathlib.Omega.{arith}
@@ -13,8 +13,9 @@ use mir.Syntax.{w32}
 use mir.Val.{SFits, toZ, ofZ}
 use mir.ValLaws.{toZ-ofZ}
 use lib.ListN.{length, getD}
-use borrow.Author.Tests.{eq-eqb, ne-eqb, eqb-false, lt-ltb, le-ltb, ltb-false}
+use borrow.Author.Tests.{eq-eqb, ne-eqb, eqb-true, eqb-false, lt-ltb, le-ltb, ltb-false}
 use Rattle.model.specs.Count.{All, firstFail}
+use Rattle.model.specs.Choice.{Mounted, bare}
 use Rattle.model.specs.Plan.{Domain}
 use Rattle.model.specs.Interval.{named, isRunOf, Misses}
 use Rattle.model.specs.Limits.{mostTips, mostLines, mostPlacements}
@@ -23,11 +24,12 @@ use Rattle.model.proofs.Lists.{all-at}
 use Rattle.model.proofs.Fails.{none-fails, fails-at, fails-first}
 use Rattle.model.proofs.Run.{run-misses, broken-misses}
 use Rattle.refusal.specs.declared.Refusal.{Refusal}
-use Rattle.refusal.specs.Refusal.{refuse, orElse, when, scan}
-use Rattle.refusal.proofs.Laws.{or-none, when-none, scan-none, scan-passes, scan-at}
+use Rattle.refusal.specs.Refusal.{refuse, accepts, orElse, when, scan}
+use Rattle.refusal.proofs.Laws.{or-first, or-next, or-none, when-none, scan-none, scan-passes, scan-at}
 use Rattle.job.specs.Job.{fileLength, lineNumber}
 use Rattle.job.proofs.Reading.{line-number}
-use Rattle.call_refusals.specs.Calls.{addRefusal, isNegative, keepRefusal, planRefusal, runRefusal, bestRefusal, writeRefusal}
+use Rattle.call_refusals.specs.Calls.{addRefusal, isNegative, keepRefusal, isOutside, mountedRefusal}
+use Rattle.call_refusals.specs.Calls.{planRefusal, runRefusal, bestRefusal, writeRefusal}
 
 -- the code's test of the sign of a number of 32 bits
 pub sign-test : (y : ℤ) → SFits w32 y → ltZ (toZ w32 (ofZ w32 y)) (pos 0) ≡ isNegative y
@@ -102,6 +104,47 @@ module _ (earlier : Refusal) where
   keep-none margin z =
       let (free, rest) = or-none earlier (when (isNegative margin) 26) z in
       (free, when-none (isNegative margin) 26 (λ e. omega arith) rest)
+
+  -- nothing is refused before, and the mounted tip is in the rack
+  pub mounted-none : (m : ℕ) (mounted : Mounted) → (mountedRefusal earlier m mounted) .number ≡ 0
+      → (earlier .number ≡ 0) × (isOutside m mounted ≡ false)
+  unfolding mountedRefusal
+  mounted-none m mounted = by (isOutside m mounted)
+    where
+      by : (t : Bool) → (cond {A = Refusal} t (orElse earlier (refuse 16)) earlier) .number ≡ 0 → (earlier .number ≡ 0) × (t ≡ false)
+      by true z = absurd (omega (arith, or-none earlier (refuse 16) z .1))
+      by false z = (z, refl)
+
+  -- an earlier refusal stays; else the mounted tip decides
+  pub mounted-earlier : (m : ℕ) (mounted : Mounted) → (earlier .number ≡ 0 → ⊥) → earlier ≡ mountedRefusal earlier m mounted
+  unfolding mountedRefusal
+  mounted-earlier m mounted n = by (isOutside m mounted)
+    where
+      by : (t : Bool) → earlier ≡ cond {A = Refusal} t (orElse earlier (refuse 16)) earlier
+      by true = or-first refl (refuse 16) n
+      by false = refl
+
+  pub mounted-outside : (m : ℕ) (mounted : Mounted) → earlier .number ≡ 0 → isOutside m mounted ≡ true
+      → refuse 16 ≡ mountedRefusal earlier m mounted
+  unfolding mountedRefusal
+  mounted-outside m mounted z e = or-next {d = earlier} refl (refuse 16) z refl ∙ rw e
+
+  pub mounted-inside : (m : ℕ) (mounted : Mounted) → isOutside m mounted ≡ false → earlier ≡ mountedRefusal earlier m mounted
+  unfolding mountedRefusal
+  mounted-inside m mounted e = rw e
+
+  -- the rack counts only where nothing is refused before
+  pub mounted-same : {m n : ℕ} (mounted : Mounted) → (earlier .number ≡ 0 → m ≡ n) → mountedRefusal earlier m mounted ≡ mountedRefusal earlier n mounted
+  mounted-same {m} {n} mounted same = by (accepts earlier) refl
+    where
+      by : (t : Bool) → accepts earlier ≡ t → mountedRefusal earlier m mounted ≡ mountedRefusal earlier n mounted
+      by true e = rw (same (eqb-true (earlier .number) 0 e)) refl
+      by false e = let h = eqb-false (earlier .number) 0 e in sym (mounted-earlier m mounted h) ∙ mounted-earlier n mounted h
+
+  -- without a mounted tip nothing more is refused
+  pub mounted-bare : (m : ℕ) → mountedRefusal earlier m bare ≡ earlier
+  unfolding mountedRefusal
+  mounted-bare m = refl
 
   -- the plan buffer has a byte a line
   pub plan-none : (n room : ℕ) → (planRefusal earlier n room) .number ≡ 0 → (earlier .number ≡ 0) × (n ≤ room)

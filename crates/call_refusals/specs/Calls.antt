@@ -1,11 +1,12 @@
 -- What each call asks after an earlier refusal: that of the board's state, or that of the job file that was read.
 use Prim.Native.Nat.{ℕ, _+_, _*_}
-use mathlib.Core.Bool.{Bool, true, false}
+use mathlib.Core.Bool.{Bool, true, false, cond}
 use mathlib.Core.List.{List}
-use lib.Dec.{eqb, ltb}
+use lib.Dec.{eqb, ltb, leb}
 use lib.IntN.{ℤ, pos, negsuc}
 use lib.ListN.{length}
 use Rattle.model.specs.Limits.{mostLines, mostPlacements}
+use Rattle.model.specs.Choice.{Mounted, bare, tip}
 use Rattle.model.specs.Interval.{named, isRunOf}
 use Rattle.refusal.specs.declared.Refusal.{Refusal}
 use Rattle.refusal.specs.Refusal.{refuse, orElse, when, scan}
@@ -23,6 +24,15 @@ isNegative (negsuc n) = true
 -- keep: a margin below zero
 unfoldable pub keepRefusal : Refusal → ℤ → Refusal
 keepRefusal earlier margin = orElse earlier (when (isNegative margin) 26)
+
+-- the mounted tip is outside a rack of m tips
+abbrev pub isOutside : ℕ → Mounted → Bool
+isOutside m bare = false
+isOutside m (tip t) = leb m t
+
+-- quick and best, before the rest: a mounted tip outside the rack; without a mounted tip nothing is asked
+unfoldable pub mountedRefusal : Refusal → ℕ → Mounted → Refusal
+mountedRefusal earlier m mounted = cond (isOutside m mounted) (orElse earlier (refuse 16)) earlier
 
 -- a plan: a buffer of room bytes that is shorter than the n lines
 unfoldable pub planRefusal : Refusal → ℕ → ℕ → Refusal

@@ -5,7 +5,10 @@ ghost use lib.ListN.{length, take};
 ghost use Rattle.model.specs.Limits.{mostTips, mostLines, mostPlacements};
 ghost use Rattle.placements.specs.Repeated.{total};
 ghost use Rattle.call_refusals.specs.State.{stageRefusal, stateRefusal};
-ghost use Rattle.call_refusals.specs.Calls.{addRefusal, keepRefusal, planRefusal, runRefusal, bestRefusal, writeRefusal};
+ghost use Rattle.head.specs.OnHead.{onHead};
+ghost use Rattle.call_refusals.specs.Calls.{isOutside, addRefusal, keepRefusal, mountedRefusal};
+ghost use Rattle.call_refusals.specs.Calls.{planRefusal, runRefusal, bestRefusal, writeRefusal};
+use head::Mounted;
 use refusal::Refusal;
 
 pub enum Stage {
@@ -80,6 +83,28 @@ pub fn keep_refusal(earlier: Refusal, margin: i32) -> Refusal
         return earlier;
     }
     refusal::refuse_when(margin < 0, 26)
+}
+
+fn is_outside(rack: usize, mounted: Mounted) -> bool
+    ensures { λ r. ⌜ r ≡ isOutside rack (onHead mounted) ⌝ }
+{
+    match mounted {
+        Mounted::Nothing => false,
+        Mounted::Tip(tip) => rack <= tip,
+    }
+}
+
+// Quick and best ask this before the rest: a mounted tip outside the rack.
+pub fn mounted_refusal(earlier: Refusal, rack: usize, mounted: Mounted) -> Refusal
+    ensures { λ r. ⌜ r ≡ mountedRefusal earlier rack (onHead mounted) ⌝ }
+{
+    if earlier.number != 0 {
+        return earlier;
+    }
+    if is_outside(rack, mounted) {
+        return refusal::refuse(16);
+    }
+    earlier
 }
 
 // A plan buffer of `room` bytes that is shorter than the lines.

@@ -6,6 +6,7 @@ use mathlib.Core.List.{List}
 use native.Mathlib.Omega.{arith}
 use lib.Dec.{eqb}
 use lib.IntN.{ℤ}
+use Rattle.model.specs.Choice.{Mounted}
 use Rattle.model.specs.CommonTip.{margin}
 use Rattle.placements.specs.Repeated.{repeated}
 use Rattle.placements.specs.Keep.{pruneQ}
@@ -15,7 +16,7 @@ use Rattle.refusal.proofs.Laws.{accepted, by-number}
 use Rattle.job.specs.Job.{rackIn, setsIn, quantitiesIn, readRefusal}
 use Rattle.job.proofs.Reading.{read-none}
 use Rattle.call_refusals.specs.declared.Stage.the-variants.{Closed}
-use Rattle.call_refusals.specs.Calls.{isNegative, keepRefusal, writeRefusal}
+use Rattle.call_refusals.specs.Calls.{isNegative, keepRefusal, mountedRefusal, writeRefusal}
 use Rattle.line_calls.specs.Lines
 use Rattle.board.specs.declared.Board.{Board}
 use Rattle.board.specs.declared.Answer.{Answer}
@@ -106,25 +107,25 @@ module _ (file : List ℕ) (b : Board) (given : readOf file ≡ answer b none) w
   unfolding commonIn commonOf
   common-as-board = on-board (λ r m q l. commonOutcome (Lines.commonOf r m q l))
 
-  pub quick-as-board : (room : ℕ) → quickIn file room ≡ ofShared (quickOf b room)
+  pub quick-as-board : (mounted : Mounted) (room : ℕ) → quickIn file mounted room ≡ ofShared (quickOf b mounted room)
   unfolding quickIn quickOf
-  quick-as-board room = on-board (λ r m q l. planOutcome (Lines.quickOf r m q l room))
+  quick-as-board mounted room = on-board (λ r m q l. planOutcome (Lines.quickOf (mountedRefusal r m mounted) m mounted q l room))
 
-  pub quick-plan-as-board : (plan : List ℕ) → quickPlanIn file plan ≡ quickBuffer b plan
+  pub quick-plan-as-board : (mounted : Mounted) (plan : List ℕ) → quickPlanIn file mounted plan ≡ quickBuffer b mounted plan
   unfolding quickPlanIn quickBuffer
-  quick-plan-as-board plan = on-board (λ r m q l. Lines.quickBuffer r m q l plan)
+  quick-plan-as-board mounted plan = on-board (λ r m q l. Lines.quickBuffer (mountedRefusal r m mounted) m mounted q l plan)
 
-  pub best-as-board : (room places : ℕ) → bestIn file room places ≡ ofShared (bestOf b room places)
+  pub best-as-board : (mounted : Mounted) (room places : ℕ) → bestIn file mounted room places ≡ ofShared (bestOf b mounted room places)
   unfolding bestIn bestOf
-  best-as-board room places = on-board (λ r m q l. planOutcome (Lines.bestOf r m q l room places))
+  best-as-board mounted room places = on-board (λ r m q l. planOutcome (Lines.bestOf (mountedRefusal r m mounted) m q l room places))
 
-  pub best-plan-as-board : (plan : List ℕ) (places : ℕ) → bestPlanIn file plan places ≡ bestBuffer b plan places
+  pub best-plan-as-board : (mounted : Mounted) (plan : List ℕ) (places : ℕ) → bestPlanIn file mounted plan places ≡ bestBuffer b mounted plan places
   unfolding bestPlanIn bestBuffer
-  best-plan-as-board plan places = on-board (λ r m q l. Lines.bestBuffer r m q l plan places)
+  best-plan-as-board mounted plan places = on-board (λ r m q l. Lines.bestBuffer (mountedRefusal r m mounted) m mounted q l plan places)
 
-  pub best-table-as-board : (room : ℕ) (cells : List ℕ) → bestTableIn file room cells ≡ bestTable b room cells
+  pub best-table-as-board : (mounted : Mounted) (room : ℕ) (cells : List ℕ) → bestTableIn file mounted room cells ≡ bestTable b mounted room cells
   unfolding bestTableIn bestTable
-  best-table-as-board room cells = on-board (λ r m q l. Lines.bestTable r m q l room cells)
+  best-table-as-board mounted room cells = on-board (λ r m q l. Lines.bestTable (mountedRefusal r m mounted) m q l room cells)
 
   -- the arrays of the board have a place for each line
   full : Full b

@@ -5,7 +5,10 @@ use mathlib.Core.List.{List}
 use lib.Dec.{eqb}
 use lib.IntN.{ℤ, pos, negsuc}
 use Rattle.placements.specs.Keep.{pruneQ}
+use Rattle.model.specs.Choice.{Mounted}
+use Rattle.refusal.specs.declared.Refusal.{Refusal}
 use Rattle.refusal.specs.Refusal.{told}
+use Rattle.call_refusals.specs.Calls.{mountedRefusal}
 use Rattle.job.specs.Job.{rackIn, countIn, setsIn, quantitiesIn, readRefusal}
 use Rattle.line_calls.specs.declared.CommonAnswer.{CommonAnswer}
 use Rattle.line_calls.specs.declared.PlanAnswer.{PlanAnswer}
@@ -37,24 +40,28 @@ commonIn file = commonOutcome (commonOf (readRefusal file) (rackIn file) (quanti
 abbrev pub planOutcome : PlanAnswer → Outcome
 planOutcome a = record { refusal = a .refusal; first = a .pairs; second = 0; third = 0 }
 
+-- what is refused before a plan is: the file, then a mounted tip outside its rack
+abbrev pub mountedIn : List ℕ → Mounted → Refusal
+mountedIn file mounted = mountedRefusal (readRefusal file) (rackIn file) mounted
+
 -- quick sharing, with a plan buffer of room bytes
-unfoldable pub quickIn : List ℕ → ℕ → Outcome
-quickIn file room = planOutcome (quickOf (readRefusal file) (rackIn file) (quantitiesIn file) (setsIn file) room)
+unfoldable pub quickIn : List ℕ → Mounted → ℕ → Outcome
+quickIn file mounted room = planOutcome (quickOf (mountedIn file mounted) (rackIn file) mounted (quantitiesIn file) (setsIn file) room)
 
 -- the plan buffer after quick sharing
-unfoldable pub quickPlanIn : List ℕ → List ℕ → List ℕ
-quickPlanIn file plan = quickBuffer (readRefusal file) (rackIn file) (quantitiesIn file) (setsIn file) plan
+unfoldable pub quickPlanIn : List ℕ → Mounted → List ℕ → List ℕ
+quickPlanIn file mounted plan = quickBuffer (mountedIn file mounted) (rackIn file) mounted (quantitiesIn file) (setsIn file) plan
 
 -- best sharing, with a plan buffer of room bytes and a table of so many places
-unfoldable pub bestIn : List ℕ → ℕ → ℕ → Outcome
-bestIn file room places = planOutcome (bestOf (readRefusal file) (rackIn file) (quantitiesIn file) (setsIn file) room places)
+unfoldable pub bestIn : List ℕ → Mounted → ℕ → ℕ → Outcome
+bestIn file mounted room places = planOutcome (bestOf (mountedIn file mounted) (rackIn file) (quantitiesIn file) (setsIn file) room places)
 
 -- the plan buffer and the table after best sharing
-unfoldable pub bestPlanIn : List ℕ → List ℕ → ℕ → List ℕ
-bestPlanIn file plan places = bestBuffer (readRefusal file) (rackIn file) (quantitiesIn file) (setsIn file) plan places
+unfoldable pub bestPlanIn : List ℕ → Mounted → List ℕ → ℕ → List ℕ
+bestPlanIn file mounted plan places = bestBuffer (mountedIn file mounted) (rackIn file) mounted (quantitiesIn file) (setsIn file) plan places
 
-unfoldable pub bestTableIn : List ℕ → ℕ → List ℕ → List ℕ
-bestTableIn file room cells = bestTable (readRefusal file) (rackIn file) (quantitiesIn file) (setsIn file) room cells
+unfoldable pub bestTableIn : List ℕ → Mounted → ℕ → List ℕ → List ℕ
+bestTableIn file mounted room cells = bestTable (mountedIn file mounted) (rackIn file) (quantitiesIn file) (setsIn file) room cells
 
 -- the margin of keep and the bytes of the kept file; 26 carries its margin, and 11 carries none
 abbrev pub keepOutcome : KeepAnswer → FileAnswer → Outcome

@@ -1,9 +1,11 @@
 // What each call gives for a job file in memory: the lines are read once, and the calls work on them after the refusal of reading.
 ghost use mathlib.Core.Path.{_≡_};
 ghost use lib.ListN.{length};
+ghost use Rattle.head.specs.OnHead.{onHead};
 ghost use Rattle.file_calls.specs.Calls.{twosComplement, planOutcome, keepOutcome};
 ghost use Rattle.file_calls.specs.Calls.{readIn, commonIn, keepIn, keepFileIn, quickIn, quickPlanIn, bestIn, bestPlanIn, bestTableIn};
 ghost use Rattle.file_calls.specs.Rules.{CommonRuleOf, KeepRuleOf, HalfRuleOf, BestRuleOf};
+use head::Mounted;
 use line_calls::FileAnswer;
 use line_calls::KeepAnswer;
 use line_calls::PlanAnswer;
@@ -113,17 +115,19 @@ fn plan_outcome(laid: PlanAnswer) -> Outcome
     }
 }
 
-pub fn quick_outcome(file: &[u8], plan: &mut [u8]) -> Outcome
-    ensures outcome { λ r. ⌜ r ≡ quickIn (now (file .entry)) (length (now (plan .entry))) ⌝ }
-    ensures plan { λ _. ⌜ now (plan .exit) ≡ quickPlanIn (now (file .entry)) (now (plan .entry)) ⌝ }
+pub fn quick_outcome(file: &[u8], mounted: Mounted, plan: &mut [u8]) -> Outcome
+    ensures outcome { λ r. ⌜ r ≡ quickIn (now (file .entry)) (onHead mounted) (length (now (plan .entry))) ⌝ }
+    ensures plan { λ _. ⌜ now (plan .exit) ≡ quickPlanIn (now (file .entry)) (onHead mounted) (now (plan .entry)) ⌝ }
     ensures rule { λ r. ⌜ HalfRuleOf (now (file .entry)) (now (plan .exit)) r ⌝ }
 {
     let mut sets = sound::no_sets();
     let mut quantities = sound::no_quantities();
     let read = reading::read_lines(file, &mut sets, &mut quantities);
+    let refusal = call_refusals::mounted_refusal(read.refusal, read.rack, mounted);
     plan_outcome(line_calls::quick(
-        read.refusal,
+        refusal,
         read.rack,
+        mounted,
         read.count,
         &mut sets,
         &quantities,
@@ -131,18 +135,22 @@ pub fn quick_outcome(file: &[u8], plan: &mut [u8]) -> Outcome
     ))
 }
 
-pub fn best_outcome(file: &[u8], plan: &mut [u8], table: &mut [u32]) -> Outcome
-    ensures outcome { λ r. ⌜ r ≡ bestIn (now (file .entry)) (length (now (plan .entry))) (length (now (table .entry))) ⌝ }
-    ensures plan { λ _. ⌜ now (plan .exit) ≡ bestPlanIn (now (file .entry)) (now (plan .entry)) (length (now (table .entry))) ⌝ }
-    ensures table { λ _. ⌜ now (table .exit) ≡ bestTableIn (now (file .entry)) (length (now (plan .entry))) (now (table .entry)) ⌝ }
+pub fn best_outcome(file: &[u8], mounted: Mounted, plan: &mut [u8], table: &mut [u32]) -> Outcome
+    ensures outcome { λ r. ⌜ r ≡ bestIn (now (file .entry)) (onHead mounted) (length (now (plan .entry))) (length (now (table .entry))) ⌝ }
+    ensures plan { λ _. ⌜ now (plan .exit)
+        ≡ bestPlanIn (now (file .entry)) (onHead mounted) (now (plan .entry)) (length (now (table .entry))) ⌝ }
+    ensures table { λ _. ⌜ now (table .exit)
+        ≡ bestTableIn (now (file .entry)) (onHead mounted) (length (now (plan .entry))) (now (table .entry)) ⌝ }
     ensures rule { λ r. ⌜ BestRuleOf (now (file .entry)) (now (plan .exit)) r ⌝ }
 {
     let mut sets = sound::no_sets();
     let mut quantities = sound::no_quantities();
     let read = reading::read_lines(file, &mut sets, &mut quantities);
+    let refusal = call_refusals::mounted_refusal(read.refusal, read.rack, mounted);
     plan_outcome(line_calls::best(
-        read.refusal,
+        refusal,
         read.rack,
+        mounted,
         read.count,
         &mut sets,
         &quantities,

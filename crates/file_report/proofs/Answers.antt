@@ -67,8 +67,8 @@ module _ {m : ℕ} {qs lines : List ℕ} (good : GoodLines m qs lines) {earlier 
     unfolding planRefusal orElse
     plan-long = rw (le-ltb (length old) (length lines) (omega (arith, size))) refl
 
-    pub quick-is : {r : PlanAnswer} {out : List ℕ} → r ≡ quickOf earlier m (take (length lines) qs) (take (length lines) lines) (length old)
-        → out ≡ quickBuffer earlier m (take (length lines) qs) (take (length lines) lines) old
+    pub quick-is : {r : PlanAnswer} {out : List ℕ} → r ≡ quickOf earlier m bare (take (length lines) qs) (take (length lines) lines) (length old)
+        → out ≡ quickBuffer earlier m bare (take (length lines) qs) (take (length lines) lines) old
         → (r .pairs ≡ pairs (repeated qs (quickPlanQ bare m qs lines))) × (out ≡ quickPlanQ bare m qs lines)
     unfolding quickOf quickBuffer
     quick-is e f = rw (e, f, free, take-length lines, whole-quantities good, plan-long) (refl, whole lines (quickPlanQ bare m qs lines) old size)
@@ -79,7 +79,7 @@ module _ {m : ℕ} {qs lines : List ℕ} (good : GoodLines m qs lines) {earlier 
 
     pub best-is : {places : ℕ} → places ≡ mostTips * mostTips → {r : PlanAnswer} {out : List ℕ}
         → r ≡ bestOf earlier m (take (length lines) qs) (take (length lines) lines) (length old) places
-        → out ≡ bestBuffer earlier m (take (length lines) qs) (take (length lines) lines) old places
+        → out ≡ bestBuffer earlier m bare (take (length lines) qs) (take (length lines) lines) old places
         → BestTold m qs lines (eqb (r .refusal .number) 0) (r .pairs) out
     unfolding bestOf bestBuffer
     best-is s e f = rw (e, f, free, take-length lines, whole-quantities good, best-left s) (record {

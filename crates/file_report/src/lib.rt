@@ -8,6 +8,7 @@ ghost use Rattle.job.specs.Job.{readRefusal};
 ghost use Rattle.report.specs.Report.{reportOf};
 ghost use Rattle.text.specs.Buffer.{Printed};
 ghost use Rattle.file_report.specs.Summary.{factsOf, BestTold, BestOfFile, textOf, takenBytes, textRoom, summaryOf};
+use head::Mounted;
 
 // The bytes of a file that are taken: one more than the longest good file has, by which a longer one is seen.
 pub const TAKEN: usize = 4617;
@@ -45,6 +46,7 @@ fn best_lines(rack: usize, lines: &mut [u64], quantities: &[u8], plan: &mut [u8]
     let laid = line_calls::best(
         refusal::refuse(0),
         rack,
+        Mounted::Nothing,
         count,
         lines,
         quantities,
@@ -101,7 +103,15 @@ fn write_lines(
 {
     let count = lines.len();
     let common = line_calls::common(refusal::refuse(0), rack, count, lines, quantities);
-    let laid = line_calls::quick(refusal::refuse(0), rack, count, lines, quantities, quick);
+    let laid = line_calls::quick(
+        refusal::refuse(0),
+        rack,
+        Mounted::Nothing,
+        count,
+        lines,
+        quantities,
+        quick,
+    );
     report::write_report(
         rack,
         common.off,

@@ -5,6 +5,7 @@ use mathlib.Core.Bool.{Bool, true, false}
 use mathlib.Core.List.{List}
 use lib.ListN.{length}
 use borrow.Author.Tests.{eqb-true, eqb-false}
+use Rattle.model.specs.Choice.{Mounted, bare}
 use Rattle.refusal.specs.declared.Refusal.{Refusal}
 use Rattle.refusal.specs.Refusal.{accepts}
 use Rattle.refusal.proofs.Laws.{or-first}
@@ -46,31 +47,32 @@ module _ (earlier : Refusal) {m n : ℕ} {qs rs lines others : List ℕ} (same :
   keep-same within = by-earlier (λ k q l. keepOf earlier k q l within) (λ h k q l. keep-stopped earlier k q l within l h .0)
 
   module _ (plan : List ℕ) where
-    pub quick-same : quickOf earlier m qs lines (length plan) ≡ quickOf earlier n rs others (length plan)
-    quick-same =
-        by-earlier (λ k q l. quickOf earlier k q l (length plan))
-        (λ h k q l. quick-refused earlier k q l plan (plan-stopped earlier h k l (length plan)) (λ _. refl) h .0)
+    pub quick-same : (mounted : Mounted) → quickOf earlier m mounted qs lines (length plan) ≡ quickOf earlier n mounted rs others (length plan)
+    quick-same mounted =
+        by-earlier (λ k q l. quickOf earlier k mounted q l (length plan))
+        (λ h k q l. quick-refused earlier k mounted q l plan (plan-stopped earlier h k l (length plan)) (λ _. refl) h .0)
 
-    pub quick-buffer-same : quickBuffer earlier m qs lines plan ≡ quickBuffer earlier n rs others plan
-    quick-buffer-same =
-        by-earlier (λ k q l. quickBuffer earlier k q l plan)
-        (λ h k q l. quick-refused earlier k q l plan (plan-stopped earlier h k l (length plan)) (λ _. refl) h .1 .0)
+    pub quick-buffer-same : (mounted : Mounted) → quickBuffer earlier m mounted qs lines plan ≡ quickBuffer earlier n mounted rs others plan
+    quick-buffer-same mounted =
+        by-earlier (λ k q l. quickBuffer earlier k mounted q l plan)
+        (λ h k q l. quick-refused earlier k mounted q l plan (plan-stopped earlier h k l (length plan)) (λ _. refl) h .1 .0)
 
     module _ (cells : List ℕ) where
       pub best-same : bestOf earlier m qs lines (length plan) (length cells) ≡ bestOf earlier n rs others (length plan) (length cells)
       best-same =
           by-earlier (λ k q l. bestOf earlier k q l (length plan) (length cells))
-          (λ h k q l. best-refused earlier k q l plan cells (best-stopped earlier h k l (length plan) (length cells)) h .0)
+          (λ h k q l. best-refused earlier k bare q l plan cells (best-stopped earlier h k l (length plan) (length cells)) h .0)
 
-      pub best-buffer-same : bestBuffer earlier m qs lines plan (length cells) ≡ bestBuffer earlier n rs others plan (length cells)
-      best-buffer-same =
-          by-earlier (λ k q l. bestBuffer earlier k q l plan (length cells))
-          (λ h k q l. best-refused earlier k q l plan cells (best-stopped earlier h k l (length plan) (length cells)) h .1 .0)
+      pub best-buffer-same : (mounted : Mounted)
+          → bestBuffer earlier m mounted qs lines plan (length cells) ≡ bestBuffer earlier n mounted rs others plan (length cells)
+      best-buffer-same mounted =
+          by-earlier (λ k q l. bestBuffer earlier k mounted q l plan (length cells))
+          (λ h k q l. best-refused earlier k mounted q l plan cells (best-stopped earlier h k l (length plan) (length cells)) h .1 .0)
 
       pub best-table-same : bestTable earlier m qs lines (length plan) cells ≡ bestTable earlier n rs others (length plan) cells
       best-table-same =
           by-earlier (λ k q l. bestTable earlier k q l (length plan) cells)
-          (λ h k q l. best-refused earlier k q l plan cells (best-stopped earlier h k l (length plan) (length cells)) h .1 .1 .0)
+          (λ h k q l. best-refused earlier k bare q l plan cells (best-stopped earlier h k l (length plan) (length cells)) h .1 .1 .0)
 
   module _ (out : List ℕ) where
     pub write-same : writeOf earlier qs lines (length out) ≡ writeOf earlier rs others (length out)

@@ -5,7 +5,7 @@ use mathlib.Core.List.{List}
 use lib.IntN.{ℤ, pos}
 use lib.ListN.{length}
 use Rattle.model.specs.Plan.{pairs}
-use Rattle.model.specs.Choice.{bare}
+use Rattle.model.specs.Choice.{Mounted}
 use Rattle.model.specs.CommonTip.{top, W, margin}
 use Rattle.model.specs.Interval.{C, table}
 use Rattle.placements.specs.Repeated.{total, repeated}
@@ -41,21 +41,23 @@ abbrev pub planAnswer : Refusal → ℕ → PlanAnswer
 planAnswer r shared = record { refusal = r; pairs = told r shared }
 
 -- quick sharing, with a plan buffer of room bytes
-unfoldable pub quickOf : Refusal → ℕ → List ℕ → List ℕ → ℕ → PlanAnswer
-quickOf earlier m qs lines room = planAnswer (planRefusal earlier (length lines) room) (pairs (repeated qs (quickPlanQ bare m qs lines)))
+unfoldable pub quickOf : Refusal → ℕ → Mounted → List ℕ → List ℕ → ℕ → PlanAnswer
+quickOf earlier m mounted qs lines room =
+    planAnswer (planRefusal earlier (length lines) room) (pairs (repeated qs (quickPlanQ mounted m qs lines)))
 
 -- the plan buffer after it
-unfoldable pub quickBuffer : Refusal → ℕ → List ℕ → List ℕ → List ℕ → List ℕ
-quickBuffer earlier m qs lines plan = lentBy (planRefusal earlier (length lines) (length plan)) (length lines) (quickPlanQ bare m qs lines) plan
+unfoldable pub quickBuffer : Refusal → ℕ → Mounted → List ℕ → List ℕ → List ℕ → List ℕ
+quickBuffer earlier m mounted qs lines plan =
+    lentBy (planRefusal earlier (length lines) (length plan)) (length lines) (quickPlanQ mounted m qs lines) plan
 
--- best sharing, with a plan buffer of room bytes and a table of so many places
+-- best sharing, with a plan buffer of room bytes and a table of so many places: its pairs and its table are the same for every mounted tip
 unfoldable pub bestOf : Refusal → ℕ → List ℕ → List ℕ → ℕ → ℕ → PlanAnswer
 bestOf earlier m qs lines room places = planAnswer (bestRefusal earlier m lines room places) (C (repeated qs lines) 0 m)
 
 -- the plan buffer and the table after it
-unfoldable pub bestBuffer : Refusal → ℕ → List ℕ → List ℕ → List ℕ → ℕ → List ℕ
-bestBuffer earlier m qs lines plan places =
-    lentBy (bestRefusal earlier m lines (length plan) places) (length lines) (bestPlanQ bare m qs lines) plan
+unfoldable pub bestBuffer : Refusal → ℕ → Mounted → List ℕ → List ℕ → List ℕ → ℕ → List ℕ
+bestBuffer earlier m mounted qs lines plan places =
+    lentBy (bestRefusal earlier m lines (length plan) places) (length lines) (bestPlanQ mounted m qs lines) plan
 
 unfoldable pub bestTable : Refusal → ℕ → List ℕ → List ℕ → ℕ → List ℕ → List ℕ
 bestTable earlier m qs lines room cells = lentBy (bestRefusal earlier m lines room (length cells)) (m * m) (table m (repeated qs lines)) cells

@@ -4,6 +4,7 @@ ghost use lib.ListN.{length, take};
 ghost use Rattle.line_calls.specs.Lines.{commonOf, keepOf, keptSets, quickOf, quickBuffer};
 ghost use Rattle.line_calls.specs.Lines.{bestOf, bestBuffer, bestTable, writeOf, writeBuffer};
 ghost use Rattle.line_calls.specs.Rules.{CommonRule, HalfRule, BestRule};
+ghost use Rattle.head.specs.OnHead.{onHead};
 ghost use Rattle.refusal.specs.Refusal.{Given};
 use head::Mounted;
 use refusal::Refusal;
@@ -95,16 +96,18 @@ pub fn keep(
 pub fn quick(
     earlier: Refusal,
     rack: usize,
+    mounted: Mounted,
     count: usize,
     sets: &mut [u64],
     quantities: &[u8],
     plan: &mut [u8],
 ) -> PlanAnswer
     requires { ⌜ Given earlier rack count (now quantities) (now sets) ⌝ }
-    ensures answer { λ r. ⌜ r ≡ quickOf earlier rack (take count (now (quantities .entry))) (take count (now (sets .entry)))
+    ensures answer { λ r. ⌜ r ≡ quickOf earlier rack (onHead mounted) (take count (now (quantities .entry))) (take count (now (sets .entry)))
         (length (now (plan .entry))) ⌝ }
     ensures plan { λ _. ⌜ now (plan .exit)
-        ≡ quickBuffer earlier rack (take count (now (quantities .entry))) (take count (now (sets .entry))) (now (plan .entry)) ⌝ }
+        ≡ quickBuffer earlier rack (onHead mounted) (take count (now (quantities .entry))) (take count (now (sets .entry)))
+        (now (plan .entry)) ⌝ }
     ensures rule { λ r. ⌜ HalfRule (take count (now (quantities .entry))) (take count (now (sets .entry)))
         (now (plan .exit)) (r .refusal .number) (r .pairs) ⌝ }
 {
@@ -114,7 +117,7 @@ pub fn quick(
     }
     let pairs = greedy::plan_lines(
         rack,
-        Mounted::Nothing,
+        mounted,
         &mut sets[..count],
         &quantities[..count],
         &mut plan[..count],
@@ -126,6 +129,7 @@ pub fn quick(
 pub fn best(
     earlier: Refusal,
     rack: usize,
+    mounted: Mounted,
     count: usize,
     sets: &mut [u64],
     quantities: &[u8],
@@ -135,8 +139,8 @@ pub fn best(
     requires { ⌜ Given earlier rack count (now quantities) (now sets) ⌝ }
     ensures answer { λ r. ⌜ r ≡ bestOf earlier rack (take count (now (quantities .entry))) (take count (now (sets .entry)))
         (length (now (plan .entry))) (length (now (table .entry))) ⌝ }
-    ensures plan { λ _. ⌜ now (plan .exit) ≡ bestBuffer earlier rack (take count (now (quantities .entry))) (take count (now (sets .entry)))
-        (now (plan .entry)) (length (now (table .entry))) ⌝ }
+    ensures plan { λ _. ⌜ now (plan .exit) ≡ bestBuffer earlier rack (onHead mounted) (take count (now (quantities .entry)))
+        (take count (now (sets .entry))) (now (plan .entry)) (length (now (table .entry))) ⌝ }
     ensures table { λ _. ⌜ now (table .exit) ≡ bestTable earlier rack (take count (now (quantities .entry))) (take count (now (sets .entry)))
         (length (now (plan .entry))) (now (table .entry)) ⌝ }
     ensures rule { λ r. ⌜ BestRule (take count (now (quantities .entry))) (take count (now (sets .entry)))
@@ -149,7 +153,7 @@ pub fn best(
     let square = rack * rack;
     let pairs = best::plan_lines(
         rack,
-        Mounted::Nothing,
+        mounted,
         &mut sets[..count],
         &quantities[..count],
         &mut plan[..count],

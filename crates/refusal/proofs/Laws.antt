@@ -10,7 +10,7 @@ use borrow.Author.Tests.{eq-eqb, ne-eqb, eqb-true, eqb-false, ltb-false, lt-ltb,
 use Rattle.model.specs.Count.{All, firstFail}
 use Rattle.model.proofs.Fails.{fails-none, none-fails}
 use Rattle.refusal.specs.declared.Refusal.{Refusal}
-use Rattle.refusal.specs.Refusal.{none, refuse, accepts, orElse, when, refuseAt, scan, told, lentBy}
+use Rattle.refusal.specs.Refusal.{none, refuse, accepts, orElse, when, refuseAt, scan, told, lentBy, Given}
 
 -- a refusal known by an equation has its number
 pub number-of : {d r : Refusal} → d ≡ r → d .number ≡ 0 → r .number ≡ 0
@@ -100,3 +100,7 @@ by-number r number x y e = by (accepts r) refl
     by : (b : Bool) → accepts r ≡ b → number (cond b x y) ≡ 0 → r .number ≡ 0
     by true t h = eqb-true (r .number) 0 t
     by false t h = sym e ∙ h
+
+-- lines given after one refusal are given after a later one
+pub later : {r d : Refusal} {m n : ℕ} {qs sets : List ℕ} → (d .number ≡ 0 → r .number ≡ 0) → Given r m n qs sets → Given d m n qs sets
+later f g = record { room = λ z. g .room (f z); quantity-room = λ z. g .quantity-room (f z); good = λ z. g .good (f z) }

@@ -1,12 +1,11 @@
 // What the test programs share: printing, counting, boards of up to eight lines, and buffers filled with junk.
-use board::Answer;
 use board::Board;
 use board::Stage;
 use libc::STDOUT_FILENO;
-ghost use Prim.Native.Nat.{_≤_, _<_};
+ghost use Prim.Native.Nat.{_≤_};
 
-// No tip, and no byte of a job file whose tips are below 6.
-const JUNK: u8 = 170;
+// No tip, and no byte of the job files that are written here.
+pub const JUNK: u8 = 170;
 
 // More than any number of pairs.
 pub const JUNK_PLACE: u32 = 2863311530;
@@ -142,13 +141,6 @@ pub fn off(plan: [u64; 8], quantities: [u8; 8], n: usize, rack: u64) -> u64
     std::num::wrapping_sub_u64(placements(quantities, n), most)
 }
 
-fn is_closed(stage: Stage) -> bool {
-    match stage {
-        Stage::Open => false,
-        Stage::Closed => true,
-    }
-}
-
 // How many of the values of `a` differ from those of `b` at their places; all of them where `b` is shorter.
 pub fn different(a: &[u64], b: &[u64]) -> u64 {
     if b.len() < a.len() {
@@ -161,69 +153,29 @@ pub fn different(a: &[u64], b: &[u64]) -> u64 {
     count
 }
 
-// 1 where two lines differ in their set or their quantity, 0 where in neither.
-fn different_line(a_set: u64, a_quantity: u8, b_set: u64, b_quantity: u8) -> u64 {
-    one_if(a_set != b_set || a_quantity != b_quantity)
-}
-
-// How many of the 512 sets, each with its quantity, differ.
-fn different_lines(
-    a_sets: [u64; 512],
-    a_quantities: [u8; 512],
-    b_sets: [u64; 512],
-    b_quantities: [u8; 512],
-) -> u64 {
-    let mut count: u64 = 0;
-    for i in 0..512 {
-        let differs = different_line(a_sets[i], a_quantities[i], b_sets[i], b_quantities[i]);
-        count = sum(count, differs);
+// 1 for a closed board, 0 for an open one.
+pub fn closed(stage: Stage) -> u64 {
+    match stage {
+        Stage::Open => 0,
+        Stage::Closed => 1,
     }
-    count
 }
 
-// How many of rack, stage, count and the 512 sets, each with its quantity, differ between two boards.
+// How many of rack, stage, count, the 512 sets and the 512 quantities differ between two boards.
 pub fn differences(a: Board, b: Board) -> u64 {
-    let a_sets = a.sets;
-    let a_quantities = a.quantities;
-    let b_sets = b.sets;
-    let b_quantities = b.quantities;
-    let lines = different_lines(a_sets, a_quantities, b_sets, b_quantities);
     let a_stage = a.stage;
     let b_stage = b.stage;
-    let stage = one_if(is_closed(a_stage) != is_closed(b_stage));
+    let a_sets = a.sets;
+    let b_sets = b.sets;
+    let a_quantities = a.quantities;
+    let b_quantities = b.quantities;
     let numbers = sum(one_if(a.rack != b.rack), one_if(a.count != b.count));
-    sum(sum(lines, stage), numbers)
-}
-
-// The sets with another at a place.
-pub fn with_set(given: [u64; 512], at: usize, set: u64) -> [u64; 512]
-    requires { ⌜ at < 512 ⌝ }
-{
-    let mut sets = given;
-    sets[at] = set;
-    sets
-}
-
-// The quantities with another at a place.
-pub fn with_quantity(given: [u8; 512], at: usize, quantity: u8) -> [u8; 512]
-    requires { ⌜ at < 512 ⌝ }
-{
-    let mut quantities = given;
-    quantities[at] = quantity;
-    quantities
-}
-
-fn byte_if(test: bool) -> u8 {
-    if test { 1 } else { 0 }
-}
-
-// Quantity 1 for each of the first n lines, 0 after them.
-pub fn ones(n: usize) -> [u8; 512] {
-    let mut quantities = [0u8; 512];
+    let mut count = sum(numbers, one_if(closed(a_stage) != closed(b_stage)));
     for i in 0..512 {
-        quantities[i] = byte_if(i < n);
+        let differs = one_if(a_quantities[i] != b_quantities[i]);
+        count = sum(count, sum(one_if(a_sets[i] != b_sets[i]), differs));
     }
-    quantities
+    count
 }
 
 // Eight bytes more than a plan of 512 lines.
@@ -236,17 +188,12 @@ pub fn junk_table() -> [u32; 4100] {
     [JUNK_PLACE; 4100]
 }
 
-// Eight bytes more than the job file of 512 lines of quantity 1.
-pub fn junk_file() -> [u8; 4112] {
-    [JUNK; 4112]
-}
-
 // Eight bytes more than the job file of 512 lines with quantities.
-pub fn junk_long_file() -> [u8; 4624] {
+pub fn junk_file() -> [u8; 4624] {
     [JUNK; 4624]
 }
 
-fn wide(x: u8) -> u64 {
+pub fn wide(x: u8) -> u64 {
     x as u64
 }
 
@@ -275,38 +222,4 @@ pub fn changed_places(table: &[u32], from: usize) -> u64 {
         count = sum(count, one_if(table[i] != JUNK_PLACE));
     }
     count
-}
-
-// Rack 3; {0}, {0,1}, {1,2}: all runs.
-pub fn three_lines() -> Board {
-    closed_board(3, [1, 3, 6, 0, 0, 0, 0, 0], 3)
-}
-
-// An open board of rack 3 after n times adding so many of {0}.
-pub fn filled(n: usize, quantity: u8) -> Board {
-    let mut board = Board::open(3).board;
-    for _ in 0..n {
-        board = board.add(1, quantity).board;
-    }
-    board
-}
-
-pub fn show_board(board: Board) {
-    let stage = board.stage;
-    let rack = board.rack as u64;
-    let count = board.count as u64;
-    match stage {
-        Stage::Open => show(b"; board rack # open lines #\n", &[rack, count]),
-        Stage::Closed => show(b"; board rack # closed lines #\n", &[rack, count]),
-    }
-}
-
-pub fn show_answer(words: &[u8], answer: Answer) {
-    let board = answer.board;
-    text(words);
-    show(
-        b": number # place #",
-        &[answer.number as u64, answer.place as u64],
-    );
-    show_board(board);
 }

@@ -5,6 +5,7 @@ use board::Board;
 use board::Kept;
 use board::Shared;
 use board::Stage;
+use head::Mounted;
 use try_lib::JUNK_PLACE;
 use try_lib::changed_bytes;
 use try_lib::changed_places;
@@ -157,7 +158,7 @@ fn wrong_quick(small: Small, board: Board) -> u64
     requires { ⌜ small .n ≤ 8 ⌝ }
 {
     let mut plan = junk_plan();
-    let answer = board.quick(&mut plan);
+    let answer = board.quick(Mounted::Nothing, &mut plan);
     let back = answer.board;
     let number = answer.number as u64;
     let place = answer.place as u64;
@@ -233,7 +234,7 @@ fn try_best(small: Small, board: Board) -> [u64; 12]
 {
     let mut plan = junk_plan();
     let mut table = junk_table();
-    let answer = board.best(&mut plan, &mut table);
+    let answer = board.best(Mounted::Nothing, &mut plan, &mut table);
     let refused = one_if(answer.number == 25);
     let wrong = wrong_best(small, board, answer, plan, table);
     [0, 0, 0, 0, 0, 0, 0, 0, 0, 1, refused, wrong]

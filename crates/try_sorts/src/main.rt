@@ -1,5 +1,6 @@
 // Every sort of a list of eight lines: the common tip's answer stays, each line keeps its tip in both plans and its set in keep.
 use board::Board;
+use head::Mounted;
 use try_lib::closed_board;
 use try_lib::different;
 use try_lib::junk_plan;
@@ -89,7 +90,7 @@ fn told_keep(board: Board, k: u16) -> Told {
 
 fn told_quick(board: Board) -> Told {
     let mut plan = junk_plan();
-    let answer = board.quick(&mut plan);
+    let answer = board.quick(Mounted::Nothing, &mut plan);
     Told {
         number: answer.number as u64,
         count: answer.pairs as u64,
@@ -100,7 +101,7 @@ fn told_quick(board: Board) -> Told {
 fn told_best(board: Board) -> Told {
     let mut plan = junk_plan();
     let mut table = junk_table();
-    let answer = board.best(&mut plan, &mut table);
+    let answer = board.best(Mounted::Nothing, &mut plan, &mut table);
     Told {
         number: answer.number as u64,
         count: answer.pairs as u64,

@@ -145,17 +145,42 @@ fn check_plan(board: &Board, plan: &[u8], pairs: u32) {
     assert!(behind.iter().all(|&byte| byte == JUNK_BYTE));
 }
 
+/// The board with its tips in another order, the first of which becomes tip 0.
+fn in_order(board: &Board, order: &[usize]) -> Board {
+    let anew =
+        |set: u64| (0..order.len()).filter(|&tip| (set >> order[tip]) & 1 == 1).fold(0, |set, tip| set | 1 << tip);
+    let lines: Vec<Line> = board.lines().map(|Line { set, quantity }| Line { set: anew(set), quantity }).collect();
+    Board::of_lines(board.rack, &lines)
+}
+
 fn check_quick(board: &Board, tried: &Tried) {
     let mut plan = junk_plan(board);
-    let quick = board.clone().quick(&mut plan);
+    let quick = board.clone().quick(None, &mut plan);
     assert_answer(&quick, board, 0, 0);
     check_plan(board, &plan, quick.value);
     assert!(2 * quick.value >= tried.most_pairs && quick.value <= tried.most_pairs);
     assert_repeated(board, |repeated| {
         let mut by_placement = vec![JUNK_BYTE; repeated.count];
-        assert_eq!(repeated.quick(&mut by_placement).value, quick.value);
+        assert_eq!(repeated.quick(None, &mut by_placement).value, quick.value);
         assert_eq!(by_placement, board.placed(&plan));
     });
+    for mounted in 0..board.rack {
+        check_quick_with(board, tried, mounted);
+    }
+}
+
+/// The half rule holds with a mounted tip, which wins as the lowest tip does of a board that has it first.
+fn check_quick_with(board: &Board, tried: &Tried, mounted: usize) {
+    let mut plan = junk_plan(board);
+    let quick = board.clone().quick(Some(mounted), &mut plan);
+    assert_answer(&quick, board, 0, 0);
+    check_plan(board, &plan, quick.value);
+    assert!(2 * quick.value >= tried.most_pairs && quick.value <= tried.most_pairs);
+    let order: Vec<usize> = [mounted].into_iter().chain((0..board.rack).filter(|&tip| tip != mounted)).collect();
+    let mut in_order_plan = junk_plan(board);
+    assert_eq!(in_order(board, &order).quick(None, &mut in_order_plan).value, quick.value);
+    in_order_plan[..board.count].iter_mut().for_each(|tip| *tip = order[usize::from(*tip)] as u8);
+    assert_eq!(in_order_plan, plan);
 }
 
 /// Whether another line has a tip that this one lacks, between two of its own.
@@ -169,7 +194,7 @@ fn misses_a_tip(board: &Board, line: Line) -> bool {
 fn check_best(board: &Board, tried: &Tried) {
     let mut plan = junk_plan(board);
     let mut table = vec![JUNK_PAIRS; board.rack * board.rack + 2];
-    let best = board.clone().best(&mut plan, &mut table);
+    let best = board.clone().best(None, &mut plan, &mut table);
     // A line with every tip between its ends is a run, whatever the others have.
     let unbroken = all_runs(board.rack);
     assert!(best.number == 0 || board.lines().any(|line| !unbroken.contains(&line.set)));
@@ -188,9 +213,18 @@ fn check_best(board: &Board, tried: &Tried) {
             assert_repeated(board, |repeated| {
                 let mut by_placement = vec![JUNK_BYTE; repeated.count];
                 let mut by_placement_table = vec![JUNK_PAIRS; table.len()];
-                assert_eq!(repeated.best(&mut by_placement, &mut by_placement_table).value, best.value);
+                assert_eq!(repeated.best(None, &mut by_placement, &mut by_placement_table).value, best.value);
                 assert_eq!((by_placement, &by_placement_table), (board.placed(&plan), &table));
             });
+            // With a mounted tip the plan may be another one; pairs and table are the same.
+            for mounted in 0..board.rack {
+                let mut plan = junk_plan(board);
+                let mut same_table = vec![JUNK_PAIRS; table.len()];
+                let with_mounted = board.clone().best(Some(mounted), &mut plan, &mut same_table);
+                assert_answer(&with_mounted, board, 0, 0);
+                check_plan(board, &plan, best.value);
+                assert_eq!((with_mounted.value, &same_table), (best.value, &table));
+            }
         }
     }
 }

@@ -60,14 +60,14 @@ fn plan(number: u32, pairs: u32, plan: &[u8]) -> Told {
 
 fn quick(board: Board) -> Told {
     let mut tips = junk::plan();
-    let answer = board.quick(&mut tips);
+    let answer = board.quick(None, &mut tips);
     plan(answer.number, answer.value, &tips)
 }
 
 fn best(board: Board) -> Told {
     let mut tips = junk::plan();
     let mut table = [0; 64];
-    let answer = board.best(&mut tips, &mut table);
+    let answer = board.best(None, &mut tips, &mut table);
     plan(answer.number, answer.value, &tips)
 }
 

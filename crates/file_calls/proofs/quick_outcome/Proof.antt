@@ -1,3 +1,5 @@
+use Rattle.refusal.proofs.Laws.{number-of, later}
+use Rattle.call_refusals.proofs.Calls.{mounted-none}
 use Rattle.file_calls.proofs.ReadLines.{same-lines, quick-in}
 use borrow.Author.Needs.{needs}
 use Rattle.file_calls.proofs.quick_outcome.Statement.{statement}
@@ -18,14 +20,21 @@ slice-aggregate-read-lines-2 c = search needs
 read-lines-requires : tie.Need-read-lines-requires
 read-lines-requires c κs = search needs
 
+mounted-refusal-requires : tie.Need-mounted-refusal-requires
+mounted-refusal-requires c κs = search needs
+
 slice-aggregate-quick : tie.Need-slice-aggregate-quick
 slice-aggregate-quick c = search needs
 
 slice-aggregate-quick-2 : tie.Need-slice-aggregate-quick-2
 slice-aggregate-quick-2 c = search needs
 
+-- the lines are given where the mounted tip is not refused either
 quick-requires : tie.Need-quick-requires
-quick-requires c κs = search needs
+quick-requires c κs =
+    let mounted = c .before .before .before in
+    let (_, (_, (_, lines))) = mounted .before .before .before .read-lines .ensures in
+    later (λ z. mounted-none _ _ _ (number-of (mounted .mounted-refusal .ensures) z) .0) lines
 
 plan-outcome-requires : tie.Need-plan-outcome-requires
 plan-outcome-requires c κs = search needs
@@ -36,9 +45,10 @@ same-length c = search needs
 returns : tie.Need-returns
 returns c =
     let laid = c .before .before .before .before in
-    let (e, (lines, _)) = laid .before .before .before .before .before .before .read-lines .ensures in
+    let mounted = laid .before .before .before .before in
+    let (e, (lines, _)) = mounted .before .before .before .read-lines .ensures in
     let (answer, (plan, rule)) = laid .quick .ensures in
-    rw (c .plan-outcome .ensures) (quick-in _ e (λ z. same-lines (lines z)) _ answer plan rule)
+    rw (c .plan-outcome .ensures) (quick-in _ e (λ z. same-lines (lines z)) _ (mounted .mounted-refusal .ensures) _ answer plan rule)
 
 pub quick-outcome-spec : {M : Type 1} → statement M
 quick-outcome-spec =
@@ -49,6 +59,7 @@ quick-outcome-spec =
     slice-aggregate-read-lines
     slice-aggregate-read-lines-2
     read-lines-requires
+    mounted-refusal-requires
     slice-aggregate-quick
     slice-aggregate-quick-2
     quick-requires

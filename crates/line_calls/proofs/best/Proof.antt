@@ -18,7 +18,7 @@ same-length : tie.Need-same-length
 same-length c = search needs
 
 returns : tie.Need-returns
-returns c = best-refused _ _ _ _ _ _ (c .before .before .best-refusal .ensures) (c .if1 .taken)
+returns c = best-refused _ _ _ _ _ _ _ (c .before .before .best-refusal .ensures) (c .if1 .taken)
 
 abbrev begun : tie.Else1 → tie.Start
 begun d = d .before .before .before .before .before .before .before .before
@@ -83,7 +83,7 @@ returns-2 c =
     let laid = c .before .before .before .before .before .before in
     let d = laid .before .before .before .before .before in
     let e = laid .plan-lines .ensures in
-    best-accepted _ _ _ _ _ _ (d .before .before .best-refusal .ensures) (d .if1 .left) (good d) (count d) (e .0) (e .1 .0) (e .1 .1)
+    best-accepted _ _ _ _ _ _ _ (d .before .before .best-refusal .ensures) (d .if1 .left) (good d) (count d) (e .0) (e .1 .0) (e .1 .1)
 
 pub best-spec : {M : Type 1} → statement M
 best-spec =

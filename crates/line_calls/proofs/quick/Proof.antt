@@ -20,7 +20,7 @@ plan-refusal-requires c κs = search needs
 returns : tie.Need-returns
 returns c =
     let asked = c .before .before in
-    quick-refused _ _ _ _ _ (asked .plan-refusal .ensures) (size (asked .before .before .before .before)) (c .if1 .taken)
+    quick-refused _ _ _ _ _ _ (asked .plan-refusal .ensures) (size (asked .before .before .before .before)) (c .if1 .taken)
 
 abbrev begun : tie.Else1 → tie.Start
 begun d = d .before .before .before .before .before .before
@@ -68,7 +68,7 @@ returns-2 c =
     let laid = c .before .before .before .before in
     let d = laid .before .before .before .before in
     let e = laid .plan-lines .ensures in
-    quick-accepted _ _ _ _ _ (d .before .before .plan-refusal .ensures) (size (begun d)) (d .if1 .left) (count d) (good d) (e .pairs-are) (e .plan-is)
+    quick-accepted _ _ _ _ _ _ (d .before .before .plan-refusal .ensures) (size (begun d)) (d .if1 .left) (count d) (good d) (e .pairs-are) (e .plan-is)
 
 pub quick-spec : {M : Type 1} → statement M
 quick-spec =

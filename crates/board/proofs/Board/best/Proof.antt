@@ -1,7 +1,6 @@
 use mathlib.Core.Path.{sym}
-use Rattle.call_refusals.specs.declared.Stage.the-variants.{Closed}
-use Rattle.board.proofs.Sets.{Full, given}
-use Rattle.board.proofs.Answers.{best-answer}
+use Rattle.board.proofs.Sets.{Full}
+use Rattle.board.proofs.Answers.{mounted-given, best-answer}
 use borrow.Author.Needs.{needs}
 use Rattle.board.proofs.Board.best.Statement.{statement}
 use Rattle.board.proofs.Board.best.Tie as tie
@@ -22,6 +21,9 @@ full a =
 state-refusal-requires : tie.Need-state-refusal-requires
 state-refusal-requires c κs = search needs
 
+mounted-refusal-requires : tie.Need-mounted-refusal-requires
+mounted-refusal-requires c κs = search needs
+
 slice-aggregate-best : tie.Need-slice-aggregate-best
 slice-aggregate-best c = search needs
 
@@ -30,8 +32,9 @@ slice-aggregate-best-2 c = search needs
 
 best-requires : tie.Need-best-requires
 best-requires c κs =
-    let state = c .before .before .before .before in
-    given Closed (begun (state .before) .args .self) (full (state .before)) (state .state-refusal .ensures)
+    let mounted = c .before .before .before .before in
+    let state = mounted .before in
+    mounted-given _ _ (state .state-refusal .ensures) (mounted .mounted-refusal .ensures) (full (state .before))
 
 same-length : tie.Need-same-length
 same-length c = search needs
@@ -42,11 +45,13 @@ same-length-2 c = search needs
 returns : tie.Need-returns
 returns c =
     let laid = c .before .before .before .before .before in
-    let state = laid .before .before .before .before .before in
+    let mounted = laid .before .before .before .before .before in
+    let state = mounted .before in
     let a = begun (state .before) .args in
     let e = state .state-refusal .ensures in
     let (answer, (buffer, (cells, rule))) = laid .best .ensures in
-    let (same-answer, (same-plan, same-table)) = best-answer (a .self) e (a .plan .now) (a .table .now) answer buffer cells in
+    let (same-answer, (same-plan, same-table)) =
+    best-answer _ _ e (mounted .mounted-refusal .ensures) (a .plan .now) (a .table .now) answer buffer cells in
     (same-answer, (same-plan, (same-table, rule)))
 
 pub best-spec : {M : Type 1} → statement M
@@ -56,6 +61,7 @@ best-spec =
     slice-aggregate-state-refusal
     slice-aggregate-state-refusal-2
     state-refusal-requires
+    mounted-refusal-requires
     slice-aggregate-best
     slice-aggregate-best-2
     best-requires
