@@ -1,6 +1,6 @@
 -- Best sharing of unbroken runs that name every tip: it is counted over the placements, where any tip may be chosen, and laid for the lines.
 use Prim.Native.Nat.{ℕ}
-use mathlib.Core.Path.{_≡_, sym}
+use mathlib.Core.Path.{_≡_}
 use mathlib.Core.List.{List}
 use Rattle.model.specs.Choice.{Mounted}
 use Rattle.model.specs.Interval.{any, planFor}

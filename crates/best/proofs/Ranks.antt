@@ -1,21 +1,21 @@
 -- From the board renumbered back to the board: its lines are unbroken runs, its plan gives the best plan, and its table the table.
 use Prim.Native.Nat.{ℕ, _+_, _-_, _*_, _/_, _%_, _^_, _≤_, _<_}
 use native.Mathlib.Omega.{arith}
-use native.Mathlib.Nat.{div-add-mod', div-lt-iff-lt-mul, mod-lt, mul-le-mul, le-refl}
+use native.Mathlib.Nat.{div-add-mod', div-lt-iff-lt-mul, mod-lt, mul-le-mul}
 use mathlib.Core.Path.{_≡_, refl, ap, sym, _∙_}
 use mathlib.Core.Logic.{⊎-elim}
-use mathlib.Core.Bool.{Bool, cond}
+use mathlib.Core.Bool.{Bool}
 use mathlib.Core.List.{List, [], _∷_, _++_, map}
 use lib.Arith.{digits-lt}
-use lib.Dec.{T, ltb}
+use lib.Dec.{T}
 use lib.ListN.{length, getD, take}
 use lib.Seq.{getD-take, take-append-seam}
 use borrow.Author.Tests.{lt-ltb, le-ltb}
 use Rattle.model.specs.Count.{All, none, more, listOf}
 use Rattle.model.specs.Plan.{has, Domain, Valid, empty, line}
 use Rattle.model.specs.Choice.{Mounted}
-use Rattle.model.specs.Interval.{named, isRun, table as tableOf}
-use Rattle.model.specs.Renumber.{names, rank, tipAt, renumbered, rankOn, Fits}
+use Rattle.model.specs.Interval.{named, table as tableOf}
+use Rattle.model.specs.Renumber.{names, rank, renumbered, rankOn, Fits}
 use Rattle.model.proofs.Tests.{le-or-lt}
 use Rattle.model.proofs.Lists.{all-map, all-both, map-cong}
 use Rattle.model.proofs.ListOf.{list-is}
@@ -30,7 +30,6 @@ use Rattle.model.proofs.RenumberBoard.{length-renumbered}
 use Rattle.model.proofs.RenumberFull.{all-named}
 use Rattle.tips.proofs.Bits.{has-between}
 use Rattle.placements.specs.Repeated.{repeated}
-use Rattle.placements.specs.Good.{GoodLines}
 use Rattle.placements.specs.Plans.{bestPlanQ}
 use Rattle.placements.proofs.Plans.{best-valid-lines}
 use Rattle.placements.proofs.Renumbered.{table-renumbered, plan-renumbered}

@@ -7,7 +7,7 @@ use lib.Dec.{T, ltb}
 use lib.ListN.{length}
 use Rattle.model.specs.Count.{All, listOf}
 use Rattle.model.specs.Choice.{bare}
-use Rattle.model.specs.Interval.{any, isRun, named, isRunOf, mostOf, planFor, C, table}
+use Rattle.model.specs.Interval.{any, isRun, named, isRunOf, mostOf, planFor, C}
 use Rattle.model.proofs.Best.{C-any}
 use Rattle.model.proofs.Unbroken.{unbroken-runs, table-any}
 use Rattle.placements.specs.Repeated.{repeated}

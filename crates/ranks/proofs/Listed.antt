@@ -1,7 +1,7 @@
 -- One tip more in the lists, and lines renumbered by the list of ranks.
-use Prim.Native.Nat.{ℕ, _+_, _-_, _^_, _<_, _≤_}
+use Prim.Native.Nat.{ℕ, _+_, _^_, _<_, _≤_}
 use native.Mathlib.Omega.{arith}
-use mathlib.Core.Path.{_≡_, ap, sym, _∙_}
+use mathlib.Core.Path.{_≡_, sym, _∙_}
 use mathlib.Core.Logic.{⊎-elim}
 use mathlib.Core.Bool.{Bool, true}
 use mathlib.Core.List.{List, map}
@@ -12,7 +12,7 @@ use lib.Seq.{getD-set-same, getD-set-other}
 use native.Mathlib.Nat.{lt-of-lt-of-le}
 use Rattle.model.specs.Limits.{mostTips}
 use Rattle.model.specs.Count.{All}
-use Rattle.model.specs.Plan.{has, Domain}
+use Rattle.model.specs.Plan.{has}
 use Rattle.model.specs.Interval.{low, high, isRunOf}
 use Rattle.model.specs.Renumber.{rank, tipAt, ranks, renumbered, Fits}
 use Rattle.model.proofs.Tests.{le-or-lt, one-le, one-T}

@@ -1,11 +1,10 @@
-use Prim.Native.Nat.{ℕ, _*_, _-_, _<_}
+use Prim.Native.Nat.{ℕ, _-_, _<_}
 use native.Mathlib.Omega.{arith}
 use mathlib.Core.Path.{_≡_, ap, _∙_}
 use mathlib.Core.List.{List}
 use lib.ListN.{length, getD}
 use Rattle.model.specs.Interval.{C, table as tableOf}
 use Rattle.model.proofs.Table.{length-table, table-last}
-use Rattle.placements.specs.Repeated.{repeated}
 use Rattle.best.proofs.Ranges.{first-row}
 use Rattle.best.proofs.Ranks.{all-full}
 use borrow.Author.Needs.{needs}

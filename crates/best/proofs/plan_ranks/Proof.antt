@@ -1,7 +1,5 @@
-use Prim.Native.Nat.{_*_}
-use native.Mathlib.Omega.{arith}
 use native.Mathlib.Nat.{pos-of-ne-zero}
-use mathlib.Core.Path.{sym, _∙_}
+use mathlib.Core.Path.{sym}
 use lib.Seq.{length-take-le}
 use Rattle.head.specs.OnHead.{onHead}
 use Rattle.placements.specs.Repeated.{repeated}

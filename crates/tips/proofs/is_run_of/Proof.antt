@@ -1,9 +1,6 @@
-use Prim.Native.Nat.{ℕ}
-use native.Mathlib.Omega.{arith}
 use native.Mathlib.Nat.{le-refl, pos-of-ne-zero}
-use mathlib.Core.Path.{_≡_, sym, _∙_}
+use mathlib.Core.Path.{sym}
 use Rattle.model.specs.Plan.{has, Domain}
-use Rattle.model.specs.Interval.{isRunOf}
 use Rattle.model.proofs.Run.{low-high, high-below}
 use Rattle.tips.proofs.Bits.{run-none, run-count}
 use borrow.Author.Needs.{needs}
