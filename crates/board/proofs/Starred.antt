@@ -13,20 +13,23 @@ use Rattle.placements.specs.Totals.{firstOver}
 use Rattle.placements.specs.Plans.{quickPlanQ, bestPlanQ}
 use Rattle.placements.specs.Keep.{commonWithin, scarce, keptQ, pruneQ}
 use Rattle.refusal.specs.Refusal.{orElse, scan}
-use Rattle.job.specs.Job.{lineNumber}
+use Rattle.job.specs.Job.{bytesOf, numberOf, numberAt, lineLength, paired, headerOf, lineOf, bytesOfLines, fileOf, versionFor, setsIn, quantitiesIn}
+use Rattle.job.specs.Job.{versionOk, startNumber, sizeNumber, headerNumber, lineNumber, lineNumbers, readRefusal}
 use Rattle.sound.specs.Sound.{countOk, firstWrong, firstHeld, soundRefusal}
 use Rattle.call_refusals.specs.State.{stageRefusal, stateRefusal}
-use Rattle.call_refusals.specs.Calls.{addRefusal, keepRefusal, mountedRefusal, planRefusal, bestRefusal}
+use Rattle.call_refusals.specs.Calls.{addRefusal, keepRefusal, mountedRefusal, planRefusal, bestRefusal, writeRefusal}
 use Rattle.line_calls.specs.Lines
-use Rattle.board.specs.Board.{addOf, closeOf}
+use Rattle.board.specs.Board.{noSets, noQuantities, addOf, closeOf}
 use Rattle.board.specs.Common.{commonOf, keepOf}
 use Rattle.board.specs.Sharing.{quickOf, quickBuffer, bestOf, bestBuffer, bestTable}
+use Rattle.board.specs.JobFile.{readOf, writeOf, writeBuffer}
 use Rattle.board.specs.Rows.{run, rows, Gives, HalfReached}
 use Rattle.board.specs.Rows.{B1-common, B1-keep, B2-keep, B3-keep, B4-quick, B5-best, B6-best, B7-quick, B8-best, B9-quick, B9-best, B10-best}
 use Rattle.board.specs.Rows.{B15-rack-0, B15-rack-65, B16-count-513, B16-count-most, B17-first, B17-middle, B17-last, B18-next}
 use Rattle.board.specs.Rows.{B18-last, B18-both, B19-21, B19-27, B19-27-open, B19-27-closed, B19-28-closed}
 use Rattle.board.specs.Rows.{B20-quick, B20-best, B21-common, B21-keep-0, B21-keep-1, B21-keep-2, B21-keep-3, B21-keep-4, B22-quick, B23-quick}
 use Rattle.board.specs.Rows.{B23-best, B24-none, B24-bad-set, B24-last, B24-over, B25-none, B25-over, B25-first, B26-next, B26-after-set}
+use Rattle.board.specs.Rows.{B28-read, B28-write, B29-read, B30-read, B30-over, B30-none}
 use Rattle.board.specs.Rows.{B27-common, B27-best, B31-best, B32-best, B33-best, B34-best, B35-best, B36-quick-0, B36-quick-2}
 use Rattle.board.specs.Rows.{B36-best-1, B36-best-2, B37-quick, B37-best, B38-quick, B39-none, B39-best, B40-quick, B40-best, B41-quick}
 use Rattle.board.specs.Rows.{B41-best, B41-open}
@@ -37,7 +40,9 @@ unfolding run addOf closeOf commonOf keepOf quickOf quickBuffer bestOf bestBuffe
     orElse scan stageRefusal stateRefusal soundRefusal firstWrong firstHeld firstOver countOk rackOk isDomain inRack each firstFail lineNumber
     total repeated margin pruneQ zipWith keptQ scarce commonWithin narrowed covers every W setOf top largest occ has count quickPlanQ quickTip
     rounds first busiest choice lowestAt select pairs uses table listOf bestPlanQ bestTip tipBy pickOf worth from named C most lies inside low
-    high choose2 leadingZeros trailingZeros fills isRunOf
+    high choose2 leadingZeros trailingZeros fills isRunOf readOf writeOf writeBuffer Lines.writeOf Lines.writeBuffer writeRefusal readRefusal
+    headerNumber startNumber sizeNumber versionOk lineNumbers setsIn quantitiesIn numberAt numberOf bytesOf lineLength headerOf lineOf
+    bytesOfLines fileOf versionFor paired noSets noQuantities
 starred =
     more {x = B1-common} refl
     (more {x = B1-keep} refl
@@ -88,6 +93,12 @@ starred =
     (more {x = B26-after-set} refl
     (more {x = B27-common} refl
     (more {x = B27-best} refl
+    (more {x = B28-read} refl
+    (more {x = B28-write} refl
+    (more {x = B29-read} refl
+    (more {x = B30-read} refl
+    (more {x = B30-over} refl
+    (more {x = B30-none} refl
     (more {x = B31-best} refl
     (more {x = B32-best} refl
     (more {x = B33-best} refl
@@ -106,7 +117,7 @@ starred =
     (more {x = B40-best} refl
     (more {x = B41-quick} refl
     (more {x = B41-best} refl
-    (more {x = B41-open} refl none)))))))))))))))))))))))))))))))))))))))))))))))))))))))))))))))))))
+    (more {x = B41-open} refl none)))))))))))))))))))))))))))))))))))))))))))))))))))))))))))))))))))))))))
 
 pub half-reached : HalfReached
 unfolding has pairs uses count
