@@ -21,11 +21,13 @@ pub fn check_plan(
     requires { ⌜ NamedRuns names m (now quantities) (now lines) × (length (now plan) ≡ length (now lines)) × (m * m ≤ length (now table)) ⌝ }
     ensures { λ r. ⌜ r ≡ checkRefusal m (now (quantities .entry)) (now (lines .entry)) (now (plan .entry)) claim (now (table .entry)) ⌝ }
 {
-    let refusal = claimed::claim_refusal(lines, quantities, plan, claim);
+    let pairs = pair_count::pair_table();
+    let refusal = claimed::claim_refusal(&pairs, lines, quantities, plan, claim);
     if refusal.number != 0 {
         return refusal;
     }
     let mut sums = [0u32; spans::SUMS_SIZE];
     spans::sum_spans(lines, quantities, &mut sums);
-    refusal::refuse_when(!tabled::table_fits(names, m, claim, &sums, table), 33)
+    let fits = tabled::table_fits(names, m, claim, &pairs, &sums, table);
+    refusal::refuse_when(!fits, 33)
 }

@@ -5,6 +5,7 @@ ghost use Prim.Native.Nat.{_+_, _*_, _^_, _≤_, _<_};
 ghost use lib.Dec.{eqb};
 ghost use lib.ListN.{length};
 ghost use Rattle.model.specs.Limits.{mostTips};
+ghost use Rattle.pair_count.specs.PairTable.{PairTable};
 ghost use Rattle.goals.specs.Check.{entry};
 ghost use Rattle.checking.specs.Checking.{atBy, tipsBy, boundsBy, Ready};
 
@@ -27,31 +28,40 @@ fn tip_bounded(
     w: usize,
     i: usize,
     most: u64,
+    pairs: &[u32],
     sums: &[u32],
     table: &[u32],
 ) -> bool
-    requires { ⌜ Ready m (now sums) (now table) × (a + w ≤ m) × (i < w) ⌝ }
+    requires { ⌜ Ready m (now sums) (now table) × (a + w ≤ m) × (i < w) × PairTable (now pairs) ⌝ }
     ensures { λ r. ⌜ r ≡ atBy names m (now (sums .entry)) (now (table .entry)) a w most i ⌝ }
 {
     let c = a + i;
     if !tips::has_tip(names, c) {
         return true;
     }
-    let here = pair_count::pairs_among(spans::inside_at(sums, a, w, c)) as u64;
+    let here = pair_count::pairs_among(pairs, spans::inside_at(sums, a, w, c)) as u64;
     let before = entry_at(m, a, i, table);
     let after = entry_at(m, c + 1, w - (i + 1), table);
     here + (before + after) <= most
 }
 
 // And so at each tip of the interval.
-fn tips_bounded(names: u64, m: usize, a: usize, w: usize, sums: &[u32], table: &[u32]) -> bool
-    requires { ⌜ Ready m (now sums) (now table) × (a + w ≤ m) ⌝ }
+fn tips_bounded(
+    names: u64,
+    m: usize,
+    a: usize,
+    w: usize,
+    pairs: &[u32],
+    sums: &[u32],
+    table: &[u32],
+) -> bool
+    requires { ⌜ Ready m (now sums) (now table) × (a + w ≤ m) × PairTable (now pairs) ⌝ }
     ensures { λ r. ⌜ r ≡ tipsBy names m (now (sums .entry)) (now (table .entry)) a w ⌝ }
 {
     let most = entry_at(m, a, w, table);
     let mut i = 0;
     while i < w {
-        if !tip_bounded(names, m, a, w, i, most, sums, table) {
+        if !tip_bounded(names, m, a, w, i, most, pairs, sums, table) {
             return false;
         }
         i += 1;
@@ -60,8 +70,15 @@ fn tips_bounded(names: u64, m: usize, a: usize, w: usize, sums: &[u32], table: &
 }
 
 // The entry for the rack is the claim, and so each interval.
-pub fn table_fits(names: u64, m: usize, claim: u32, sums: &[u32], table: &[u32]) -> bool
-    requires { ⌜ Ready m (now sums) (now table) ⌝ }
+pub fn table_fits(
+    names: u64,
+    m: usize,
+    claim: u32,
+    pairs: &[u32],
+    sums: &[u32],
+    table: &[u32],
+) -> bool
+    requires { ⌜ Ready m (now sums) (now table) × PairTable (now pairs) ⌝ }
     ensures { λ r. ⌜ r ≡ (eqb (entry m (now (table .entry)) 0 m) claim && boundsBy names m (now (sums .entry)) (now (table .entry))) ⌝ }
 {
     if entry_at(m, 0, m, table) != claim as u64 {
@@ -71,7 +88,7 @@ pub fn table_fits(names: u64, m: usize, claim: u32, sums: &[u32], table: &[u32])
     while a < m {
         let mut w = 1;
         while a + w <= m {
-            if !tips_bounded(names, m, a, w, sums, table) {
+            if !tips_bounded(names, m, a, w, pairs, sums, table) {
                 return false;
             }
             w += 1;

@@ -21,16 +21,16 @@ use Rattle.checking.proofs.claimed.claim_refusal.Statement.{statement}
 use Rattle.checking.proofs.claimed.claim_refusal.Tie as tie
 
 abbrev Inv-loop : tie.InvT-loop
-Inv-loop lines quantities plan claim on₀ pairs₀ i₀ on pairs i =
+Inv-loop pairs lines quantities plan claim on₀ shared₀ i₀ on shared i =
     (i ≤ length lines) × (isValid lines plan ≡ isValid (drop i lines) (drop i plan))
-    × (on ≡ onTips (placed quantities plan i)) × (pairs ≡ pairsOf (placed quantities plan i))
+    × (on ≡ onTips (placed quantities plan i)) × (shared ≡ pairsOf (placed quantities plan i))
 
 abbrev μ-loop : tie.MeasureT-loop
-μ-loop lines quantities plan claim on₀ pairs₀ i₀ on pairs i = length lines - i
+μ-loop pairs lines quantities plan claim on₀ shared₀ i₀ on shared i = length lines - i
 
 -- the call's start, from the loop
 abbrev start : tie.At-loop Inv-loop μ-loop → tie.Start Inv-loop μ-loop
-start c = c .before .before .before .before .before
+start c = c .before .before .before .before .before .before
 
 -- what is known in the loop of line i: its quantity and its tip
 module _ (c : tie.In-loop Inv-loop μ-loop) where
@@ -60,7 +60,7 @@ module _ (c : tie.In-loop Inv-loop μ-loop) where
 
   -- a set has 64 bits
   line-below : T (has (getD lines i 0) tip) → tip < mostTips
-  line-below h = has-below 64 (getD lines i 0) tip (c .before .before .before .before .before .shared-slice-known .given i .fits) h
+  line-below h = has-below 64 (getD lines i 0) tip (c .before .before .before .before .before .shared-slice-known2 .given i .fits) h
 
   -- the line is on a foreign tip
   refused : has (getD lines i 0) tip ≡ false → refuse 19 ≡ claimRefusal qs lines plan (s .args .claim)
@@ -76,7 +76,7 @@ module _ (c : tie.In-loop Inv-loop μ-loop) where
 
     -- the pairs grow by those of the tip
     pairs-grow : pairsOf (placed qs plan (i + 1)) + choose2 (getD (c .before .loop .on) tip 0)
-        ≡ c .before .loop .pairs + choose2 (getD (c .before .loop .on) tip 0 + getD qs i 0)
+        ≡ c .before .loop .shared + choose2 (getD (c .before .loop .on) tip 0 + getD qs i 0)
     pairs-grow = omega (
       arith,
       ap choose2 held,
@@ -95,7 +95,7 @@ module _ (c : tie.In-loop Inv-loop μ-loop) where
 grown : (c : tie.After-pairs-among2 Inv-loop μ-loop)
     → let b = c .before .before .before .before .before .before .before .before in
     (c .pairs-among2 .result ≤ c .before .pairs-among .result)
-    × (b .before .loop .pairs + (c .before .pairs-among .result - c .pairs-among2 .result) ≡ pairsOf (placed (qs b) (plan b) (i b + 1)))
+    × (b .before .loop .shared + (c .before .pairs-among .result - c .pairs-among2 .result) ≡ pairsOf (placed (qs b) (plan b) (i b + 1)))
     × (pairsOf (placed (qs b) (plan b) (i b + 1)) ≤ mostPairs)
 grown c =
     let e = c .before .before .before .before .before .before in
@@ -118,7 +118,7 @@ shared-slice-read-tip : tie.Need-shared-slice-read-tip Inv-loop μ-loop
 shared-slice-read-tip c = below (c .before)
 
 cast-tip : tie.Need-cast-tip Inv-loop μ-loop
-cast-tip c = record { fits = omega (arith, c .shared-slice-known4 .given (i (c .before))) }
+cast-tip c = record { fits = omega (arith, c .shared-slice-known5 .given (i (c .before))) }
 
 refuse-requires : tie.Need-refuse-requires Inv-loop μ-loop
 refuse-requires c κs = search needs
@@ -155,7 +155,7 @@ shared-slice-read-after : tie.Need-shared-slice-read-after Inv-loop μ-loop
 shared-slice-read-after c = search needs
 
 cast-after : tie.Need-cast-after Inv-loop μ-loop
-cast-after c = record { fits = omega (arith, c .shared-slice-known6 .given (i (c .before .before .before .before .before .before))) }
+cast-after c = record { fits = omega (arith, c .shared-slice-known7 .given (i (c .before .before .before .before .before .before))) }
 
 add-after : tie.Need-add-after Inv-loop μ-loop
 add-after c =
@@ -165,18 +165,18 @@ add-after c =
 pairs-among-requires : tie.Need-pairs-among-requires Inv-loop μ-loop
 pairs-among-requires c κs =
     let e = c .before .before .before .before in
-    held-few (e .before .before) (e .if1 .left)
+    (s (e .before .before) .pre .3, held-few (e .before .before) (e .if1 .left))
 
 pairs-among-requires-2 : tie.Need-pairs-among-requires-2 Inv-loop μ-loop
 pairs-among-requires-2 c κs =
     let e = c .before .before .before .before .before in
-    omega (arith, held-few (e .before .before) (e .if1 .left))
+    (s (e .before .before) .pre .3, omega (arith, held-few (e .before .before) (e .if1 .left)))
 
-sub-pairs : tie.Need-sub-pairs Inv-loop μ-loop
-sub-pairs c = grown c .0
+sub-shared : tie.Need-sub-shared Inv-loop μ-loop
+sub-shared c = grown c .0
 
-add-pairs : tie.Need-add-pairs Inv-loop μ-loop
-add-pairs c = record { fits = omega (arith, grown c) }
+add-shared : tie.Need-add-shared Inv-loop μ-loop
+add-shared c = record { fits = omega (arith, grown c) }
 
 mul-on : tie.Need-mul-on Inv-loop μ-loop
 mul-on c = search needs
@@ -214,7 +214,7 @@ returns-3 c =
     let plan = s .args .plan .now in
     let i = l .loop .i in
     let all = placed-all qs plan (omega arith) (s .pre .2) i (omega arith) in
-    let e : l .loop .pairs ≡ pairsOf (repeated qs plan) = l .loop .inv .3 ∙ ap pairsOf all in
+    let e : l .loop .shared ≡ pairsOf (repeated qs plan) = l .loop .inv .3 ∙ ap pairsOf all in
     c .refuse-when .ensures
     ∙ rw e (own-all qs (s .args .lines .now) plan (s .args .claim) (s .pre .1) i (l .loop .inv .1) (c .before .loop-test .left))
 
@@ -242,8 +242,8 @@ claim-refusal-spec =
     add-after
     pairs-among-requires
     pairs-among-requires-2
-    sub-pairs
-    add-pairs
+    sub-shared
+    add-shared
     mul-on
     array-write-on
     add-i

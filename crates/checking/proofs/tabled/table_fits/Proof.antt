@@ -12,20 +12,20 @@ use Rattle.checking.proofs.tabled.table_fits.Statement.{statement}
 use Rattle.checking.proofs.tabled.table_fits.Tie as tie
 
 abbrev Inv-loop2 : tie.InvT-loop2
-Inv-loop2 names m claim sums table a w₀ w = (a + w ≤ m + 1) × (every (tipsBy names m sums table a) w ≡ true)
+Inv-loop2 names m claim pairs sums table a w₀ w = (a + w ≤ m + 1) × (every (tipsBy names m sums table a) w ≡ true)
 
 abbrev μ-loop2 : tie.MeasureT-loop2
-μ-loop2 names m claim sums table a w₀ w = m + 1 - (a + w)
+μ-loop2 names m claim pairs sums table a w₀ w = m + 1 - (a + w)
 
 abbrev Inv-loop : tie.InvT-loop
-Inv-loop names m claim sums table a₀ a = (a ≤ m) × (every (widthsBy names m sums table) a ≡ true)
+Inv-loop names m claim pairs sums table a₀ a = (a ≤ m) × (every (widthsBy names m sums table) a ≡ true)
 
 abbrev μ-loop : tie.MeasureT-loop
-μ-loop names m claim sums table a₀ a = m - a
+μ-loop names m claim pairs sums table a₀ a = m - a
 
 -- the call's start, from the outer loop
 abbrev start : tie.At-loop Inv-loop2 μ-loop2 Inv-loop μ-loop → tie.Start Inv-loop2 μ-loop2 Inv-loop μ-loop
-start c = c .before .before .before .before .before
+start c = c .before .before .before .before .before .before
 
 -- the tests from a first tip, and of one interval from it
 abbrev widths : tie.At-loop Inv-loop2 μ-loop2 Inv-loop μ-loop → ℕ → Bool
@@ -40,7 +40,7 @@ entry-at-requires c κs = search needs
 returns : tie.Need-returns Inv-loop2 μ-loop2 Inv-loop μ-loop
 returns c =
     let call = c .before .entry-at in
-    rw (← (call .ensures .0), ne-eqb (call .result) (c .before .before .before .before .args .claim) (c .if1 .taken))
+    rw (← (call .ensures .0), ne-eqb (call .result) (c .before .before .before .before .before .args .claim) (c .if1 .taken))
 
 loop-holds : tie.Need-loop-holds Inv-loop2 μ-loop2 Inv-loop μ-loop
 unfolding every

@@ -18,16 +18,18 @@ returns c = rw (fails (c .before .has-tip .ensures) (c .if1 .taken))
 
 inside-at-requires : tie.Need-inside-at-requires
 inside-at-requires c κs =
-    let s = c .before .before .before .before in
+    let s = c .before .before .before .before .before in
     s .pre .0 .summed (s .args .a) (s .args .w) (s .args .a + s .args .i) (omega arith) (omega arith) (omega arith)
 
 pairs-among-requires : tie.Need-pairs-among-requires
 pairs-among-requires c κs =
-    let s = c .before .before .before .before .before in
-    omega (
-      arith,
-      c .inside-at .ensures,
-      s .pre .0 .few (s .args .a) (s .args .w) (s .args .a + s .args .i) (omega arith) (omega arith) (omega arith),
+    let s = c .before .before .before .before .before .before in (
+      s .pre .3,
+      omega (
+        arith,
+        c .inside-at .ensures,
+        s .pre .0 .few (s .args .a) (s .args .w) (s .args .a + s .args .i) (omega arith) (omega arith) (omega arith),
+      ),
     )
 
 cast-here : tie.Need-cast-here

@@ -11,17 +11,17 @@ use Rattle.checking.proofs.tabled.tips_bounded.Statement.{statement}
 use Rattle.checking.proofs.tabled.tips_bounded.Tie as tie
 
 abbrev Inv-loop : tie.InvT-loop
-Inv-loop names m a w sums table most i₀ i = (i ≤ w) × (every (atBy names m sums table a w most) i ≡ true)
+Inv-loop names m a w pairs sums table most i₀ i = (i ≤ w) × (every (atBy names m sums table a w most) i ≡ true)
 
 abbrev μ-loop : tie.MeasureT-loop
-μ-loop names m a w sums table most i₀ i = w - i
+μ-loop names m a w pairs sums table most i₀ i = w - i
 
 -- the interval's entry, from the loop; and the call's start from there
 abbrev entered : tie.At-loop Inv-loop μ-loop → tie.After-entry-at Inv-loop μ-loop
 entered c = c .before
 
 abbrev start : tie.After-entry-at Inv-loop μ-loop → tie.Start Inv-loop μ-loop
-start c = c .before .before .before
+start c = c .before .before .before .before
 
 -- the test at each tip
 abbrev test : tie.After-entry-at Inv-loop μ-loop → ℕ → Bool
