@@ -6,7 +6,6 @@ use native.Mathlib.Omega.{arith}
 use lib.ListN.{length, getD, take, drop}
 use lib.Seq.{take-at, length-take-le, length-front}
 use Rattle.model.specs.Choice.{Mounted}
-use Rattle.model.specs.Plan.{Valid, pairs}
 use Rattle.model.specs.Interval.{C, table}
 use Rattle.model.proofs.Valid.{valid-length}
 use Rattle.model.proofs.Table.{length-table}
@@ -109,7 +108,8 @@ module _ (earlier : Refusal) (m : ℕ) (mounted : Mounted) (qs lines plan cells 
       let own = own-accepted good (b .runs) mounted in
       let size : length laid ≡ length lines = valid-length (own .own) in
       let squares = length-table m (repeated qs lines) in
-      let same-plan : length ours ≡ length plan = length-front plan laid (length lines) (size ∙ sym (length-take-le (length lines) plan (b .bytes))) in
+      let same-plan : length ours ≡ length plan =
+      length-front plan laid (length lines) (size ∙ sym (length-take-le (length lines) plan (b .bytes))) in
       let same-grid : length grid ≡ length cells =
       length-front cells (table m (repeated qs lines)) (m * m) (squares ∙ sym (length-take-le (m * m) cells (b .cells))) in
       let free : bestRefusal earlier m lines (length ours) (length grid) .number ≡ 0 = rw (same-plan, same-grid) z in

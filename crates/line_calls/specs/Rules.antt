@@ -38,8 +38,8 @@ pub record BestRule (qs lines buffer : List ℕ) (number shared : ℕ) : Type 0 
   pub plan : number ≡ 0 → HandedOut qs lines buffer shared
   pub best : number ≡ 0 → (other : List ℕ) → Valid lines other → pairs (repeated qs other) ≤ shared
 
--- the check: where nothing is asked in vain before, a plan with its claim and its table is accepted exactly where each line is on a tip of its own,
--- the claim is the plan's count and the table's entry for the rack, and each entry is at least each split at a named tip; then no plan has more
+-- the check, of the plan's first bytes, where asked is the number refused before it: 0 exactly where each line is on a tip of its own, the claim is
+-- the plan's count and the table's entry for the rack, and each entry is at least each split at a named tip; then no plan has more than the claim
 pub record CheckRule (asked m : ℕ) (qs lines plan : List ℕ) (claim : ℕ) (table : List ℕ) (number : ℕ) : Type 0 where
   pub accepted : number ≡ 0 → Accepted m qs lines (take (length lines) plan) claim table
   pub exact : asked ≡ 0 → Accepted m qs lines (take (length lines) plan) claim table → number ≡ 0

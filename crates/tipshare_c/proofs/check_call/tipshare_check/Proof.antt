@@ -36,7 +36,8 @@ returns-2 c =
     let long = d .if1 .left in
     let four = put .put-answer .ensures in
     let (outcome, rule) = asked .check-outcome .ensures in
-    let seen-rule = subst (CheckRuleOf (s .args .file .now) (s .args .plan .now) (s .args .claim) (s .args .table .now)) (seen-is outcome old long four) rule in
+    let Rule = CheckRuleOf (s .args .file .now) (s .args .plan .now) (s .args .claim) (s .args .table .now) in
+    let seen-rule = subst Rule (seen-is outcome old long four) rule in
     (number-long outcome old long four, (answer-long outcome old long four, λ _. seen-rule))
 
 pub tipshare-check-spec : {M : Type 1} → statement M
