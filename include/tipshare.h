@@ -194,6 +194,11 @@ uint32_t tipshare_best(const uint8_t *file, size_t file_len, size_t mounted,
                        uint32_t *table, size_t table_len,
                        uint64_t *answer, size_t answer_len);
 
+uint32_t tipshare_check(const uint8_t *file, size_t file_len,
+                        const uint8_t *plan, size_t plan_len, uint32_t claim,
+                        const uint32_t *table, size_t table_len,
+                        uint64_t *answer, size_t answer_len);
+
 /*
  * Writes the text that the program tipshare prints for the file: its plans are
  * those without a mounted tip.
