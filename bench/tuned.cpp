@@ -2,7 +2,8 @@
  * Tip sharing by hand, tuned: how far the same job can be taken with the instructions of every x86-64 processor.
  *
  * Occurrences are counted for 64 tips at once: bit t of plane i is bit i of the count of tip t. Quick sharing finds
- * the lines of a tip in the transposed board. Best sharing goes by the length of the stretch, four stretches at once.
+ * the lines of a tip in the transposed board. Best sharing goes by the length of the stretch, four stretches at once. A
+ * check needs 64 bits only where some entry of the table is huge.
  * Sets are used as they stand in the file: the bit of tip t there is bit t ^ 56 of a 64-bit number. Those of version 2
  * are first packed without the quantities between them. A board whose quantities are all 1 has code of its own wherever
  * a quantity counts.
@@ -581,6 +582,16 @@ uint32_t best(const uint64_t *sets, const uint8_t *quantities, const Job &job, c
     return stretches.pairs();
 }
 
+/* Whether every entry is so small that two of them and a number of pairs stay within 31 bits. */
+bool are_small(const uint32_t *table, size_t places)
+{
+    uint32_t joined = 0;
+    for (size_t place = 0; place < places; place++) {
+        joined |= table[place];
+    }
+    return joined < uint32_t{1} << 29;
+}
+
 }  // namespace
 
 extern "C" {
@@ -663,6 +674,20 @@ uint32_t tuned_best(const uint8_t *file, size_t file_len, size_t mounted, uint8_
             const uint32_t pairs = best(lines.sets, lines.quantities, job, named, stretches, plan);
             write_table(named, job.rack, [&](size_t a, size_t b) { return stretches.pairs_of(a, b); }, table);
             return pairs;
+        });
+    });
+}
+
+uint32_t tuned_check(const uint8_t *file, size_t file_len, const uint8_t *plan, size_t plan_len, uint32_t claim,
+                     const uint32_t *table, size_t table_len, uint64_t *answer, size_t answer_len)
+{
+    Lines lines;
+    const auto read = [&] { return read_sets(file, file_len, lines); };
+    return answer_with(answer, answer_len, read, [&](const Job &job) {
+        return answer_check(lines, job, {plan, plan_len, claim, table, table_len}, answer, [&](const Named &named) {
+            const Within within(lines, job);
+            return are_small(table, job.rack * job.rack) ? no_entry_too_low<int32_t>(within, named, table)
+                                                         : no_entry_too_low<int64_t>(within, named, table);
         });
     });
 }
