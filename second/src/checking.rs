@@ -13,22 +13,6 @@ pub enum TableFault {
     TooLow { first: usize, last: usize, tip: usize, entry: u32, needed: u64 },
 }
 
-/// The placements that each tip takes in the stretch: those of the lines lying within it that allow the tip.
-fn taken_within(board: &Board, first: usize, last: usize) -> [u64; MOST_TIPS] {
-    let stretch = tips_from_to(first, last);
-    let mut taken = [0; MOST_TIPS];
-    for line in board.lines() {
-        if line.set & !stretch == 0 {
-            for tip in first..=last {
-                if has(line.set, tip) {
-                    taken[tip] += u64::from(line.quantity);
-                }
-            }
-        }
-    }
-    taken
-}
-
 impl Board {
     /// Whether each line is on a tip of its own.
     fn is_own_plan(&self, plan: &[u8]) -> bool {
@@ -44,9 +28,19 @@ impl Board {
         }
         let named = self.named_tips();
         for first in 0..m {
+            // The placements that each tip takes in the stretch: those of the lines lying within it that allow the tip.
+            let mut taken = [0; MOST_TIPS];
             for last in first..m {
+                let stretch = tips_from_to(first, last);
+                // The lines that lie within this stretch, and not within the one that ends before its last tip.
+                for line in self.lines().filter(|line| line.set & !stretch == 0 && has(line.set, last)) {
+                    for tip in first..=last {
+                        if has(line.set, tip) {
+                            taken[tip] += u64::from(line.quantity);
+                        }
+                    }
+                }
                 let entry = entry_of(first, last);
-                let taken = taken_within(self, first, last);
                 for tip in first..=last {
                     if !has(named, tip) {
                         continue;
