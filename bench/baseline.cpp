@@ -334,7 +334,7 @@ uint32_t baseline_check(const uint8_t *file, size_t file_len, const uint8_t *pla
     const auto read = [&] { return read_sets(file, file_len, lines); };
     return answer_with(answer, answer_len, read, [&](const Job &job) {
         return answer_check(lines, job, {plan, plan_len, claim, table, table_len}, answer, [&](const Named &named) {
-            return no_entry_too_low<int64_t>(Within(lines, job), named, table);
+            return no_entry_too_low(Within(lines, job), named, table);
         });
     });
 }

@@ -536,32 +536,28 @@ struct Within {
     }
 };
 
-/*
- * Whether no entry is below what some named tip of its stretch needs. Lack is a number with a sign that holds every sum
- * of a number of pairs and two entries: 64 bits always do.
- */
-template <typename Lack>
-[[gnu::always_inline]] inline bool no_entry_too_low(const Within &within, const Named &named, const uint32_t *table)
+/* Whether no entry is below what some named tip of its stretch needs: a number of pairs and two entries, in 64 bits. */
+inline bool no_entry_too_low(const Within &within, const Named &named, const uint32_t *table)
 {
     const size_t rack = within.rack;
     // Below zero where an entry is too low.
-    Lack lacks = 0;
+    int64_t lacks = 0;
     for (size_t a = 0; a < rack; a++) {
         const uint32_t *const entries = table + a * rack;
         const int16_t *const all = within.of[a];
         for (uint64_t rest = named.tips >> a << a; rest != 0; rest &= rest - 1) {
             const size_t c = lowest(rest);
             const int16_t on_left = c > a ? all[c - 1] : int16_t{0};
-            const Lack below = c > a ? static_cast<Lack>(entries[c - 1]) : 0;
+            const int64_t below = c > a ? int64_t{entries[c - 1]} : 0;
             const int32_t here = all[c] - on_left;
-            lacks |= static_cast<Lack>(entries[c]) - below - static_cast<Lack>(here * (here - 1) / 2);
+            lacks |= int64_t{entries[c]} - below - here * (here - 1) / 2;
             const int16_t *const on_right = within.of[c + 1];
             const uint32_t *const above = table + (c + 1) * rack;
             for (size_t b = c + 1; b < rack; b++) {
                 const int16_t placements = static_cast<int16_t>(all[b] - on_left - on_right[b]);
                 const int16_t others = static_cast<int16_t>(placements - 1);
-                const int32_t pairs = int32_t{placements} * others / 2;
-                lacks |= static_cast<Lack>(entries[b]) - below - static_cast<Lack>(above[b]) - static_cast<Lack>(pairs);
+                const int32_t pairs = int32_t{placements} * others >> 1;
+                lacks |= int64_t{entries[b]} - below - int64_t{above[b]} - pairs;
             }
         }
     }
