@@ -1,8 +1,9 @@
 /*
  * Tip sharing by hand in plain C++, with the steps meant for the proved library: counts are made tip by tip and taken
  * down as lines are planned; best sharing runs on the ranks of the named tips, counts placements by lowest and highest
- * tip, sums the counts in two directions and has r^3/6 steps for r named tips; then the table is spread over the rack. The
- * contiguous inner loops are written so that the compiler puts them into vector instructions.
+ * tip, sums the counts in two directions and has r^3/6 steps for r named tips; then the table is spread over the rack. A
+ * check sums the same counts over the rack, in 64 bits. The contiguous inner loops are written so that the compiler puts
+ * them into vector instructions.
  * A board whose quantities are all 1 has code of its own wherever a quantity counts.
  */
 #include "libraries.h"
@@ -323,6 +324,18 @@ uint32_t baseline_best(const uint8_t *file, size_t file_len, size_t mounted, uin
     return answer_with(answer, answer_len, read, [&](const Job &job) {
         const auto pairs = [&](const Named &named) { return best(lines, job, named, mounted, plan, table); };
         return answer_best(lines.sets, job, mounted, plan_len, table_len, answer, pairs);
+    });
+}
+
+uint32_t baseline_check(const uint8_t *file, size_t file_len, const uint8_t *plan, size_t plan_len, uint32_t claim,
+                        const uint32_t *table, size_t table_len, uint64_t *answer, size_t answer_len)
+{
+    Lines lines;
+    const auto read = [&] { return read_sets(file, file_len, lines); };
+    return answer_with(answer, answer_len, read, [&](const Job &job) {
+        return answer_check(lines, job, {plan, plan_len, claim, table, table_len}, answer, [&](const Named &named) {
+            return no_entry_too_low(Within(lines, job), named, table);
+        });
     });
 }
 

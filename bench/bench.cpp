@@ -29,27 +29,28 @@ struct Library {
     decltype(&tipshare_keep) keep;
     decltype(&tipshare_quick) quick;
     decltype(&tipshare_best) best;
+    decltype(&tipshare_check) check;
     decltype(&tipshare_report) report;
 };
 
 const Library kLibraries[] = {
     {"tipshare", "proved", tipshare_read, tipshare_common, tipshare_keep, tipshare_quick, tipshare_best,
-     tipshare_report},
+     tipshare_check, tipshare_report},
     {"baseline", "same steps", baseline_read, baseline_common, baseline_keep, baseline_quick, baseline_best,
-     baseline_report},
-    {"tuned", "tuned", tuned_read, tuned_common, tuned_keep, tuned_quick, tuned_best, tuned_report},
+     baseline_check, baseline_report},
+    {"tuned", "tuned", tuned_read, tuned_common, tuned_keep, tuned_quick, tuned_best, tuned_check, tuned_report},
 };
 constexpr size_t kNumber = std::size(kLibraries);
 
-enum class Call { read, common, keep, quick, best, report };
+enum class Call { read, common, keep, quick, best, check, report };
 
 struct NamedCall {
     Call call;
     const char *name;
 };
 
-const NamedCall kCalls[] = {{Call::read, "read"},   {Call::common, "common"}, {Call::keep, "keep"},
-                            {Call::quick, "quick"}, {Call::best, "best"},     {Call::report, "report"}};
+const NamedCall kCalls[] = {{Call::read, "read"}, {Call::common, "common"}, {Call::keep, "keep"},    {Call::quick, "quick"},
+                            {Call::best, "best"}, {Call::check, "check"},   {Call::report, "report"}};
 
 /* What a call can write to, lent at the lengths that always do. */
 struct Buffers {
@@ -90,6 +91,9 @@ uint64_t make_call(const Library &library, Call call, const File &file, Buffers 
     case Call::best:
         return library.best(bytes, length, file.mounted, lent.plan, sizeof lent.plan, lent.table, TIPSHARE_MOST_PLACES,
                             lent.answer, places);
+    case Call::check:
+        return library.check(bytes, length, file.plan.data(), file.plan.size(), file.claim, file.table.data(),
+                             file.table.size(), lent.answer, places);
     case Call::report: return library.report(bytes, length, lent.out, sizeof lent.out);
     }
     return 0;
@@ -257,10 +261,11 @@ std::string shown(double nanoseconds)
     return digits;
 }
 
-/* Best sharing refuses a board with a line that is no run, so there is nothing to time. */
+/* Best sharing and the check refuse a board with a line that is no run, so there is nothing to time. */
 bool is_measured(const NamedCall &named, const Boards &boards, const Settings &settings)
 {
-    return (named.call != Call::best || boards.runs) &&
+    const bool needs_runs = named.call == Call::best || named.call == Call::check;
+    return (!needs_runs || boards.runs) &&
            (settings.only_call.empty() || settings.only_call == named.name);
 }
 
@@ -437,7 +442,7 @@ const char kUsage[] =
     "bench [--rounds N] [--json] [--call CALL] [--board BOARD]   time the calls and print tables\n"
     "bench --callgrind CALL BOARD LIBRARY [TIMES]                make one call only, and print how often it was made\n"
     "bench --list                                                the calls and boards\n"
-    "CALL: read, common, keep, quick, best, report. LIBRARY: tipshare, baseline, tuned.\n"
+    "CALL: read, common, keep, quick, best, check, report. LIBRARY: tipshare, baseline, tuned.\n"
     "With --board the tables of growth are left out.\n";
 
 int usage()

@@ -6,6 +6,7 @@
 #include <utility>
 
 #include "job.h"
+#include "libraries.h"
 
 namespace {
 
@@ -123,7 +124,18 @@ File file_of(const std::vector<uint64_t> &sets, size_t rack, Quantities quantiti
     } else {
         bytes.resize(job::write_file(bytes.data(), rack, sets.data(), job::Single{}, sets.size()));
     }
-    return {std::move(bytes), least_bound(sets, quantities), TIPSHARE_NO_TIP};
+    return {std::move(bytes), least_bound(sets, quantities), TIPSHARE_NO_TIP, {}, 0, {}};
+}
+
+/* Puts the best plan of the file's board into it, with its pairs and its table. */
+void put_plan(File &file)
+{
+    uint64_t answer[TIPSHARE_ANSWER_PLACES];
+    file.plan.resize(TIPSHARE_MOST_LINES);
+    file.table.resize(TIPSHARE_MOST_PLACES);
+    baseline_best(file.bytes.data(), file.bytes.size(), file.mounted, file.plan.data(), file.plan.size(),
+                  file.table.data(), file.table.size(), answer, TIPSHARE_ANSWER_PLACES);
+    file.claim = static_cast<uint32_t>(answer[1]);
 }
 
 /* The set with each tip so many times as high. */
@@ -154,6 +166,9 @@ Boards boards_of(std::string name, std::string description, size_t lines, size_t
         boards.runs = boards.runs && job::Named(sets.data(), lines).first_no_run(sets.data(), lines) == lines;
         boards.files.push_back(file_of(sets, rack, quantities_of, random));
     }
+    if (boards.runs) {
+        std::for_each(boards.files.begin(), boards.files.end(), put_plan);
+    }
     return boards;
 }
 
@@ -162,6 +177,7 @@ Boards with_mounted(Boards boards, size_t tip)
 {
     for (File &file : boards.files) {
         file.mounted = tip;
+        put_plan(file);
     }
     return boards;
 }

@@ -7,13 +7,16 @@
 #include <vector>
 
 /*
- * A job file, with the bound that keep is called with, the least that is accepted, so that it strikes tips, and the tip
- * that is mounted for the plans.
+ * A job file, with the bound that keep is called with, the least that is accepted, so that it strikes tips, the tip that
+ * is mounted for the plans, and the best plan with its pairs and its table, which is checked.
  */
 struct File {
     std::vector<uint8_t> bytes;
     uint16_t k;
     size_t mounted;
+    std::vector<uint8_t> plan;
+    uint32_t claim;
+    std::vector<uint32_t> table;
 };
 
 /* Many boards of one description: of a few, the processor soon foresees every branch, which it cannot of a new one. */

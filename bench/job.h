@@ -23,7 +23,10 @@ constexpr int64_t kMostQuantity = 255;
 constexpr size_t kLongestFile = kHead + (kSet + 1) * kMostLines;
 
 constexpr uint32_t kZeroQuantity = 15;
+constexpr uint32_t kForeignTip = 19;
+constexpr uint32_t kWrongClaim = 20;
 constexpr uint32_t kTooManyPlacements = 30;
+constexpr uint32_t kTableFails = 33;
 
 /* A job file that was accepted, or the number and the line of its refusal. */
 struct Job {
@@ -437,6 +440,128 @@ template <typename Pairs>
         return refused(answer, TIPSHARE_NO_RUN, no_run);
     }
     return answered(answer, TIPSHARE_ACCEPTED, 0, pairs(named), 0, 0);
+}
+
+/* What other software hands over: a plan, how many pairs it is said to have, and a table. */
+struct Handed {
+    const uint8_t *plan;
+    size_t plan_len;
+    uint32_t claim;
+    const uint32_t *table;
+    size_t table_len;
+};
+
+/* Whether each line is on a tip of its own; counts the placements on each tip. */
+template <typename Quantities>
+[[gnu::always_inline]] inline bool has_own_tips(const uint64_t *sets, Quantities quantities, size_t count,
+                                                const uint8_t *plan, uint32_t *placements)
+{
+    uint64_t own = 1;
+    for (size_t line = 0; line < count; line++) {
+        const unsigned tip = plan[line];
+        own &= (sets[line] >> tip % kMostTips) & (tip < kMostTips);
+        placements[tip % kMostTips] += quantities[line];
+    }
+    return own != 0;
+}
+
+/*
+ * Answers the check of a plan on a good file: refused by a short buffer, a line that is no run, a foreign tip or the
+ * claim, else by table_holds(named).
+ */
+template <typename TableHolds>
+[[gnu::always_inline]] inline uint32_t answer_check(const Lines &lines, const Job &job, const Handed &handed,
+                                                    uint64_t *answer, const TableHolds &table_holds)
+{
+    if (handed.plan_len < job.count) {
+        return refused(answer, TIPSHARE_SHORT_PLAN);
+    }
+    if (handed.table_len < job.rack * job.rack) {
+        return refused(answer, TIPSHARE_SHORT_TABLE);
+    }
+    const Named named(lines.sets, job.count);
+    const size_t no_run = named.first_no_run(lines.sets, job.count);
+    if (no_run < job.count) {
+        return refused(answer, TIPSHARE_NO_RUN, no_run);
+    }
+    uint32_t placements[kMostTips] = {};
+    const bool own = with_quantities(job, lines.quantities, [&](auto quantities) {
+        return has_own_tips(lines.sets, quantities, job.count, handed.plan, placements);
+    });
+    if (!own) {
+        return refused(answer, kForeignTip);
+    }
+    uint32_t pairs = 0;
+    for (uint32_t on_tip : placements) {
+        pairs += pairs_on(on_tip);
+    }
+    if (pairs != handed.claim) {
+        return refused(answer, kWrongClaim);
+    }
+    if (handed.table[job.rack - 1] != handed.claim || !table_holds(named)) {
+        return refused(answer, kTableFails);
+    }
+    return answered(answer, TIPSHARE_ACCEPTED, 0, 0, 0, 0);
+}
+
+/*
+ * The placements of the lines lying within each stretch of a rack: of the lines within a to b those that allow a named
+ * tip c are in neither of the stretches beside it.
+ */
+struct Within {
+    size_t rack;
+    // Row a + 1 has a stretch that begins past its end too, with no line in it.
+    alignas(16) int16_t of[kMostTips + 1][kMostTips];
+
+    Within(const Lines &lines, const Job &job) : rack(job.rack)
+    {
+        memset(of, 0, (rack + 1) * sizeof of[0]);
+        with_quantities(job, lines.quantities, [&](auto quantities) {
+            for (size_t line = 0; line < job.count; line++) {
+                int16_t &here = of[lowest(lines.sets[line])][highest(lines.sets[line])];
+                here = static_cast<int16_t>(here + quantities[line]);
+            }
+        });
+        // First along each row, then down from row to row.
+        for (size_t a = 0; a < rack; a++) {
+            for (size_t b = a + 1; b < rack; b++) {
+                of[a][b] = static_cast<int16_t>(of[a][b] + of[a][b - 1]);
+            }
+        }
+        for (size_t a = rack; a-- > 0;) {
+            for (size_t b = 0; b < rack; b++) {
+                of[a][b] = static_cast<int16_t>(of[a][b] + of[a + 1][b]);
+            }
+        }
+    }
+};
+
+/* Whether no entry is below what some named tip of its stretch needs: a number of pairs and two entries, in 64 bits. */
+inline bool no_entry_too_low(const Within &within, const Named &named, const uint32_t *table)
+{
+    const size_t rack = within.rack;
+    // Below zero where an entry is too low.
+    int64_t lacks = 0;
+    for (size_t a = 0; a < rack; a++) {
+        const uint32_t *const entries = table + a * rack;
+        const int16_t *const all = within.of[a];
+        for (uint64_t rest = named.tips >> a << a; rest != 0; rest &= rest - 1) {
+            const size_t c = lowest(rest);
+            const int16_t on_left = c > a ? all[c - 1] : int16_t{0};
+            const int64_t below = c > a ? int64_t{entries[c - 1]} : 0;
+            const int32_t here = all[c] - on_left;
+            lacks |= int64_t{entries[c]} - below - here * (here - 1) / 2;
+            const int16_t *const on_right = within.of[c + 1];
+            const uint32_t *const above = table + (c + 1) * rack;
+            for (size_t b = c + 1; b < rack; b++) {
+                const int16_t placements = static_cast<int16_t>(all[b] - on_left - on_right[b]);
+                const int16_t others = static_cast<int16_t>(placements - 1);
+                const int32_t pairs = int32_t{placements} * others >> 1;
+                lacks |= int64_t{entries[b]} - below - int64_t{above[b]} - pairs;
+            }
+        }
+    }
+    return lacks >= 0;
 }
 
 /*

@@ -17,6 +17,7 @@ static uint64_t answer[TIPSHARE_ANSWER_PLACES];
 static uint8_t plan[TIPSHARE_MOST_LINES];
 static uint8_t out[job::kLongestFile];
 static uint32_t table[TIPSHARE_MOST_PLACES];
+static uint32_t claim;
 static uint8_t text[TIPSHARE_REPORT_SPACE];
 
 static void read_it() { tipshare_read(file, length, answer, TIPSHARE_ANSWER_PLACES); }
@@ -33,6 +34,13 @@ static void best_it()
 {
     tipshare_best(file, length, mounted, plan, sizeof plan, table, TIPSHARE_MOST_PLACES, answer,
                   TIPSHARE_ANSWER_PLACES);
+    claim = (uint32_t)answer[1];
+}
+/* What best sharing wrote just before. */
+static void check_it()
+{
+    tipshare_check(file, length, plan, sizeof plan, claim, table, TIPSHARE_MOST_PLACES, answer,
+                   TIPSHARE_ANSWER_PLACES);
 }
 static void report_it() { tipshare_report(file, length, text, sizeof text); }
 
@@ -40,7 +48,8 @@ static const struct {
     const char *name;
     void (*make)();
 } calls[] = {{"tipshare_read", read_it},   {"tipshare_common", common_it}, {"tipshare_keep", keep_it},
-             {"tipshare_quick", quick_it}, {"tipshare_best", best_it},     {"tipshare_report", report_it}};
+             {"tipshare_quick", quick_it}, {"tipshare_best", best_it},     {"tipshare_check", check_it},
+             {"tipshare_report", report_it}};
 enum { CALLS = sizeof calls / sizeof calls[0] };
 
 static __attribute__((noinline)) void paint()

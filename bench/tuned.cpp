@@ -2,7 +2,8 @@
  * Tip sharing by hand, tuned: how far the same job can be taken with the instructions of every x86-64 processor.
  *
  * Occurrences are counted for 64 tips at once: bit t of plane i is bit i of the count of tip t. Quick sharing finds
- * the lines of a tip in the transposed board. Best sharing goes by the length of the stretch, four stretches at once.
+ * the lines of a tip in the transposed board. Best sharing goes by the length of the stretch, four stretches at once. A
+ * check needs 64 bits only where some entry of the table is huge.
  * Sets are used as they stand in the file: the bit of tip t there is bit t ^ 56 of a 64-bit number. Those of version 2
  * are first packed without the quantities between them. A board whose quantities are all 1 has code of its own wherever
  * a quantity counts.
@@ -581,6 +582,74 @@ uint32_t best(const uint64_t *sets, const uint8_t *quantities, const Job &job, c
     return stretches.pairs();
 }
 
+/*
+ * A table whose entries are all small, in rows of whole steps. Where a stretch is empty the entry is 0. Before that and
+ * behind the rack it falls from row to row, by more than a number of pairs and an entry, so that nothing is lacking there.
+ */
+struct Entries {
+    static constexpr size_t kStep = 8;
+    static constexpr int32_t kMost = 1 << 22;
+    static constexpr int32_t kFall = 2 * kMost;
+    alignas(16) int32_t of[kMostTips + 1][kMostTips];
+
+    /* Whether all are small. */
+    bool fill(const uint32_t *table, size_t rack)
+    {
+        uint32_t joined = 0;
+        for (size_t a = 0; a <= rack; a++) {
+            for (size_t b = 0; b < a && b < kMostTips; b++) {
+                of[a][b] = static_cast<int32_t>(b + 1) * kFall - static_cast<int32_t>(a) * kFall;
+            }
+            for (size_t b = a; b < rack; b++) {
+                joined |= table[a * rack + b];
+                of[a][b] = static_cast<int32_t>(table[a * rack + b]);
+            }
+            for (size_t b = rack; b < kMostTips; b++) {
+                of[a][b] = static_cast<int32_t>(kMostTips + 1 - a) * kFall;
+            }
+        }
+        return joined < uint32_t{kMost};
+    }
+
+    static __m128i four(const int32_t *at) { return _mm_load_si128(reinterpret_cast<const __m128i *>(at)); }
+
+    static __m128i eight(const int16_t *at) { return _mm_load_si128(reinterpret_cast<const __m128i *>(at)); }
+
+    /* Whether no entry is below what some named tip of its stretch needs; eight stretches at once. */
+    bool hold(const Within &within, const Named &named, size_t rack) const
+    {
+        // Below zero where an entry is too low.
+        __m128i lacks = _mm_setzero_si128();
+        const __m128i one = _mm_set1_epi16(1);
+        for (size_t a = 0; a < rack; a++) {
+            const int32_t *const entries = of[a];
+            const int16_t *const all = within.of[a];
+            for (uint64_t rest = named.tips >> a << a; rest != 0; rest &= rest - 1) {
+                const size_t c = lowest(rest);
+                const __m128i on_left = _mm_set1_epi16(c > a ? all[c - 1] : int16_t{0});
+                const __m128i below = _mm_set1_epi32(c > a ? entries[c - 1] : 0);
+                const int16_t *const on_right = within.of[c + 1];
+                const int32_t *const above = of[c + 1];
+                for (size_t b = c / kStep * kStep; b < rack; b += kStep) {
+                    const __m128i not_left = _mm_sub_epi16(eight(all + b), on_left);
+                    const __m128i placements = _mm_sub_epi16(not_left, eight(on_right + b));
+                    const __m128i others = _mm_sub_epi16(placements, one);
+                    const __m128i low = _mm_mullo_epi16(placements, others);
+                    const __m128i high = _mm_mulhi_epi16(placements, others);
+                    const __m128i pairs1 = _mm_srai_epi32(_mm_unpacklo_epi16(low, high), 1);
+                    const __m128i pairs2 = _mm_srai_epi32(_mm_unpackhi_epi16(low, high), 1);
+                    const __m128i beside1 = _mm_add_epi32(below, four(above + b));
+                    const __m128i beside2 = _mm_add_epi32(below, four(above + b + 4));
+                    const __m128i lacks1 = _mm_sub_epi32(four(entries + b), _mm_add_epi32(beside1, pairs1));
+                    const __m128i lacks2 = _mm_sub_epi32(four(entries + b + 4), _mm_add_epi32(beside2, pairs2));
+                    lacks = _mm_or_si128(lacks, _mm_or_si128(lacks1, lacks2));
+                }
+            }
+        }
+        return _mm_movemask_ps(_mm_castsi128_ps(lacks)) == 0;
+    }
+};
+
 }  // namespace
 
 extern "C" {
@@ -663,6 +732,24 @@ uint32_t tuned_best(const uint8_t *file, size_t file_len, size_t mounted, uint8_
             const uint32_t pairs = best(lines.sets, lines.quantities, job, named, stretches, plan);
             write_table(named, job.rack, [&](size_t a, size_t b) { return stretches.pairs_of(a, b); }, table);
             return pairs;
+        });
+    });
+}
+
+uint32_t tuned_check(const uint8_t *file, size_t file_len, const uint8_t *plan, size_t plan_len, uint32_t claim,
+                     const uint32_t *table, size_t table_len, uint64_t *answer, size_t answer_len)
+{
+    Lines lines;
+    const auto read = [&] { return read_sets(file, file_len, lines); };
+    return answer_with(answer, answer_len, read, [&](const Job &job) {
+        return answer_check(lines, job, {plan, plan_len, claim, table, table_len}, answer, [&](const Named &named) {
+            if (named.count == 0) {
+                return true;
+            }
+            const Within within(lines, job);
+            Entries entries;
+            return entries.fill(table, job.rack) ? entries.hold(within, named, job.rack)
+                                                 : no_entry_too_low(within, named, table);
         });
     });
 }

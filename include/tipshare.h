@@ -60,6 +60,10 @@
  *    15  line answer[0] has quantity 0         give that line 1 to 255
  *    16  mounted is no tip of the rack and     give 0 to m - 1, or
  *        not TIPSHARE_NO_TIP                   TIPSHARE_NO_TIP for none
+ *    19  a line of the plan checked is on a    plan again: the plan is for other
+ *        tip that is not in its set            lines, or wrong
+ *    20  claim is not the number of pairs in   count the pairs of placements in
+ *        the plan checked                      the plan
  *    25  line answer[0], the first such, is    use tipshare_quick, which takes
  *        no run: it lacks a tip between its    any lines
  *        lowest and its highest that another
@@ -69,6 +73,8 @@
  *        margin, below zero
  *    30  line answer[0], the first such,       split the parts list
  *        brings the placements past 2048
+ *    33  the table checked does not show that  have all of its m * m places
+ *        the plan has the most pairs           filled, or use tipshare_best
  *   100  answer has fewer than 4 places        lend 4
  */
 #ifndef TIPSHARE_H
@@ -106,9 +112,12 @@ extern "C" {
 #define TIPSHARE_SHORT_OUTPUT 11
 #define TIPSHARE_ZERO_QUANTITY 15
 #define TIPSHARE_MOUNTED_OUTSIDE 16
+#define TIPSHARE_FOREIGN_TIP 19
+#define TIPSHARE_WRONG_CLAIM 20
 #define TIPSHARE_NO_RUN 25
 #define TIPSHARE_NO_PLAN 26
 #define TIPSHARE_TOO_MANY_PLACEMENTS 30
+#define TIPSHARE_WRONG_TABLE 33
 #define TIPSHARE_SHORT_ANSWER 100
 
 /*
@@ -193,6 +202,30 @@ uint32_t tipshare_best(const uint8_t *file, size_t file_len, size_t mounted,
                        uint8_t *plan, size_t plan_len,
                        uint32_t *table, size_t table_len,
                        uint64_t *answer, size_t answer_len);
+
+/*
+ * Checks a plan from other software, with a claimed number of pairs and a table
+ * that shows that no plan has more. Every line must be a run, as for
+ * tipshare_best. It is accepted exactly when each line is on a tip of its set,
+ * claim is the number of pairs in the plan, table[m - 1], the entry for the
+ * whole rack, is the claim, and for all tips a to b and each c of them that
+ * some line has the entry table[a * m + b] is at least p * (p - 1) / 2 plus the
+ * entries for a to c - 1 and for c + 1 to b (0 where there is no tip), p being
+ * the placements of the lines that lie within a to b and have c; the sums do not
+ * wrap. Then no plan has more pairs. What tipshare_best leaves in plan and table
+ * is accepted, with its pairs as the claim.
+ * file: file_len bytes, any number. plan: at least n bytes, plan[i] the tip of
+ * line i; a byte of 64 or more is no tip. claim: any number. table: at least
+ * m * m places, of which those for a above b are not read. answer: at least 4
+ * places. Nothing but answer is written.
+ * Accepted: answer is 0, 0, 0, 0.
+ * Refused (1, 2, 3, 6 to 10, 15, 30, then 4, 5, 25, 19, 20, 33): answer is the
+ * line, 0, 0, 0; with 19, 20 and 33 it is 0, 0, 0, 0.
+ */
+uint32_t tipshare_check(const uint8_t *file, size_t file_len,
+                        const uint8_t *plan, size_t plan_len, uint32_t claim,
+                        const uint32_t *table, size_t table_len,
+                        uint64_t *answer, size_t answer_len);
 
 /*
  * Writes the text that the program tipshare prints for the file: its plans are

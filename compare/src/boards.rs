@@ -37,9 +37,13 @@ fn at_places(set: u64, places: &[usize]) -> u64 {
     (0..places.len()).filter(|&rank| set >> rank & 1 == 1).fold(0, |set, rank| set | 1 << places[rank])
 }
 
-/// Boards that are always compared: those of the rules, and the ends of each range.
+/// Boards that are always compared: those of the rules, and the ends of each range; the quickest to compare first.
 pub fn fixed_boards() -> Vec<Board> {
-    [fixed_single_boards(), fixed_counted_boards(), fixed_boards_with_absent_tips(), fixed_boards_with_ties()].concat()
+    let kinds =
+        [fixed_single_boards(), fixed_counted_boards(), fixed_boards_with_absent_tips(), fixed_boards_with_ties()];
+    let mut boards = kinds.concat();
+    boards.sort_by_key(|board| (board.count > 48, board.rack > 9));
+    boards
 }
 
 fn fixed_single_boards() -> Vec<Board> {

@@ -18,11 +18,12 @@ pub enum Call {
     Keep { k: u16, out: usize, answer: usize },
     Quick { mounted: usize, plan: usize, answer: usize },
     Best { mounted: usize, plan: usize, table: usize, answer: usize },
+    Check { claim: u32, plan: usize, table: usize, answer: usize },
     Report { out: usize },
 }
 
 /// The names of the calls, in the order of their columns.
-pub const CALL_NAMES: [&str; 6] = ["read", "common", "keep", "quick", "best", "report"];
+pub const CALL_NAMES: [&str; 7] = ["read", "common", "keep", "quick", "best", "check", "report"];
 
 impl Call {
     /// Where the call stands among the names.
@@ -33,7 +34,8 @@ impl Call {
             Call::Keep { .. } => 2,
             Call::Quick { .. } => 3,
             Call::Best { .. } => 4,
-            Call::Report { .. } => 5,
+            Call::Check { .. } => 5,
+            Call::Report { .. } => 6,
         }
     }
 }
@@ -56,10 +58,23 @@ impl<T: Copy> Lent<T> {
         Lent { cells: junk, start, length }
     }
 
+    /// Puts these cells at the beginning of the lent part, as many as there is room for.
+    fn begin_with(&mut self, cells: &[T]) {
+        let number = cells.len().min(self.length);
+        self.inside()[..number].copy_from_slice(&cells[..number]);
+    }
+
     /// The lent part.
     pub(crate) fn inside(&mut self) -> &mut [T] {
         &mut self.cells[self.start..self.start + self.length]
     }
+}
+
+/// What stands in the plan and in the table before a call, as far as they are lent; behind it there is junk.
+#[derive(Clone, Copy, Default)]
+pub struct Given<'a> {
+    pub plan: &'a [u8],
+    pub table: &'a [u32],
 }
 
 /// Everything that one call can reach.
@@ -76,12 +91,12 @@ pub struct Buffers {
 pub type Caller = fn(&Call, &mut Buffers) -> u64;
 
 impl Buffers {
-    fn new(file: &[u8], call: &Call, junk: u64) -> Buffers {
+    fn new(file: &[u8], call: &Call, given: Given, junk: u64) -> Buffers {
         let (bytes, table, answer) = match *call {
             Call::Read { answer } | Call::Common { answer } => (0, 0, answer),
             Call::Keep { out, answer, .. } => (out, 0, answer),
             Call::Quick { plan, answer, .. } => (plan, 0, answer),
-            Call::Best { plan, table, answer, .. } => (plan, table, answer),
+            Call::Best { plan, table, answer, .. } | Call::Check { plan, table, answer, .. } => (plan, table, answer),
             Call::Report { out } => (out, 0, 0),
         };
         let mut random = Random::new(junk);
@@ -92,6 +107,8 @@ impl Buffers {
             answer: Lent::junk(&mut random, answer, |number| [number]),
         };
         buffers.file.inside().copy_from_slice(file);
+        buffers.bytes.begin_with(given.plan);
+        buffers.table.begin_with(given.table);
         buffers
     }
 }
@@ -107,6 +124,7 @@ macro_rules! made_by {
             Call::Keep { k, .. } => $module::keep(file, k, bytes, answer).into(),
             Call::Quick { mounted, .. } => $module::quick(file, mounted, bytes, answer).into(),
             Call::Best { mounted, .. } => $module::best(file, mounted, bytes, table, answer).into(),
+            Call::Check { claim, .. } => $module::check(file, bytes, claim, table, answer).into(),
             Call::Report { .. } => $module::report(file, bytes) as u64,
         }
     }};
@@ -127,6 +145,8 @@ pub struct Outcome {
     pub returned: u64,
     /// The bytes of the plan or output after the call.
     pub bytes: Vec<u8>,
+    /// The table after the call.
+    pub table: Vec<u32>,
     /// The answer after the call.
     pub answer: Vec<u64>,
 }
@@ -152,8 +172,8 @@ impl fmt::Display for Difference {
 }
 
 /// Makes one call in both implementations.
-pub fn compare(library: Caller, file: &[u8], call: &Call, junk: u64) -> Result<Outcome, Difference> {
-    let mut of_library = Buffers::new(file, call, junk);
+pub fn compare(library: Caller, file: &[u8], call: &Call, given: Given, junk: u64) -> Result<Outcome, Difference> {
+    let mut of_library = Buffers::new(file, call, given, junk);
     let mut of_second = of_library.clone();
     let library = library(call, &mut of_library);
     let second = call_second(call, &mut of_second);
@@ -163,11 +183,15 @@ pub fn compare(library: Caller, file: &[u8], call: &Call, junk: u64) -> Result<O
         what += &first_difference("answer", &of_library.answer, &of_second.answer);
         what += &first_difference("plan or output", &of_library.bytes, &of_second.bytes);
         what += &first_difference("table", &of_library.table, &of_second.table);
+        if let Call::Check { .. } = call {
+            what += &format!("\nplan handed over {:?}\ntable handed over {:?}", given.plan, given.table);
+        }
         return Err(Difference { file: file.to_vec(), what });
     }
     Ok(Outcome {
         returned: second,
         bytes: of_second.bytes.inside().to_vec(),
+        table: of_second.table.inside().to_vec(),
         answer: of_second.answer.inside().to_vec(),
     })
 }

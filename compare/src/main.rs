@@ -9,15 +9,15 @@ use compare::check::Difference;
 use compare::mistakes::mistakes;
 use compare::run::{compare_program, Run};
 
-const DEFAULT_CASES: u64 = 400_000;
-/// The fixed and the small boards take some 300,000; with fewer there would be no seeded ones.
-const LEAST_CASES: u64 = 320_000;
+const DEFAULT_CASES: u64 = 440_000;
+/// The fixed and the small boards take some 355,000; with fewer there would be no seeded ones.
+const LEAST_CASES: u64 = 380_000;
 const DEFAULT_FILES: u64 = 2_000;
 const LEAST_FILES: u64 = 1_000;
 const DEFAULT_SEED: u64 = 1;
 
 const USAGE: &str = "\
-compare [--cases N] [--seed S] [--last FILE]     compare the library on N calls, 400,000 without N, 320,000 at least
+compare [--cases N] [--seed S] [--last FILE]     compare the library on N calls, 440,000 without N, 380,000 at least
 compare --hex FILE [--seed S]                    compare it on one job file, given as hex digits
 compare --program PROGRAM [--files N]            compare what the program prints for N files, 2,000 without N,
                                                  1,000 at least

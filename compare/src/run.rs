@@ -9,8 +9,9 @@ use second::interface::{ANSWER_PLACES, NO_TIP, REPORT_SPACE};
 use second::{number_of_plans, pairs_in, read, try_every_plan, Board, Version, MOST_PLACEMENTS};
 
 use crate::boards::{every_board, fixed_boards, is_counted, is_unbroken, seeded_board, seeded_file, single, Size};
-use crate::check::{call_library, compare, Call, Caller, Difference, Outcome};
+use crate::check::{call_library, compare, Call, Caller, Difference, Given, Outcome};
 use crate::damage::{damage, damaged, first_to_pass, quantities_in, KINDS, TOO_MANY_PLACEMENTS};
+use crate::handed::{keeps, stopping, wrapping, Handed, REFUSED_WAYS, WAYS};
 use crate::random::Random;
 use crate::tally::{Event, Tally, SHORT_REPORT};
 
@@ -114,6 +115,7 @@ impl Run {
     fn fixed_file(&mut self, board: &Board, file: &[u8], turn: usize) -> Result<(), Difference> {
         self.good_file(board, file)?;
         self.each_length(board, file)?;
+        self.each_check(board, file, turn)?;
         self.try_plans(board, file)?;
         let is_short = file.len() < 100;
         // Every cut of a short file, and some of a long one.
@@ -187,6 +189,32 @@ impl Run {
             }
         }
         Ok(())
+    }
+
+    /// What is handed over for a check, changed in each way, in two that are refused, and in buffers around the needed
+    /// lengths; of a long file a part, whose turn it is.
+    fn each_check(&mut self, board: &Board, file: &[u8], turn: usize) -> Result<(), Difference> {
+        let (count, places) = (board.count, board.rack * board.rack);
+        let exact = [count, places, ANSWER_PLACES];
+        let call = Call::Best { mounted: NO_TIP, plan: count, table: places, answer: ANSWER_PLACES };
+        let own = Handed::of(&self.case(file, call)?);
+        let is_short = file.len() < 100;
+        for way in (0..WAYS).filter(|way| is_short || way % TURNS == turn % TURNS) {
+            let changed = own.changed(&mut self.random, board, way);
+            self.check(board, file, &changed, exact)?;
+        }
+        for (first, second) in [(0, 1), (0, 2), (1, 2)].map(|(i, j)| (REFUSED_WAYS[i], REFUSED_WAYS[j])) {
+            let changed = own.changed(&mut self.random, board, first).changed(&mut self.random, board, second);
+            self.check(board, file, &changed, exact)?;
+        }
+        let foreign = own.changed(&mut self.random, board, REFUSED_WAYS[0]);
+        for (plan, table) in [(1, 0), (1, 1), (0, 1)] {
+            let lengths = [count.saturating_sub(plan), places - table, ANSWER_PLACES];
+            self.check(board, file, &own, lengths)?;
+            self.check(board, file, &foreign, lengths)?;
+        }
+        let longer = (0..=8).map(|answer| [count, places, answer]).chain([[count + 9, places + 9, ANSWER_PLACES]]);
+        longer.into_iter().try_for_each(|lengths| self.check(board, file, &own, lengths).map(|_| ()))
     }
 
     fn small_board(&mut self, board: &Board) -> Result<(), Difference> {
@@ -279,6 +307,15 @@ impl Run {
             (best.returned == 0 && count > 0 && board.named_tips() >> mounted & 1 == 0, Event::MountedNotNamed),
         ]);
 
+        // Our own plan and table, and changed ones.
+        let own = Handed::of(&best_with);
+        self.check(board, file, &own, [plan, table, answer])?;
+        for lengths in [[plan, table, answer], self.check_lengths(count, places)] {
+            let way = self.random.below(WAYS);
+            let changed = own.changed(&mut self.random, board, way);
+            self.check(board, file, &changed, lengths)?;
+        }
+
         let any = self.random.below(100);
         let out = self.random.one_of(&[REPORT_SPACE, REPORT_SPACE, REPORT_SPACE + any, REPORT_SPACE - 1, any]);
         self.case(file, Call::Report { out })?;
@@ -304,14 +341,35 @@ impl Run {
         let (plan, table) = (self.length_around(count), self.length_around(rack * rack));
         let answer = self.answer_length();
         self.case(file, Call::Best { mounted, plan, table, answer })?;
+        let claim = self.random.number() as u32;
+        let [plan, table, answer] = self.check_lengths(count, rack * rack);
+        self.case(file, Call::Check { claim, plan, table, answer })?;
         let out = self.random.one_of(&[REPORT_SPACE, REPORT_SPACE, REPORT_SPACE, REPORT_SPACE - 1]);
         self.case(file, Call::Report { out })?;
         Ok(())
     }
 
-    /// One call in both implementations.
+    /// One call in both implementations, on buffers of junk.
     fn case(&mut self, file: &[u8], call: Call) -> Result<Outcome, Difference> {
-        let outcome = compare(self.library, file, &call, self.random.number())?;
+        self.case_with(file, call, Given::default())
+    }
+
+    /// The check of what is handed over for a good file, with these lengths of plan, table and answer.
+    fn check(
+        &mut self,
+        board: &Board,
+        file: &[u8],
+        handed: &Handed,
+        [plan, table, answer]: [usize; 3],
+    ) -> Result<Outcome, Difference> {
+        let call = Call::Check { claim: handed.claim, plan, table, answer };
+        let checked = self.case_with(file, call, Given { plan: &handed.plan, table: &handed.table })?;
+        self.count_check(board, handed, checked.returned);
+        Ok(checked)
+    }
+
+    fn case_with(&mut self, file: &[u8], call: Call, given: Given) -> Result<Outcome, Difference> {
+        let outcome = compare(self.library, file, &call, given, self.random.number())?;
         let number = match call {
             Call::Report { out } if out < REPORT_SPACE => SHORT_REPORT,
             Call::Report { .. } => refusal_in(&outcome.bytes),
@@ -351,6 +409,11 @@ impl Run {
         let any = self.random.below(needed + 20);
         let less = needed.saturating_sub(1);
         self.random.one_of(&[needed, needed, needed, needed, needed + 1, needed + 9, less, any])
+    }
+
+    /// Lengths of plan, table and answer, mostly those needed.
+    fn check_lengths(&mut self, count: usize, places: usize) -> [usize; 3] {
+        [self.length_around(count), self.length_around(places), self.answer_length()]
     }
 
     /// None, a tip of the rack, or sometimes a number outside it.
@@ -458,6 +521,34 @@ impl Run {
         ]);
     }
 
+    /// What was checked; the table that our best plan comes with is worked out for small boards alone.
+    fn count_check(&mut self, board: &Board, handed: &Handed, number: u64) {
+        // On small boards alone, for it takes long.
+        if board.count > 48 || !matches!(number, 0 | 19 | 20 | 33) {
+            return;
+        }
+        let (rack, named) = (board.rack, board.named_tips());
+        let (mut plan, mut table) = (vec![0; board.count], vec![0; rack * rack]);
+        board.clone().best(None, &mut plan, &mut table);
+        let differs = |below: bool| {
+            let mut places = (0..rack * rack).filter(|place| (place / rack > place % rack) == below);
+            places.any(|place| table[place] != handed.table[place])
+        };
+        let (accepted, refused) = (number == 0, number == 33);
+        let is_own = |line: usize, tip: u8| tip < 64 && board.sets[line] >> tip & 1 == 1;
+        let own_but_for_bits = || (0..board.count).all(|line| is_own(line, handed.plan[line] % 64));
+        self.count_events(&[
+            (accepted && plan != handed.plan, Event::CheckedOtherPlan),
+            (accepted && differs(false), Event::CheckedOtherTable),
+            (accepted && differs(true), Event::CheckedJunkBelow),
+            (number == 19 && handed.pairs(board) != handed.claim, Event::ForeignTipAndClaim),
+            (number == 19 && own_but_for_bits(), Event::ForeignTipByHighBits),
+            (number == 20 && board.table_fault(handed.claim, &handed.table).is_some(), Event::ClaimAndTable),
+            (refused && keeps(board, handed, named, wrapping), Event::TableByWrapping),
+            (refused && keeps(board, handed, named, stopping), Event::TableByStopping),
+        ]);
+    }
+
     /// Whether a file has too many placements, and lines after those.
     fn count_placements(&mut self, file: &[u8]) {
         let quantities = quantities_in(file);
@@ -539,9 +630,13 @@ fn against_every_plan(board: &Board) -> Result<(), String> {
         {
             return Err(format!("quick {plan:?} with {quick} pairs, {mounted:?}, most {}", tried.most_pairs));
         }
-        let best = board.clone().best(mounted, &mut plan, &mut [0; 4096]);
+        let mut table = vec![0; board.rack * board.rack];
+        let best = board.clone().best(mounted, &mut plan, &mut table);
         let pairs = pairs_in(&board.placed(&plan));
-        let right = is_own_plan(board, &plan) && pairs == best.value && best.value == tried.most_pairs;
+        let right = is_own_plan(board, &plan)
+            && pairs == best.value
+            && best.value == tried.most_pairs
+            && board.clone().check(&plan, best.value, &table).number == 0;
         if best.number == 0 && !right {
             return Err(format!("best {plan:?} with {} pairs, {mounted:?}, most {}", best.value, tried.most_pairs));
         }

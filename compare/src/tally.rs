@@ -53,9 +53,17 @@ pub enum Event {
     MountedOutsideAndShortPlan,
     MountedOutsideAndShortTable,
     MountedOutsideAndNoRun,
+    CheckedOtherPlan,
+    CheckedOtherTable,
+    CheckedJunkBelow,
+    ForeignTipAndClaim,
+    ForeignTipByHighBits,
+    ClaimAndTable,
+    TableByWrapping,
+    TableByStopping,
 }
 
-const EVENTS: [(Event, &str); 39] = [
+const EVENTS: [(Event, &str); 47] = [
     (Event::RackOf1, "boards with rack 1"),
     (Event::RackOf64, "boards with rack 64"),
     (Event::NoLines, "boards without lines"),
@@ -95,6 +103,14 @@ const EVENTS: [(Event, &str); 39] = [
     (Event::MountedOutsideAndShortPlan, "a mounted tip outside the rack, and a short plan"),
     (Event::MountedOutsideAndShortTable, "a mounted tip outside the rack, and a short table"),
     (Event::MountedOutsideAndNoRun, "a mounted tip outside the rack, and a line that is no run"),
+    (Event::CheckedOtherPlan, "check of another plan than best lays, accepted"),
+    (Event::CheckedOtherTable, "check with another table than best writes, accepted"),
+    (Event::CheckedJunkBelow, "check with junk below the diagonal of the table, accepted"),
+    (Event::ForeignTipAndClaim, "check of a plan with a foreign tip and a wrong claim"),
+    (Event::ForeignTipByHighBits, "check of a plan that is foreign by bits above the sixth alone"),
+    (Event::ClaimAndTable, "check with a wrong claim and a table that fails"),
+    (Event::TableByWrapping, "check with a table that fails but for sums that wrap in 32 bits"),
+    (Event::TableByStopping, "check with a table that fails but for sums that stop at 32 bits"),
 ];
 
 /// The counts of a run.
@@ -155,6 +171,7 @@ fn needed(column: usize) -> Vec<u32> {
         "keep" => &[11, 26, 100],
         "quick" => &[4, 16, 100],
         "best" => &[4, 5, 16, 25, 100],
+        "check" => &[4, 5, 19, 20, 25, 33, 100],
         "report" => &[SHORT_REPORT],
         _ => &[100],
     };
@@ -208,8 +225,9 @@ mod tests {
     fn what_never_occurred_is_missing() {
         let mut tally = Tally::default();
         let all = tally.missing().len();
-        // 0 and reading's 10 for 6 calls, 100 for 5, the short report; keep's 11, 26, quick's 4, 16, best's 4, 5, 16, 25.
-        assert_eq!(all, 6 * 11 + 5 + 1 + 8 + EVENTS.len());
+        // 0 and reading's 10 for 7 calls, 100 for 6, the short report; keep's 11, 26, quick's 4, 16, best's 4, 5, 16, 25,
+        // and the check's 4, 5, 19, 20, 25, 33.
+        assert_eq!(all, 7 * 11 + 6 + 1 + 8 + 6 + EVENTS.len());
         tally.count_call(25, 4);
         tally.count_event(Event::NoLines);
         assert_eq!(tally.missing().len(), all - 2);

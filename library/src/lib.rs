@@ -98,6 +98,13 @@ pub fn best(file: &[u8], mounted: Option<usize>, plan: &mut [u8], table: &mut [u
     Ok(answer_of(|answer| on_slices::best(file, number_of(mounted), plan, table, answer))?[1])
 }
 
+/// Checks a plan from other software, with its claimed pairs and its table, for lines that are runs; what is accepted has
+/// the most pairs of placements.
+pub fn check(file: &[u8], plan: &[u8], claim: u32, table: &[u32]) -> Result<(), Refusal> {
+    answer_of(|answer| on_slices::check(file, plan, claim, table, answer))?;
+    Ok(())
+}
+
 /// The report for a file.
 pub fn report(file: &[u8]) -> Vec<u8> {
     let mut text = vec![0; REPORT_SPACE];
@@ -164,6 +171,22 @@ pub mod on_slices {
         }
     }
 
+    pub fn check(file: &[u8], plan: &[u8], claim: u32, table: &[u32], answer: &mut [u64]) -> u32 {
+        unsafe {
+            declared::tipshare_check(
+                file.as_ptr(),
+                file.len(),
+                plan.as_ptr(),
+                plan.len(),
+                claim,
+                table.as_ptr(),
+                table.len(),
+                answer.as_mut_ptr(),
+                answer.len(),
+            )
+        }
+    }
+
     pub fn report(file: &[u8], out: &mut [u8]) -> usize {
         unsafe { declared::tipshare_report(file.as_ptr(), file.len(), out.as_mut_ptr(), out.len()) }
     }
@@ -199,6 +222,17 @@ mod declared {
             plan: *mut u8,
             plan_len: usize,
             table: *mut u32,
+            table_len: usize,
+            answer: *mut u64,
+            answer_len: usize,
+        ) -> u32;
+        pub fn tipshare_check(
+            file: *const u8,
+            file_len: usize,
+            plan: *const u8,
+            plan_len: usize,
+            claim: u32,
+            table: *const u32,
             table_len: usize,
             answer: *mut u64,
             answer_len: usize,

@@ -1,6 +1,6 @@
 //! The linked library through its safe form.
 
-use library::{best, common, keep, quick, read, report, CommonTip, Job, Kept, Refusal, LONGEST_FILE};
+use library::{best, check, common, keep, quick, read, report, CommonTip, Job, Kept, Refusal, LONGEST_FILE};
 
 /// The example of the rules: rack 3, lines {0} and {1,2}.
 const EXAMPLE: [u8; 24] = *b"TIP\x00\x01\x03\x00\x02\x00\x00\x00\x00\x00\x00\x00\x01\x00\x00\x00\x00\x00\x00\x00\x06";
@@ -76,6 +76,33 @@ fn mounted_tip_wins_a_tie() {
         assert_eq!(quick(&EXAMPLE[..7], Some(mounted), &mut []), Err(refused(6, 0, 0)));
     }
     assert_eq!(refused(16, 0, 0).to_string(), "refused 16");
+}
+
+#[test]
+fn plans_from_other_software_are_checked() {
+    // {0} of 2 placements and {1,2} of 3: both plans have 1 + 3 pairs.
+    let table = [1, 1, 4, 0, 0, 3, 0, 0, 0];
+    assert_eq!(check(&COUNTED, &[0, 1], 4, &table), Ok(()));
+    assert_eq!(check(&COUNTED, &[0, 2], 4, &table), Ok(()));
+    // Below the diagonal, in the rest of the buffers and where no rule asks, anything may stand.
+    assert_eq!(check(&COUNTED, &[0, 2, 255], 4, &[1, 1, 4, 9, 0, 3, 9, 9, 0, 9]), Ok(()));
+    for (plan, claim, table, number) in [
+        (&[0][..], 4, &table[..8], 4),
+        (&[9, 9], 4, &table[..8], 5),
+        (&[0, 0], 9, &table, 19),
+        (&[0, 65], 4, &table, 19),
+        (&[0, 1], 3, &table, 20),
+        (&[0, 1], 4, &[1, 1, 5, 0, 0, 3, 0, 0, 0], 33),
+        (&[0, 1], 4, &[1, 1, 4, 0, 0, 2, 0, 0, 0], 33),
+        (&[0, 1], 4, &[u32::MAX, u32::MAX, 4, 0, 0, 3, 0, 0, 0], 33),
+    ] {
+        assert_eq!(check(&COUNTED, plan, claim, table), Err(refused(number, 0, 0)), "{plan:?} {claim} {table:?}");
+    }
+    let mut file = EXAMPLE;
+    (file[15], file[23]) = (0b010, 0b101);
+    assert_eq!(check(&file, &[9, 9], 9, &[9; 9]), Err(refused(25, 1, 0)));
+    assert_eq!(check(&file[..7], &[], 9, &[]), Err(refused(6, 0, 0)));
+    assert_eq!(refused(33, 0, 0).to_string(), "refused 33");
 }
 
 #[test]

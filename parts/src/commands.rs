@@ -1,9 +1,12 @@
 //! The commands, and what they share.
 
+use std::fmt::Display;
 use std::io::{self, IsTerminal, Write};
 use std::str::FromStr;
 
+use parts::checking::Refused;
 use parts::files::{of_standard_output, Input, Output};
+use parts::handed::Handed;
 use parts::job::{has_mark, Job};
 use parts::list::{Fault, List};
 use parts::planning::Named;
@@ -83,6 +86,20 @@ pub fn plan(arguments: &[&str]) -> Result<(), Failure> {
     print(named(path, input_of(path)?.bytes)?.plan(mounted).map_err(|why| about(path, why))?.as_bytes())
 }
 
+pub fn check(arguments: &[&str]) -> Result<(), Failure> {
+    let [path, plan] = *arguments else { return Err(Failure::Arguments) };
+    if (path, plan) == ("-", "-") {
+        return Err(Failure::Argument("-: this is LIST and PLAN; name a file for one of them".into()));
+    }
+    let list = list_of(path, &input_of(path)?.bytes)?;
+    let handed = Handed::read(&input_of(plan)?.bytes, &list).map_err(|faults| faulty(plan, &faults))?;
+    let checked = Named::of_list(list).check(&handed).map_err(|refused| match refused {
+        Refused::List(why) => about(path, why),
+        Refused::Plan(why) => about(plan, why),
+    })?;
+    print(checked.as_bytes())
+}
+
 pub fn picture(arguments: &[&str]) -> Result<(), Failure> {
     let [path] = arguments else { return Err(Failure::Arguments) };
     print(named(path, input_of(path)?.bytes)?.picture().map_err(|why| about(path, why))?.as_bytes())
@@ -157,7 +174,7 @@ fn list_of(path: &str, bytes: &[u8]) -> Result<List, Failure> {
 }
 
 /// The faults as lines `FILE:LINE: what is wrong; what to do`.
-fn faulty(path: &str, faults: &[Fault]) -> Failure {
+fn faulty<W: Display>(path: &str, faults: &[Fault<W>]) -> Failure {
     let mut lines: Vec<String> =
         faults.iter().take(MOST_FAULTS).map(|fault| format!("{path}:{}: {}", fault.line, fault.what)).collect();
     if faults.len() > MOST_FAULTS {

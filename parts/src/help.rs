@@ -16,7 +16,7 @@ pub struct Command {
     run: fn(&[&str]) -> Result<(), Failure>,
 }
 
-const COMMANDS: [Command; 6] = [
+const COMMANDS: [Command; 7] = [
     Command {
         name: "make",
         arguments: "LIST",
@@ -76,6 +76,21 @@ const COMMANDS: [Command; 6] = [
                Example: parts plan board.txt --mounted 3\n",
         options: &["--mounted"],
         run: commands::plan,
+    },
+    Command {
+        name: "check",
+        arguments: "LIST PLAN",
+        does: "check a plan from other software, and compare its pairs with the best plan's;\n\
+               PLAN is a text with its pairs and a tip for each part, and may have a table",
+        more:
+            "PLAN begins with `pairs N`, the number of pairs that it is said to have. Then each part stands on a line\n\
+               with its tip, as C1 : 3, in any order; : 3 is for the next part without a name. Below a line `table`\n\
+               its table may follow: for a rack of M, M rows of M numbers.\n\
+               Each part must be on a tip of its own, the pairs must be those of the plan, and the table must show\n\
+               that no plan has more. Without a table only the first two are checked, which is said.\n\
+               Example: parts check board.txt plan.txt\n",
+        options: &[],
+        run: commands::check,
     },
     Command {
         name: "picture",

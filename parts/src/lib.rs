@@ -1,6 +1,8 @@
 //! Parts lists as text, job files as bytes, and what the proved library says of them.
 
+pub mod checking;
 pub mod files;
+pub mod handed;
 pub mod job;
 pub mod list;
 pub mod picture;

@@ -41,9 +41,9 @@ pub struct Part {
 
 /// What is wrong, and on which line of the text, counted from 1.
 #[derive(Clone, PartialEq, Eq, Debug)]
-pub struct Fault {
+pub struct Fault<W = What> {
     pub line: usize,
-    pub what: What,
+    pub what: W,
 }
 
 /// What can be wrong with a line.
@@ -288,7 +288,7 @@ impl Reading {
 }
 
 /// The lines of a text, without what ends them.
-fn lines_of(bytes: &[u8]) -> Vec<&[u8]> {
+pub(crate) fn lines_of(bytes: &[u8]) -> Vec<&[u8]> {
     let bytes = bytes.strip_prefix("\u{FEFF}".as_bytes()).unwrap_or(bytes);
     let bytes = bytes.strip_suffix(b"\n").unwrap_or(bytes);
     if bytes.is_empty() {
@@ -297,7 +297,7 @@ fn lines_of(bytes: &[u8]) -> Vec<&[u8]> {
     bytes.split(|&byte| byte == b'\n').map(|line| line.strip_suffix(b"\r").unwrap_or(line)).collect()
 }
 
-fn text_of(line: &[u8]) -> Result<&str, What> {
+pub(crate) fn text_of(line: &[u8]) -> Result<&str, What> {
     let text = std::str::from_utf8(line).map_err(|_| What::NotText)?;
     if text.chars().any(|c| c.is_control() && c != '\t') {
         return Err(What::ControlCharacter);
@@ -306,7 +306,7 @@ fn text_of(line: &[u8]) -> Result<&str, What> {
 }
 
 /// A number in digits alone, the largest there is where it does not fit.
-fn number_of(word: &str) -> Option<usize> {
+pub(crate) fn number_of(word: &str) -> Option<usize> {
     let is_digits = !word.is_empty() && word.bytes().all(|byte| byte.is_ascii_digit());
     is_digits.then(|| word.parse().unwrap_or(usize::MAX))
 }

@@ -101,20 +101,32 @@ impl Named {
                 _ => self.refused(refusal),
             })?;
         let quick = Plan { pairs, tips };
-        let mut tips = vec![0; job.lines.len()];
-        let mut table = vec![0; job.rack * job.rack];
-        let best = match library::best(&self.file, mounted, &mut tips, &mut table) {
-            Ok(pairs) => Ok(Plan { pairs, tips }),
-            Err(refusal) if refusal.number == 25 => Err(refusal.line as usize),
-            Err(refusal) => return Err(self.refused(refusal)),
-        };
+        let best = self.best(&job, mounted)?.map(|(plan, _)| plan);
         Ok(Plans { job, mounted, common, quick, best })
     }
 
-    /// What a line that is no run lacks, and who has it.
-    fn missing(&self, job: &Job, line: usize) -> String {
-        job.missed_tip(line)
-            .map_or(String::new(), |(tip, other)| format!(": it lacks tip {tip}, which {} has", self.label(other)))
+    /// The best plan with its table, else the first line that is no run.
+    pub fn best(&self, job: &Job, mounted: Option<usize>) -> Result<Result<(Plan, Vec<u32>), usize>, String> {
+        let mut tips = vec![0; job.lines.len()];
+        let mut table = vec![0; job.rack * job.rack];
+        match library::best(&self.file, mounted, &mut tips, &mut table) {
+            Ok(pairs) => Ok(Ok((Plan { pairs, tips }, table))),
+            Err(refusal) if refusal.number == 25 => Ok(Err(refusal.line as usize)),
+            Err(refusal) => Err(self.refused(refusal)),
+        }
+    }
+
+    /// That a line is no run, what it lacks, and who has it.
+    pub fn no_run(&self, job: &Job, line: usize) -> String {
+        let missing = job
+            .missed_tip(line)
+            .map_or(String::new(), |(tip, other)| format!(": it lacks tip {tip}, which {} has", self.label(other)));
+        format!("{} is no run{missing}", self.label(line))
+    }
+
+    /// The line that stands where there is no best plan.
+    pub fn no_best(&self, job: &Job, line: usize) -> String {
+        format!("best none, {}\n", self.no_run(job, line))
     }
 
     /// Both plans line by line, and a summary.
@@ -125,7 +137,7 @@ impl Named {
         text += &format!("quick {}\n", plans.quick.pairs);
         text += &match &plans.best {
             Ok(best) => format!("best {}\n", best.pairs),
-            Err(line) => format!("best none, {} is no run{}\n", self.label(*line), self.missing(&plans.job, *line)),
+            Err(line) => self.no_best(&plans.job, *line),
         };
         for line in 0..lines {
             text += &format!("{} {}\n", self.label_in(&plans.job, line), plans.each(|plan| plan.tips[line]));
@@ -218,6 +230,6 @@ fn not_in_rack(tip: usize, rack: usize) -> String {
     format!("refused 16: the mounted tip {tip} is outside the rack of {rack}; name {name}, or none")
 }
 
-fn job_of(file: &[u8]) -> Result<Job, String> {
+pub(crate) fn job_of(file: &[u8]) -> Result<Job, String> {
     Job::read(file).map_err(|refusal| refusal.in_words(file))
 }

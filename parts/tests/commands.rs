@@ -86,6 +86,34 @@ fn wrong_kinds_of_files_are_named() {
     assert!(output.is_empty() && why.starts_with("no-such-list: ") && status == 1, "{why}");
 }
 
+#[test]
+fn plans_from_other_software_are_checked() {
+    let folder = folder("checked");
+    let (list, plan) = (typed(&folder, "list.txt"), typed(&folder, "plan.txt"));
+    fs::write(&list, LIST).unwrap();
+    fs::write(&plan, "pairs 0\nC1 : 0\nC2 : 2\ntable\n0 0 0\n0 0 0\n0 0 0\n").unwrap();
+    let text = b"lines 2 rack 3\npairs 0 as claimed, each part on a tip of its own\n\
+                 table accepted: no plan has more pairs\nbest 0, the plan has as many\n";
+    assert_eq!(run(&["check", &list, &plan], b""), given(text));
+    assert_eq!(run(&["check", "-", &plan], LIST.as_bytes()), given(text));
+    let why = "-: refused 19: C2 is on tip 0 and has only 1-2; give it a tip of its own";
+    assert_eq!(run(&["check", &list, "-"], b"pairs 0\nC1 : 0\nC2 : 0\n"), refused(why));
+    let why = "-:2: no colon; write `NAME : TIP`, or `: TIP` for a part without a name\n\
+               -:3: the list has no part C3; take it out, or correct its name";
+    assert_eq!(run(&["check", &list, "-"], b"pairs 0\nC1 0\nC3 : 0\n"), refused(why));
+    let why = format!(
+        "{list}: refused 25: C2 is no run: it lacks tip 1, which C1 has; take the table out to check tips and pairs"
+    );
+    fs::write(&list, "rack 3\nC1 : 1\nC2 : 0 2\n").unwrap();
+    assert_eq!(run(&["check", &list, &plan], b""), refused(&why));
+    let why = "-: this is a job file and no parts list; `parts show` turns it into one";
+    assert_eq!(run(&["check", "-", &plan], &EXAMPLE), refused(why));
+    let why = "-: this is LIST and PLAN; name a file for one of them";
+    assert_eq!(run(&["check", "-", "-"], b""), wrong_argument(why));
+    let usage = "usage: parts check LIST PLAN\n`parts check --help` says more";
+    assert_eq!(run(&["check", &list], b""), wrong_argument(usage));
+}
+
 /// The list with a quantity, and its job file, which is of version 2.
 const TWICE: &str = "# board\nrack 3\nC1 x2 height=2 : 0\nC2 height=1 : 1-2\n";
 const TWICE_JOB: [u8; 26] =

@@ -17,7 +17,7 @@ fn answered(answer: &mut [u64], number: u32, places: [u64; ANSWER_PLACES]) -> u3
     number
 }
 
-/// The answer of a call that is refused without any value.
+/// The answer of a call without any value.
 fn refused<T>(answer: &mut [u64], call: &Answer<T>) -> u32 {
     answered(answer, call.number, [call.place as u64, 0, 0, 0])
 }
@@ -83,6 +83,11 @@ pub fn best(file: &[u8], mounted: usize, plan: &mut [u8], table: &mut [u32], ans
         let best = board.best(mounted_tip(mounted), plan, table);
         answered(answer, best.number, [best.place as u64, u64::from(best.value), 0, 0])
     })
+}
+
+/// The check of a plan from other software: place, 0, 0, 0.
+pub fn check(file: &[u8], plan: &[u8], claim: u32, table: &[u32], answer: &mut [u64]) -> u32 {
+    on_board(file, answer, |board, answer| refused(answer, &board.check(plan, claim, table)))
 }
 
 /// Writes the report to out and gives its length, 0 where out is too short.

@@ -4,6 +4,7 @@
 //! as its quantity says, all on one tip. Every call takes a board and hands one back in its answer.
 
 mod board;
+mod checking;
 mod common;
 mod report;
 mod sharing;
@@ -14,6 +15,7 @@ pub mod interface;
 pub mod refusal;
 
 pub use board::{Answer, Board, Line, Stage, MOST_LINES, MOST_PLACEMENTS, MOST_TIPS};
+pub use checking::TableFault;
 pub use common::CommonTip;
 pub use file::{read, Version, LONGEST_FILE};
 pub use report::{report, LONGEST_INPUT};

@@ -29,6 +29,10 @@ pub const SHORT_OUTPUT: u32 = 11;
 pub const ZERO_QUANTITY: u32 = 15;
 /// The mounted tip is outside the rack.
 pub const MOUNTED_OUTSIDE: u32 = 16;
+/// A checked plan has a line on a tip that is not its own.
+pub const FOREIGN_TIP: u32 = 19;
+/// The claim is not the number of pairs of the checked plan.
+pub const WRONG_CLAIM: u32 = 20;
 
 /// The board's rack size or number of lines is out of range.
 pub const OUT_OF_RANGE: u32 = 21;
@@ -38,7 +42,7 @@ pub const CLOSED: u32 = 22;
 pub const OPEN: u32 = 23;
 /// Add on a board of 512 lines.
 pub const FULL: u32 = 24;
-/// Best sharing, and some line misses a named tip between its lowest and its highest.
+/// Best sharing or a check, and some line misses a named tip between its lowest and its highest.
 pub const NO_RUN: u32 = 25;
 /// Keep, and the margin is below zero.
 pub const NO_PLAN: u32 = 26;
@@ -48,6 +52,8 @@ pub const BAD_LINE: u32 = 27;
 pub const LEFT_OVER: u32 = 28;
 /// The lines stand for more than 2,048 placements.
 pub const TOO_MANY_PLACEMENTS: u32 = 30;
+/// The table does not show that the checked plan has the most pairs.
+pub const TABLE_FAILS: u32 = 33;
 
 /// The answer of a call of the C interface has fewer than 4 places.
 pub const SHORT_ANSWER: u32 = 100;

@@ -34,7 +34,7 @@ fn is_run(set: u64, named: u64) -> bool {
 }
 
 /// The set of the tips from first to last.
-fn tips_from_to(first: usize, last: usize) -> u64 {
+pub(crate) fn tips_from_to(first: usize, last: usize) -> u64 {
     let mut set = 0;
     for tip in first..=last {
         set |= 1 << tip;
@@ -124,6 +124,12 @@ impl Board {
         (refusal::NONE, 0)
     }
 
+    /// The first line that misses a named tip between its lowest and its highest.
+    pub(crate) fn first_no_run(&self) -> Option<usize> {
+        let named = self.named_tips();
+        (0..self.count).find(|&line| !is_run(self.sets[line], named))
+    }
+
     /// Quick sharing: each round plans all lines of the tip that most unplanned placements allow.
     pub fn quick(self, mounted: Option<usize>, plan: &mut [u8]) -> Answer<u32> {
         let (number, place) = self.refusal_of_plan(mounted, plan);
@@ -171,12 +177,10 @@ impl Board {
         if table.len() < m * m {
             return Answer::refused(self, refusal::SHORT_TABLE);
         }
-        let named = self.named_tips();
-        for line in 0..self.count {
-            if !is_run(self.sets[line], named) {
-                return Answer::refused_at(self, refusal::NO_RUN, line);
-            }
+        if let Some(line) = self.first_no_run() {
+            return Answer::refused_at(self, refusal::NO_RUN, line);
         }
+        let named = self.named_tips();
         for place in 0..m * m {
             table[place] = 0;
         }

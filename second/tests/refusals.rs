@@ -121,6 +121,7 @@ fn assert_closed_calls_refused(board: &Board, number: u32, place: usize) {
         assert_refused(board.clone().keep_within(u16::MAX), board, number, place, 0);
         assert_refused(board.clone().quick(None, &mut plan), board, number, place, 0);
         assert_refused(board.clone().best(None, &mut plan, &mut table), board, number, place, 0);
+        assert_refused(board.clone().check(&plan, 7, &table), board, number, place, ());
         assert_refused(board.clone().write(&mut out), board, number, place, 0);
         assert!(plan.iter().all(|&byte| byte == 7));
         assert!(table.iter().all(|&place| place == 7));
@@ -225,6 +226,8 @@ fn short_buffers() {
         assert_refused(board.clone().best(None, &mut plan, &mut table), &board, 4, 0, 0);
         // The plan is looked at before the table.
         assert_refused(board.clone().best(None, &mut plan, &mut table[..8]), &board, 4, 0, 0);
+        assert_refused(board.clone().check(&plan, 7, &table), &board, 4, 0, ());
+        assert_refused(board.clone().check(&plan, 7, &table[..8]), &board, 4, 0, ());
         assert_eq!((plan, table), (vec![7; length], vec![7; 9]));
     }
     let no_runs = Board::of_sets(3, &[0b010, 0b101]);
@@ -232,8 +235,10 @@ fn short_buffers() {
         let mut plan = vec![7; 2];
         let mut table = vec![7; length];
         assert_refused(board.clone().best(None, &mut plan, &mut table), &board, 5, 0, 0);
+        assert_refused(board.clone().check(&plan, 7, &table), &board, 5, 0, ());
         // The table is looked at before the runs.
         assert_refused(no_runs.clone().best(None, &mut plan, &mut table), &no_runs, 5, 0, 0);
+        assert_refused(no_runs.clone().check(&plan, 7, &table), &no_runs, 5, 0, ());
         assert_eq!((plan, table), (vec![7; 2], vec![7; length]));
     }
     // By the length of the version that is written.
@@ -258,6 +263,7 @@ fn no_run_names_the_first_such_line() {
         let mut plan = [7; 512];
         let mut table = [7; 4096];
         assert_refused(board.clone().best(None, &mut plan, &mut table), &board, 25, line, 0);
+        assert_refused(board.clone().check(&plan, 7, &table), &board, 25, line, ());
         assert_eq!((plan, table), ([7; 512], [7; 4096]));
     }
 }
@@ -294,7 +300,9 @@ fn assert_not_read(file: &[u8], number: u32, place: usize) {
     for length in [0, 5000] {
         let (mut plan, mut out, mut table) = (vec![7; length], vec![7; length], vec![7; length]);
         let mut other_plan = plan.clone();
-        let calls: [Call; 5] = [
+        let (other, others) = (vec![7; length], vec![7; length]);
+        let calls: [Call; 6] = [
+            &mut |answer| interface::check(file, &other, 7, &others, answer),
             &mut |answer| interface::read(file, answer),
             &mut |answer| interface::common(file, answer),
             &mut |answer| interface::keep(file, 0, &mut out, answer),
@@ -481,6 +489,7 @@ fn interface_answers() {
             assert_eq!(interface::keep(input, 1, &mut out, &mut answer), 100);
             assert_eq!(interface::quick(input, interface::NO_TIP, &mut plan, &mut answer), 100);
             assert_eq!(interface::best(input, interface::NO_TIP, &mut plan, &mut table, &mut answer), 100);
+            assert_eq!(interface::check(input, &plan, 0, &table, &mut answer), 100);
         }
         assert_eq!((answer, plan, out, table), (vec![9; places], [7; 2], [7; 24], [7; 9]));
     }
@@ -516,6 +525,12 @@ fn interface_answers() {
     assert_eq!(answer, [0, 3, 2, 0, 9]);
     assert_eq!(interface::common(&counted, &mut answer), 0);
     assert_eq!(answer, [0, 3, 2, 0b110, 9]);
+    // {0} of 2 and {1,2} of 3 placements: 1 + 3 pairs.
+    for (claim, number) in [(4, 0), (3, 20), (0, 20)] {
+        answer = [9; 5];
+        assert_eq!(interface::check(&counted, &[0, 2], claim, &[1, 1, 4, 0, 0, 3, 0, 0, 0], &mut answer), number);
+        assert_eq!(answer, [0, 0, 0, 0, 9]);
+    }
     let mut text = vec![7; interface::REPORT_SPACE];
     assert_eq!(interface::report(&file, &mut text[1..]), 0);
     assert!(text.iter().all(|&byte| byte == 7));

@@ -18,11 +18,14 @@ use Rattle.job.specs.Job.{versionOk, startNumber, sizeNumber, headerNumber, lin
 use Rattle.sound.specs.Sound.{countOk, firstWrong, firstHeld, soundRefusal}
 use Rattle.call_refusals.specs.State.{stageRefusal, stateRefusal}
 use Rattle.call_refusals.specs.Calls.{addRefusal, keepRefusal, mountedRefusal, planRefusal, bestRefusal, writeRefusal}
+use Rattle.goals.specs.Check.{entry, isValid, bounds}
+use Rattle.checking.specs.Checking.{claimRefusal, tableOk, checkRefusal}
 use Rattle.line_calls.specs.Lines
 use Rattle.board.specs.Board.{noSets, noQuantities, addOf, closeOf}
 use Rattle.board.specs.Common.{commonOf, keepOf}
 use Rattle.board.specs.Sharing.{quickOf, quickBuffer, bestOf, bestBuffer, bestTable}
 use Rattle.board.specs.JobFile.{readOf, writeOf, writeBuffer}
+use Rattle.board.specs.Check.{checkOf}
 use Rattle.board.specs.Rows.{run, rows, Gives, HalfReached}
 use Rattle.board.specs.Rows.{B1-common, B1-keep, B2-keep, B3-keep, B4-quick, B5-best, B6-best, B7-quick, B8-best, B9-quick, B9-best, B10-best}
 use Rattle.board.specs.Rows.{B15-rack-0, B15-rack-65, B16-count-513, B16-count-most, B17-first, B17-middle, B17-last, B18-next}
@@ -32,17 +35,18 @@ use Rattle.board.specs.Rows.{B23-best, B24-none, B24-bad-set, B24-last, 
 use Rattle.board.specs.Rows.{B28-read, B28-write, B29-read, B30-read, B30-over, B30-none}
 use Rattle.board.specs.Rows.{B27-common, B27-best, B31-best, B32-best, B33-best, B34-best, B35-best, B36-quick-0, B36-quick-2}
 use Rattle.board.specs.Rows.{B36-best-1, B36-best-2, B37-quick, B37-best, B38-quick, B39-none, B39-best, B40-quick, B40-best, B41-quick}
-use Rattle.board.specs.Rows.{B41-best, B41-open}
+use Rattle.board.specs.Rows.{B41-best, B41-open, B42-check, B43-foreign, B43-64, B43-255, B44-more, B44-most, B45-whole, B45-less, B46-exact}
+use Rattle.board.specs.Rows.{B46-less, B46-huge, B47-huge, B48-open, B48-short, B48-few, B48-run, B48-none}
 
 pub starred : All Gives rows
-unfolding run addOf closeOf commonOf keepOf quickOf quickBuffer bestOf bestBuffer bestTable Lines.commonOf Lines.keepOf Lines.keptSets
-    Lines.quickOf Lines.quickBuffer Lines.bestOf Lines.bestBuffer Lines.bestTable addRefusal keepRefusal mountedRefusal planRefusal bestRefusal
-    orElse scan stageRefusal stateRefusal soundRefusal firstWrong firstHeld firstOver countOk rackOk isDomain inRack each firstFail lineNumber
-    total repeated margin pruneQ zipWith keptQ scarce commonWithin narrowed covers every W setOf top largest occ has count quickPlanQ quickTip
-    rounds first busiest choice lowestAt select pairs uses table listOf bestPlanQ bestTip tipBy pickOf worth from named C most lies inside low
-    high choose2 leadingZeros trailingZeros fills isRunOf readOf writeOf writeBuffer Lines.writeOf Lines.writeBuffer writeRefusal readRefusal
-    headerNumber startNumber sizeNumber versionOk lineNumbers setsIn quantitiesIn numberAt numberOf bytesOf lineLength headerOf lineOf
-    bytesOfLines fileOf versionFor paired noSets noQuantities
+unfolding run addOf closeOf commonOf keepOf quickOf quickBuffer bestOf bestBuffer bestTable checkOf Lines.checkOf checkRefusal claimRefusal
+    tableOk isValid bounds entry Lines.commonOf Lines.keepOf Lines.keptSets Lines.quickOf Lines.quickBuffer Lines.bestOf Lines.bestBuffer
+    Lines.bestTable addRefusal keepRefusal mountedRefusal planRefusal bestRefusal orElse scan stageRefusal stateRefusal soundRefusal firstWrong
+    firstHeld firstOver countOk rackOk isDomain inRack each firstFail lineNumber total repeated margin pruneQ zipWith keptQ scarce commonWithin
+    narrowed covers every W setOf top largest occ has count quickPlanQ quickTip rounds first busiest choice lowestAt select pairs uses table
+    listOf bestPlanQ bestTip tipBy pickOf worth from named C most lies inside low high choose2 leadingZeros trailingZeros fills isRunOf readOf
+    writeOf writeBuffer Lines.writeOf Lines.writeBuffer writeRefusal readRefusal headerNumber startNumber sizeNumber versionOk lineNumbers setsIn
+    quantitiesIn numberAt numberOf bytesOf lineLength headerOf lineOf bytesOfLines fileOf versionFor paired noSets noQuantities
 starred =
     more {x = B1-common} refl
     (more {x = B1-keep} refl
@@ -117,7 +121,24 @@ starred =
     (more {x = B40-best} refl
     (more {x = B41-quick} refl
     (more {x = B41-best} refl
-    (more {x = B41-open} refl none)))))))))))))))))))))))))))))))))))))))))))))))))))))))))))))))))))))))))
+    (more {x = B41-open} refl
+    (more {x = B42-check} refl
+    (more {x = B43-foreign} refl
+    (more {x = B43-64} refl
+    (more {x = B43-255} refl
+    (more {x = B44-more} refl
+    (more {x = B44-most} refl
+    (more {x = B45-whole} refl
+    (more {x = B45-less} refl
+    (more {x = B46-exact} refl
+    (more {x = B46-less} refl
+    (more {x = B46-huge} refl
+    (more {x = B47-huge} refl
+    (more {x = B48-open} refl
+    (more {x = B48-short} refl
+    (more {x = B48-few} refl
+    (more {x = B48-run} refl
+    (more {x = B48-none} refl none))))))))))))))))))))))))))))))))))))))))))))))))))))))))))))))))))))))))))))))))))))))))))
 
 pub half-reached : HalfReached
 unfolding has pairs uses count

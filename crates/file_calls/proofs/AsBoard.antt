@@ -27,12 +27,13 @@ use Rattle.board.specs.declared.Written.{Written}
 use Rattle.board.specs.Board.{linesOf, quantitiesOf, stateRefusal, answer}
 use Rattle.board.specs.Common.{commonOf, keptBoard, keepOf}
 use Rattle.board.specs.Sharing.{quickOf, quickBuffer, bestOf, bestBuffer, bestTable}
+use Rattle.board.specs.Check.{checkOf}
 use Rattle.board.specs.JobFile.{boardIn, readOf, writeOf, writeBuffer}
 use Rattle.board.proofs.Sets.{Full, state-free}
 use Rattle.board.proofs.JobFileRule.{full-in, lines-in, quantities-in, state-in}
 use Rattle.board.proofs.KeepRule.{kept-lines, kept-full, keep-rule}
 use Rattle.file_calls.specs.declared.Outcome.{Outcome}
-use Rattle.file_calls.specs.Calls.{twosComplement, commonOutcome, planOutcome, keepOutcome}
+use Rattle.file_calls.specs.Calls.{twosComplement, commonOutcome, planOutcome, keepOutcome, checkOutcome, checkIn}
 use Rattle.file_calls.specs.Calls.{readIn, commonIn, quickIn, quickPlanIn, bestIn, bestPlanIn, bestTableIn, keepIn, keepFileIn}
 
 -- ---- the answers of the board's calls, as outcomes
@@ -42,6 +43,9 @@ ofCommon a = record { refusal = record { number = a .number; place = a .place };
 
 abbrev pub ofShared : Shared → Outcome
 ofShared a = record { refusal = record { number = a .number; place = a .place }; first = a .pairs; second = 0; third = 0 }
+
+abbrev pub ofAnswer : Answer → Outcome
+ofAnswer a = record { refusal = record { number = a .number; place = a .place }; first = 0; second = 0; third = 0 }
 
 abbrev pub ofKept : Kept → Outcome
 ofKept a = record { refusal = record { number = a .number; place = a .place }; first = twosComplement (a .margin); second = 0; third = 0 }
@@ -126,6 +130,10 @@ module _ (file : List ℕ) (b : Board) (given : readOf file ≡ answer b none) w
   pub best-table-as-board : (mounted : Mounted) (room : ℕ) (cells : List ℕ) → bestTableIn file mounted room cells ≡ bestTable b mounted room cells
   unfolding bestTableIn bestTable
   best-table-as-board mounted room cells = on-board (λ r m q l. Lines.bestTable (mountedRefusal r m mounted) m q l room cells)
+
+  pub check-as-board : (plan : List ℕ) (claim : ℕ) (tab : List ℕ) → checkIn file plan claim tab ≡ ofAnswer (checkOf b plan claim tab)
+  unfolding checkIn checkOf
+  check-as-board plan claim tab = on-board (λ r m q l. checkOutcome (Lines.checkOf r m q l plan claim tab))
 
   -- the arrays of the board have a place for each line
   full : Full b

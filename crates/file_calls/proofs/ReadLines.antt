@@ -4,6 +4,7 @@ use mathlib.Core.Path.{_≡_, sym, ap, _∙_}
 use mathlib.Core.List.{List}
 use lib.ListN.{length, take}
 use Rattle.model.specs.Choice.{Mounted}
+use Rattle.placements.specs.Good.{GoodLines}
 use Rattle.refusal.specs.declared.Refusal.{Refusal}
 use Rattle.refusal.proofs.Laws.{number-of}
 use Rattle.job.specs.Job.{rackIn, setsIn, quantitiesIn, readRefusal}
@@ -13,12 +14,14 @@ use Rattle.call_refusals.specs.Calls.{mountedRefusal}
 use Rattle.call_refusals.proofs.Calls.{mounted-none, mounted-same, plan-none, best-none}
 use Rattle.line_calls.specs.declared.CommonAnswer.{CommonAnswer}
 use Rattle.line_calls.specs.declared.PlanAnswer.{PlanAnswer}
-use Rattle.line_calls.specs.Lines.{commonOf, quickOf, quickBuffer, bestOf, bestBuffer, bestTable}
+use Rattle.line_calls.specs.Lines.{commonOf, quickOf, quickBuffer, bestOf, bestBuffer, bestTable, checkOf}
 use Rattle.line_calls.specs.Rules.{CommonRule, HalfRule, BestRule}
 use Rattle.line_calls.proofs.Refused.{Same, common-same, quick-same, quick-buffer-same, best-same, best-buffer-same, best-table-same}
-use Rattle.line_calls.proofs.Refused.{common-rule-same, half-rule-same, best-rule-same}
+use Rattle.line_calls.proofs.Refused.{common-rule-same, half-rule-same, best-rule-same, check-same}
+use Rattle.line_calls.proofs.Checked.{check-rule}
 use Rattle.file_calls.specs.Calls.{commonOutcome, planOutcome, commonIn, mountedIn, quickIn, quickPlanIn, bestIn, bestPlanIn, bestTableIn}
-use Rattle.file_calls.specs.Rules.{CommonRuleOf, HalfRuleOf, BestRuleOf}
+use Rattle.file_calls.specs.Calls.{checkOutcome, checkIn}
+use Rattle.file_calls.specs.Rules.{CommonRuleOf, HalfRuleOf, BestRuleOf, CheckRuleOf}
 
 -- the rack, the quantities and the sets are those of the file
 abbrev pub AsRead : List ℕ → ℕ → List ℕ → List ℕ → Type 0
@@ -42,6 +45,16 @@ module _ (file : List ℕ) {d : Refusal} (e : d ≡ readRefusal file) {m : ℕ} 
     ap commonOutcome (p ∙ common-same d same ∙ of-file file e commonOf),
     common-rule-same (λ z. same (ap (λ x. x .refusal .number) (sym p) ∙ z)) rule,
   )
+
+  pub check-in : (d .number ≡ 0 → GoodLines m qs lines) → (plan : List ℕ) (claim : ℕ) (tab : List ℕ) {r : Refusal}
+      → r ≡ checkOf d m qs lines plan claim tab
+      → (checkOutcome r ≡ checkIn file plan claim tab) × CheckRuleOf file plan claim tab (checkOutcome r)
+  unfolding checkIn
+  check-in good plan claim tab p =
+      let told = p ∙ check-same d same plan claim tab ∙ of-file file e (λ r k q l. checkOf r k q l plan claim tab) in
+      let lines-good : readRefusal file .number ≡ 0 → GoodLines (rackIn file) (quantitiesIn file) (setsIn file) =
+      λ z. let f = number-of (sym e) z in let (a, b, c) = same f in rw (a, b, c) at (good f) in
+      (ap checkOutcome told, check-rule (readRefusal file) (rackIn file) (quantitiesIn file) (setsIn file) plan claim tab lines-good told)
 
   -- what the mounted tip is asked of the lines read, it is asked of the file
   module _ (mounted : Mounted) {h : Refusal} (g : h ≡ mountedRefusal d m mounted) where

@@ -14,7 +14,7 @@ use Rattle.line_calls.specs.declared.CommonAnswer.{CommonAnswer}
 use Rattle.line_calls.specs.declared.PlanAnswer.{PlanAnswer}
 use Rattle.line_calls.specs.declared.KeepAnswer.{KeepAnswer}
 use Rattle.line_calls.specs.declared.FileAnswer.{FileAnswer}
-use Rattle.line_calls.specs.Lines.{commonOf, keepOf, quickOf, quickBuffer, bestOf, bestBuffer, bestTable, writeOf, writeBuffer}
+use Rattle.line_calls.specs.Lines.{commonOf, keepOf, quickOf, quickBuffer, bestOf, bestBuffer, bestTable, checkOf, writeOf, writeBuffer}
 use Rattle.file_calls.specs.declared.Outcome.{Outcome}
 
 -- a signed number in the 64 bits of two's complement
@@ -62,6 +62,14 @@ bestPlanIn file mounted plan places = bestBuffer (mountedIn file mounted) (rackI
 
 unfoldable pub bestTableIn : List ℕ → Mounted → ℕ → List ℕ → List ℕ
 bestTableIn file mounted room cells = bestTable (mountedIn file mounted) (rackIn file) (quantitiesIn file) (setsIn file) room cells
+
+-- a refusal without counts
+abbrev pub checkOutcome : Refusal → Outcome
+checkOutcome r = record { refusal = r; first = 0; second = 0; third = 0 }
+
+-- the check of a plan, a claimed pair count and a table
+unfoldable pub checkIn : List ℕ → List ℕ → ℕ → List ℕ → Outcome
+checkIn file plan claim tab = checkOutcome (checkOf (readRefusal file) (rackIn file) (quantitiesIn file) (setsIn file) plan claim tab)
 
 -- the margin of keep and the bytes of the kept file; 26 carries its margin, and 11 carries none
 abbrev pub keepOutcome : KeepAnswer → FileAnswer → Outcome

@@ -3,11 +3,12 @@ use Prim.Native.Nat.{ℕ}
 use mathlib.Core.Path.{_≡_}
 use mathlib.Core.Logic.{_↔_}
 use mathlib.Core.List.{List}
-use lib.ListN.{take}
+use lib.ListN.{length, take}
 use Rattle.placements.specs.Keep.{ExactQ}
 use Rattle.refusal.specs.Refusal.{none}
+use Rattle.call_refusals.specs.Calls.{bestRefusal}
 use Rattle.job.specs.Job.{rackIn, setsIn, quantitiesIn, readRefusal, InShorterForm}
-use Rattle.line_calls.specs.Rules.{CommonRule, NoneWithin, HalfRule, BestRule}
+use Rattle.line_calls.specs.Rules.{CommonRule, NoneWithin, HalfRule, BestRule, CheckRule}
 use Rattle.file_calls.specs.declared.Outcome.{Outcome}
 
 -- off is the least over all valid plans, and the set has the tips that as many placements allow as top
@@ -21,6 +22,12 @@ HalfRuleOf file plan o = HalfRule (quantitiesIn file) (setsIn file) plan (o .ref
 -- the best rule, of the bytes in the plan buffer
 abbrev pub BestRuleOf : List ℕ → List ℕ → Outcome → Type 0
 BestRuleOf file plan o = BestRule (quantitiesIn file) (setsIn file) plan (o .refusal .number) (o .first)
+
+-- accepted exactly where the plan, the claim and the table are what they say, and then the plan is best
+abbrev pub CheckRuleOf : List ℕ → List ℕ → ℕ → List ℕ → Outcome → Type 0
+CheckRuleOf file plan claim tab o =
+    let asked = bestRefusal (readRefusal file) (rackIn file) (setsIn file) (length plan) (length tab) in
+    CheckRule (asked .number) (rackIn file) (quantitiesIn file) (setsIn file) plan claim tab (o .refusal .number)
 
 -- demand 2, of the bytes in the output: it is a job file that is read, in the shorter form, with the same rack and quantities, in which a tip stays
 -- on a line exactly when some valid plan within k uses it there; and a file that reading accepts gives 26 exactly when no valid plan is within k

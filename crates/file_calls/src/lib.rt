@@ -4,7 +4,8 @@ ghost use lib.ListN.{length};
 ghost use Rattle.head.specs.OnHead.{onHead};
 ghost use Rattle.file_calls.specs.Calls.{twosComplement, planOutcome, keepOutcome};
 ghost use Rattle.file_calls.specs.Calls.{readIn, commonIn, keepIn, keepFileIn, quickIn, quickPlanIn, bestIn, bestPlanIn, bestTableIn};
-ghost use Rattle.file_calls.specs.Rules.{CommonRuleOf, KeepRuleOf, HalfRuleOf, BestRuleOf};
+ghost use Rattle.file_calls.specs.Calls.{checkIn};
+ghost use Rattle.file_calls.specs.Rules.{CommonRuleOf, KeepRuleOf, HalfRuleOf, BestRuleOf, CheckRuleOf};
 use head::Mounted;
 use line_calls::FileAnswer;
 use line_calls::KeepAnswer;
@@ -157,4 +158,30 @@ pub fn best_outcome(file: &[u8], mounted: Mounted, plan: &mut [u8], table: &mut 
         plan,
         table,
     ))
+}
+
+// The plan, the claim and the table are only read: there is nothing to tell but the refusal.
+pub fn check_outcome(file: &[u8], plan: &[u8], claim: u32, table: &[u32]) -> Outcome
+    ensures outcome { λ r. ⌜ r ≡ checkIn (now (file .entry)) (now (plan .entry)) claim (now (table .entry)) ⌝ }
+    ensures rule { λ r. ⌜ CheckRuleOf (now (file .entry)) (now (plan .entry)) claim (now (table .entry)) r ⌝ }
+{
+    let mut sets = sound::no_sets();
+    let mut quantities = sound::no_quantities();
+    let read = reading::read_lines(file, &mut sets, &mut quantities);
+    let refusal = line_calls::check(
+        read.refusal,
+        read.rack,
+        read.count,
+        &sets,
+        &quantities,
+        plan,
+        claim,
+        table,
+    );
+    Outcome {
+        refusal,
+        first: 0,
+        second: 0,
+        third: 0,
+    }
 }

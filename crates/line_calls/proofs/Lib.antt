@@ -3,3 +3,4 @@ pub mod KeepWithin
 pub mod Plans
 pub mod JobFile
 pub mod Refused
+pub mod Checked

@@ -3,7 +3,7 @@ use Prim.Native.Nat.{ℕ, _*_, _-_}
 use mathlib.Core.Bool.{cond}
 use mathlib.Core.List.{List}
 use lib.IntN.{ℤ, pos}
-use lib.ListN.{length}
+use lib.ListN.{length, take}
 use Rattle.model.specs.Plan.{pairs}
 use Rattle.model.specs.Choice.{Mounted}
 use Rattle.model.specs.CommonTip.{top, W, margin}
@@ -12,8 +12,9 @@ use Rattle.placements.specs.Repeated.{total, repeated}
 use Rattle.placements.specs.Plans.{quickPlanQ, bestPlanQ}
 use Rattle.placements.specs.Keep.{pruneQ}
 use Rattle.refusal.specs.declared.Refusal.{Refusal}
-use Rattle.refusal.specs.Refusal.{accepts, told, lentBy}
+use Rattle.refusal.specs.Refusal.{accepts, orElse, told, lentBy}
 use Rattle.call_refusals.specs.Calls.{keepRefusal, planRefusal, bestRefusal, writeRefusal}
+use Rattle.checking.specs.Checking.{checkRefusal}
 use Rattle.job.specs.Job.{fileLength, versionFor, writtenOf}
 use Rattle.line_calls.specs.declared.CommonAnswer.{CommonAnswer}
 use Rattle.line_calls.specs.declared.KeepAnswer.{KeepAnswer}
@@ -61,6 +62,11 @@ bestBuffer earlier m mounted qs lines plan places =
 
 unfoldable pub bestTable : Refusal → ℕ → List ℕ → List ℕ → ℕ → List ℕ → List ℕ
 bestTable earlier m qs lines room cells = lentBy (bestRefusal earlier m lines room (length cells)) (m * m) (table m (repeated qs lines)) cells
+
+-- the check of a plan, a claimed pair count and a table: what best sharing asks, then 19, 20 and 33, of the plan's first bytes, one for each line
+unfoldable pub checkOf : Refusal → ℕ → List ℕ → List ℕ → List ℕ → ℕ → List ℕ → Refusal
+checkOf earlier m qs lines plan claim tab =
+    orElse (bestRefusal earlier m lines (length plan) (length tab)) (checkRefusal m qs lines (take (length lines) plan) claim tab)
 
 -- write, with an output of room bytes: the version is 1 where each quantity is 1, else 2
 unfoldable pub writeOf : Refusal → List ℕ → List ℕ → ℕ → FileAnswer

@@ -1,4 +1,4 @@
--- What the answers mean for all valid plans by lines, counted in placements: the demands on common tip, keep and the plans handed out.
+-- What the answers mean for all valid plans by lines, counted in placements: the demands on common tip, keep, the plans handed out and the check.
 use Prim.Native.Nat.{ℕ, _*_, _≤_, _<_}
 use mathlib.Core.Path.{_≡_}
 use mathlib.Core.Logic.{_↔_}
@@ -10,6 +10,7 @@ use Rattle.model.specs.Plan.{has, occ, Valid, pairs}
 use Rattle.model.specs.Interval.{Misses}
 use Rattle.placements.specs.Repeated.{repeated}
 use Rattle.placements.specs.Keep.{WithinQ, LeastOffQ}
+use Rattle.goals.specs.Check.{Accepted}
 
 -- an accepted common tip: off is the least over all valid plans, and the set has the tips in some line that as many placements allow as top
 pub record CommonRule (m : ℕ) (qs lines : List ℕ) (number top off tips : ℕ) : Type 0 where
@@ -36,3 +37,10 @@ pub record BestRule (qs lines buffer : List ℕ) (number shared : ℕ) : Type 0 
   pub runs : number ≡ 0 → All (λ s. (c : ℕ) → Misses lines s c → ⊥) lines
   pub plan : number ≡ 0 → HandedOut qs lines buffer shared
   pub best : number ≡ 0 → (other : List ℕ) → Valid lines other → pairs (repeated qs other) ≤ shared
+
+-- the check, of the plan's first bytes, where asked is the number refused before it: 0 exactly where each line is on a tip of its own, the claim is
+-- the plan's count and the table's entry for the rack, and each entry is at least each split at a named tip; then no plan has more than the claim
+pub record CheckRule (asked m : ℕ) (qs lines plan : List ℕ) (claim : ℕ) (table : List ℕ) (number : ℕ) : Type 0 where
+  pub accepted : number ≡ 0 → Accepted m qs lines (take (length lines) plan) claim table
+  pub exact : asked ≡ 0 → Accepted m qs lines (take (length lines) plan) claim table → number ≡ 0
+  pub best : number ≡ 0 → (other : List ℕ) → Valid lines other → pairs (repeated qs other) ≤ claim

@@ -2,8 +2,9 @@
 ghost use mathlib.Core.Path.{_≡_};
 ghost use lib.ListN.{length, take};
 ghost use Rattle.line_calls.specs.Lines.{commonOf, keepOf, keptSets, quickOf, quickBuffer};
-ghost use Rattle.line_calls.specs.Lines.{bestOf, bestBuffer, bestTable, writeOf, writeBuffer};
-ghost use Rattle.line_calls.specs.Rules.{CommonRule, HalfRule, BestRule};
+ghost use Rattle.line_calls.specs.Lines.{bestOf, bestBuffer, bestTable, checkOf, writeOf, writeBuffer};
+ghost use Rattle.line_calls.specs.Rules.{CommonRule, HalfRule, BestRule, CheckRule};
+ghost use Rattle.call_refusals.specs.Calls.{bestRefusal};
 ghost use Rattle.head.specs.OnHead.{onHead};
 ghost use Rattle.refusal.specs.Refusal.{Given};
 use head::Mounted;
@@ -160,6 +161,41 @@ pub fn best(
         &mut table[..square],
     );
     PlanAnswer { refusal, pairs }
+}
+
+// A plan, a claimed pair count and a table from other software, which are only read. The table's first places are those of the rack.
+pub fn check<'a>(
+    earlier: Refusal,
+    rack: usize,
+    count: usize,
+    sets: &'a [u64],
+    quantities: &'a [u8],
+    plan: &[u8],
+    claim: u32,
+    table: &[u32],
+) -> Refusal
+    requires { ⌜ Given earlier rack count (now quantities) (now sets) ⌝ }
+    ensures answer { λ r. ⌜ r ≡ checkOf earlier rack (take count (now (quantities .entry))) (take count (now (sets .entry)))
+        (now (plan .entry)) claim (now (table .entry)) ⌝ }
+    ensures rule { λ r. ⌜ CheckRule
+        (bestRefusal earlier rack (take count (now (sets .entry))) (length (now (plan .entry))) (length (now (table .entry))) .number)
+        rack (take count (now (quantities .entry))) (take count (now (sets .entry)))
+        (now (plan .entry)) claim (now (table .entry)) (r .number) ⌝ }
+{
+    let refusal = call_refusals::best_refusal(earlier, rack, count, sets, plan.len(), table.len());
+    if refusal.number != 0 {
+        return refusal;
+    }
+    let lines = &sets[..count];
+    checking::check_plan(
+        ranks::names_of(lines),
+        rack,
+        lines,
+        &quantities[..count],
+        &plan[..count],
+        claim,
+        table,
+    )
 }
 
 pub fn write<'a>(

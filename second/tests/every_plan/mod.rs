@@ -224,7 +224,50 @@ fn check_best(board: &Board, tried: &Tried) {
                 assert_answer(&with_mounted, board, 0, 0);
                 check_plan(board, &plan, best.value);
                 assert_eq!((with_mounted.value, &same_table), (best.value, &table));
+                // Our own plan and table are accepted, whichever tip is mounted.
+                assert_answer(&board.clone().check(&plan, best.value, &table), board, 0, 0);
             }
+            check_checks(board, &plan, best.value, &table);
+        }
+    }
+}
+
+/// Our own plan and table with one byte, the claim or one entry changed: each line must stay on a tip of its own, and no
+/// entry may fall, for it is the most that the lines within it have.
+fn check_checks(board: &Board, plan: &[u8], pairs: u32, table: &[u32]) {
+    let number_of = |plan: &[u8], claim: u32, table: &[u32]| board.clone().check(plan, claim, table).number;
+    assert_eq!(number_of(plan, pairs, table), 0);
+    assert_eq!(number_of(plan, pairs + 1, table), 20);
+    for (line, given) in board.lines().enumerate() {
+        let mut other = plan.to_vec();
+        for byte in (0..=board.rack as u8).chain([plan[line] + 64, plan[line] + 128, 255]) {
+            other[line] = byte;
+            let own = byte < 64 && (given.set >> byte) & 1 == 1;
+            let same = pairs_in(&board.placed(&other[..board.count])) == pairs;
+            assert_eq!(
+                number_of(&other, pairs, table),
+                if !own {
+                    19
+                } else if same {
+                    0
+                } else {
+                    20
+                }
+            );
+        }
+    }
+    for place in 0..board.rack * board.rack {
+        let is_below = place / board.rack > place % board.rack;
+        let named_within = board
+            .lines()
+            .any(|line| tips_in(line.set).any(|tip| place / board.rack <= tip && tip <= place % board.rack));
+        for entry in [table[place].wrapping_sub(1), u32::MAX] {
+            let mut other = table.to_vec();
+            other[place] = entry;
+            let number = number_of(plan, pairs, &other);
+            let falls = entry < table[place] && named_within;
+            assert!(number == 0 || number == 33 && !is_below);
+            assert!(number == 33 || !falls && (place + 1 != board.rack));
         }
     }
 }

@@ -6,7 +6,7 @@ use Rattle.placements.specs.Repeated.{repeated}
 use Rattle.table.specs.Cells.{Runs}
 use Rattle.layout.specs.Picks.{Ready}
 use Rattle.head.specs.OnHead.{onHead}
-use Rattle.best.proofs.Ranges.{wider}
+use Rattle.placements.proofs.Good.{wider}
 use Rattle.best.proofs.Placed.{placed-runs, plan-placed}
 use borrow.Author.Needs.{needs}
 use Rattle.best.proofs.plan_runs.Statement.{statement}

@@ -1,0 +1,4 @@
+pub mod Filled
+pub mod Claim
+pub mod Bounds
+pub mod Laws

@@ -1,0 +1,33 @@
+// A plan, a claimed pair count and a table from other software, checked for lines that are runs of the named tips.
+mod claimed;
+mod tabled;
+
+ghost use mathlib.Core.Path.{_≡_};
+ghost use Prim.Native.Nat.{_*_, _≤_};
+ghost use lib.ListN.{length};
+ghost use Rattle.checking.specs.Checking.{checkRefusal, NamedRuns};
+use refusal::Refusal;
+
+// 19, 20 or 33, or nothing where all is accepted. `names` is the set of the tips that the lines name.
+pub fn check_plan(
+    names: u64,
+    m: usize,
+    lines: &[u64],
+    quantities: &[u8],
+    plan: &[u8],
+    claim: u32,
+    table: &[u32],
+) -> Refusal
+    requires { ⌜ NamedRuns names m (now quantities) (now lines) × (length (now plan) ≡ length (now lines)) × (m * m ≤ length (now table)) ⌝ }
+    ensures { λ r. ⌜ r ≡ checkRefusal m (now (quantities .entry)) (now (lines .entry)) (now (plan .entry)) claim (now (table .entry)) ⌝ }
+{
+    let pairs = pair_count::pair_table();
+    let refusal = claimed::claim_refusal(&pairs, lines, quantities, plan, claim);
+    if refusal.number != 0 {
+        return refusal;
+    }
+    let mut sums = [0u32; spans::SUMS_SIZE];
+    spans::sum_spans(lines, quantities, &mut sums);
+    let fits = tabled::table_fits(names, m, claim, &pairs, &sums, table);
+    refusal::refuse_when(!fits, 33)
+}

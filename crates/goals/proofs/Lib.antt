@@ -1,0 +1,9 @@
+pub mod Append
+pub mod Only
+pub mod Solved
+pub mod Joined
+pub mod Reach
+pub mod Outer
+pub mod Fast
+pub mod Strike
+pub mod Check

@@ -1,0 +1,4 @@
+pub mod Goal
+pub mod Tables
+pub mod Check
+pub mod Examples
