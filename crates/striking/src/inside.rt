@@ -54,7 +54,15 @@ pub fn split_at(
     pairs_at(names, a, w, c, q, pairs, sums) + (before + after)
 }
 
-fn best_split(names: u64, m: usize, a: usize, w: usize, pairs: &[u32], sums: &[u32], inner: &[u32]) -> u64
+fn best_split(
+    names: u64,
+    m: usize,
+    a: usize,
+    w: usize,
+    pairs: &[u32],
+    sums: &[u32],
+    inner: &[u32],
+) -> u64
     requires { ⌜ Ready 0 (now sums) × (m ≤ mostTips) × (m * m ≤ length (now inner)) × (a + w ≤ m) × PairTable (now pairs) ⌝ }
     ensures { λ r. ⌜ r ≡ largest (splitBy names m (now (sums .entry)) (now (inner .entry)) 0 a w) w ⌝ }
 {

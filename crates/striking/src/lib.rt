@@ -65,7 +65,17 @@ fn struck_set(
     rest::sums_without(sums, line, quantity, rest);
     inside::fill_inside(names, m, pairs, rest, inner);
     outside::fill_outside(names, m, pairs, rest, inner, outer);
-    reach::kept_tips(names, m, quantity as u32, line, goal, pairs, rest, inner, outer)
+    reach::kept_tips(
+        names,
+        m,
+        quantity as u32,
+        line,
+        goal,
+        pairs,
+        rest,
+        inner,
+        outer,
+    )
 }
 
 fn strike_each(
@@ -108,7 +118,7 @@ fn strike_each(
 }
 
 // 34 where the best plan has fewer pairs than the goal, and nothing is struck. `names` is the set of the tips that the lines name.
-// The four arrays take 66,568 bytes of the stack.
+// The five arrays take 74,764 bytes of the stack.
 pub fn strike(
     names: u64,
     m: usize,

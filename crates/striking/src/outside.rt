@@ -93,7 +93,14 @@ fn best_outside(
 }
 
 // The widest intervals first.
-pub fn fill_outside(names: u64, m: usize, pairs: &[u32], sums: &[u32], inner: &[u32], outer: &mut [u32])
+pub fn fill_outside(
+    names: u64,
+    m: usize,
+    pairs: &[u32],
+    sums: &[u32],
+    inner: &[u32],
+    outer: &mut [u32],
+)
     requires { ⌜ ((lines : List ℕ) × RunSums names m 0 lines (now sums) × InsideAll m lines (now inner)) × (m * m ≤ length (now outer))
         × PairTable (now pairs) ⌝ }
     ensures { λ _. ⌜ ((lines : List ℕ) → RunSums names m 0 lines (now (sums .entry)) → InsideAll m lines (now (inner .entry))

@@ -12,16 +12,16 @@ use Rattle.striking.proofs.strike_each.Statement.{statement}
 use Rattle.striking.proofs.strike_each.Tie as tie
 
 abbrev Inv-loop : tie.InvT-loop
-Inv-loop names m lines quantities goal sums rest₀ inner₀ outer₀ struck₀ i₀ rest inner outer struck i =
+Inv-loop names m lines quantities goal pairs sums rest₀ inner₀ outer₀ struck₀ i₀ rest inner outer struck i =
     (i ≤ length lines) × (length rest ≡ sumsSize) × (length inner ≡ length inner₀) × (length outer ≡ length outer₀)
     × (length struck ≡ length lines) × (take i struck ≡ listOf (goalTips m quantities lines goal) i)
 
 abbrev μ-loop : tie.MeasureT-loop
-μ-loop names m lines quantities goal sums rest₀ inner₀ outer₀ struck₀ i₀ rest inner outer struck i = length lines - i
+μ-loop names m lines quantities goal pairs sums rest₀ inner₀ outer₀ struck₀ i₀ rest inner outer struck i = length lines - i
 
 -- the call's start, from the loop
 abbrev start : tie.At-loop Inv-loop μ-loop → tie.Start Inv-loop μ-loop
-start c = c .before .before .before .before .before .before .before .before
+start c = c .before .before .before .before .before .before .before .before .before
 
 -- the loop, from the set found
 abbrev looped : tie.After-struck-set Inv-loop μ-loop → tie.In-loop Inv-loop μ-loop
@@ -39,7 +39,7 @@ at c = looped (c .before .before .before .before .before .before)
 loop-holds : tie.Need-loop-holds Inv-loop μ-loop
 unfolding listOf
 loop-holds c =
-    let p = c .before .before .before .before .before .before .before .pre in
+    let p = c .before .before .before .before .before .before .before .before .pre in
     (search needs, p .2, refl, refl, p .5, refl)
 
 struck-set-requires : tie.Need-struck-set-requires Inv-loop μ-loop
@@ -55,6 +55,7 @@ struck-set-requires c κs =
       v .1,
       omega (arith, v .2, p .3),
       omega (arith, v .3, p .4),
+      p .6,
     )
 
 mul-struck : tie.Need-mul-struck Inv-loop μ-loop

@@ -21,7 +21,7 @@ abbrev filled : tie.After-fill-outside → tie.After-fill-inside
 filled c = c .before .before .before .before .before .before
 
 abbrev start : tie.After-first-same → tie.Start
-start c = c .before .before .before .before .before .before .before .before
+start c = c .before .before .before .before .before .before .before .before .before
 
 abbrev begun : tie.After-sums-without → tie.Start
 begun c = start (c .before .before .before .before .before)
@@ -45,19 +45,19 @@ sums-of c =
 -- their tables
 inside-of : (c : tie.After-fill-inside)
     → let s = begun (summed c) in
-    InsideAll (s .args .m) (rest s) (c .fill-inside .last .1 .1 .1 .0)
+    InsideAll (s .args .m) (rest s) (c .fill-inside .last .1 .1 .1 .1 .0)
 inside-of c = c .fill-inside .ensures (rest (begun (summed c))) (with-none (sums-of (summed c)))
 
 outside-of : (c : tie.After-fill-outside)
     → let s = begun (summed (filled c)) in
-    OutsideAll (s .args .m) (rest s) (c .fill-outside .last .1 .1 .1 .1 .0)
+    OutsideAll (s .args .m) (rest s) (c .fill-outside .last .1 .1 .1 .1 .1 .0)
 outside-of c =
     let k = with-none (sums-of (summed (filled c))) in
     c .fill-outside .ensures (rest (begun (summed (filled c)))) k (inside-of (filled c))
 
 first-same-requires : tie.Need-first-same-requires
 first-same-requires c κs =
-    let s = c .before .before .before .before .before .before .before in
+    let s = c .before .before .before .before .before .before .before .before in
     (s .pre .2, s .pre .0 .good .same)
 
 mul-result : tie.Need-mul-result
@@ -97,24 +97,24 @@ sums-without-requires c κs =
 fill-inside-requires : tie.Need-fill-inside-requires
 fill-inside-requires c κs =
     let f = c .before .before .before .before in
-    ((rest (begun f), with-none (sums-of f)), begun f .pre .6)
+    ((rest (begun f), with-none (sums-of f)), begun f .pre .6, begun f .pre .8)
 
 fill-outside-requires : tie.Need-fill-outside-requires
 fill-outside-requires c κs =
     let f = c .before .before .before .before .before in
     let s = begun (summed f) in
-    ((rest s, with-none (sums-of (summed f)), inside-of f), s .pre .7)
+    ((rest s, with-none (sums-of (summed f)), inside-of f), s .pre .7, s .pre .8)
 
 cast-kept-tips : tie.Need-cast-kept-tips
 cast-kept-tips c =
     let f = summed (filled (c .before .before)) in
-    record { fits = omega (arith, f .before .before .shared-slice-known7 .given (begun f .args .i)) }
+    record { fits = omega (arith, f .before .before .shared-slice-known8 .given (begun f .args .i)) }
 
 kept-tips-requires : tie.Need-kept-tips-requires
 kept-tips-requires c κs =
     let f = c .before .before .before .before .before in
     let k = sums-of (summed (filled f)) in
-    (ready k, k .rack, inside-of (filled f) .room, outside-of f .room)
+    (ready k, k .rack, inside-of (filled f) .room, outside-of f .room, begun (summed (filled f)) .pre .8)
 
 same-length : tie.Need-same-length
 same-length c = search needs

@@ -9,10 +9,10 @@ use Rattle.striking.proofs.inside.best_split.Statement.{statement}
 use Rattle.striking.proofs.inside.best_split.Tie as tie
 
 abbrev Inv-loop : tie.InvT-loop
-Inv-loop names m a w sums inner best₀ i₀ best i = (i ≤ w) × (best ≡ largest (splitBy names m sums inner 0 a w) i)
+Inv-loop names m a w pairs sums inner best₀ i₀ best i = (i ≤ w) × (best ≡ largest (splitBy names m sums inner 0 a w) i)
 
 abbrev μ-loop : tie.MeasureT-loop
-μ-loop names m a w sums inner best₀ i₀ best i = w - i
+μ-loop names m a w pairs sums inner best₀ i₀ best i = w - i
 
 loop-holds : tie.Need-loop-holds Inv-loop μ-loop
 unfolding largest
@@ -33,13 +33,13 @@ loop-less c = search needs
 loop-again : tie.Need-loop-again Inv-loop μ-loop
 loop-again c =
     let loop = c .before .before .before in
-    let args = loop .before .before .before .args in
+    let args = loop .before .before .before .before .args in
     let f : ℕ → ℕ = splitBy (args .names) (args .m) (args .sums .now) (args .inner .now) 0 (args .a) (args .w) in
     (search needs, omega (arith, c .larger .ensures, c .before .split-at .ensures, loop .loop .inv .1, largest-more f (loop .loop .i)))
 
 returns : tie.Need-returns Inv-loop μ-loop
 returns c =
-    let e : c .before .loop .i ≡ c .before .before .before .before .args .w = omega arith in
+    let e : c .before .loop .i ≡ c .before .before .before .before .before .args .w = omega arith in
     rw e at (c .before .loop .inv .1)
 
 pub best-split-spec : {M : Type 1} → statement M

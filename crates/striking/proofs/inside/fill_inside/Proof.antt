@@ -14,22 +14,22 @@ use Rattle.striking.proofs.inside.fill_inside.Statement.{statement}
 use Rattle.striking.proofs.inside.fill_inside.Tie as tie
 
 abbrev Inv-loop2 : tie.InvT-loop2
-Inv-loop2 names m sums inner₀ w a₀ inner a =
+Inv-loop2 names m pairs sums inner₀ w a₀ inner a =
     (a + w ≤ m + 1) × (length inner ≡ length inner₀) × ((lines : List ℕ) → RunSums names m 0 lines sums → Inside m lines inner w a)
 
 abbrev μ-loop2 : tie.MeasureT-loop2
-μ-loop2 names m sums inner₀ w a₀ inner a = m + 1 - (a + w)
+μ-loop2 names m pairs sums inner₀ w a₀ inner a = m + 1 - (a + w)
 
 abbrev Inv-loop : tie.InvT-loop
-Inv-loop names m sums inner₀ w₀ inner w =
+Inv-loop names m pairs sums inner₀ w₀ inner w =
     (0 < w) × (w ≤ m + 1) × (length inner ≡ length inner₀) × ((lines : List ℕ) → RunSums names m 0 lines sums → Inside m lines inner w 0)
 
 abbrev μ-loop : tie.MeasureT-loop
-μ-loop names m sums inner₀ w₀ inner w = m + 1 - w
+μ-loop names m pairs sums inner₀ w₀ inner w = m + 1 - w
 
 -- the call's start, from the outer loop
 abbrev start : tie.At-loop Inv-loop2 μ-loop2 Inv-loop μ-loop → tie.Start Inv-loop2 μ-loop2 Inv-loop μ-loop
-start c = c .before .before .before
+start c = c .before .before .before .before
 
 -- what is known in the inner loop
 module _ (c : tie.In-loop2 Inv-loop2 μ-loop2 Inv-loop μ-loop) where
@@ -63,7 +63,7 @@ few c =
 
 loop-holds : tie.Need-loop-holds Inv-loop2 μ-loop2 Inv-loop μ-loop
 loop-holds c =
-    let b = c .before .before in
+    let b = c .before .before .before in
     (search needs, search needs, refl, λ lines k. inside-first lines (b .args .inner .now) (b .pre .1))
 
 loop2-holds : tie.Need-loop2-holds Inv-loop2 μ-loop2 Inv-loop μ-loop
@@ -75,7 +75,7 @@ add-loop2 c = search needs
 best-split-requires : tie.Need-best-split-requires Inv-loop2 μ-loop2 Inv-loop μ-loop
 best-split-requires c κs =
     let b = c .before in
-    (ready (s b .pre .0 .1), rack b, omega (arith, room b), omega arith)
+    (ready (s b .pre .0 .1), rack b, omega (arith, room b), omega arith, s b .pre .2)
 
 cast-inner : tie.Need-cast-inner Inv-loop2 μ-loop2 Inv-loop μ-loop
 cast-inner c = record { fits = omega (arith, few c) }

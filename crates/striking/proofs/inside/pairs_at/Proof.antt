@@ -19,7 +19,7 @@ has-tip-requires : tie.Need-has-tip-requires
 has-tip-requires c κs = search needs
 
 pairs-among-requires : tie.Need-pairs-among-requires
-pairs-among-requires c κs = omega (arith, few (c .before .before .before))
+pairs-among-requires c κs = let s = c .before .before .before .before in (s .pre .4, omega (arith, few s))
 
 cast-result : tie.Need-cast-result
 cast-result c = search needs
@@ -27,7 +27,7 @@ cast-result c = search needs
 returns : tie.Need-returns
 unfolding pairsBy
 returns c =
-    let s = c .before .before .before .before in
+    let s = c .before .before .before .before .before in
     let q = s .args .q in
     let n : 0 + q ≡ q = omega arith in
     let e = c .pairs-among .ensures in
@@ -35,14 +35,16 @@ returns c =
 
 inside-at-requires : tie.Need-inside-at-requires
 inside-at-requires c κs =
-    let s = c .before .before .before in
+    let s = c .before .before .before .before in
     s .pre .0 .summed (s .args .a) (s .args .w) (s .args .c) (s .pre .1) (s .pre .2) (s .pre .3)
 
 add-pairs-among : tie.Need-add-pairs-among
-add-pairs-among c = record { fits = omega (arith, c .inside-at .ensures, few (c .before .before .before .before)) }
+add-pairs-among c = record { fits = omega (arith, c .inside-at .ensures, few (c .before .before .before .before .before)) }
 
 pairs-among-requires-2 : tie.Need-pairs-among-requires-2
-pairs-among-requires-2 c κs = omega (arith, c .inside-at .ensures, few (c .before .before .before .before))
+pairs-among-requires-2 c κs =
+    let s = c .before .before .before .before .before in
+    (s .pre .4, omega (arith, c .inside-at .ensures, few s))
 
 cast-result-2 : tie.Need-cast-result-2
 cast-result-2 c = search needs
@@ -50,7 +52,7 @@ cast-result-2 c = search needs
 returns-2 : tie.Need-returns-2
 unfolding pairsBy
 returns-2 c =
-    let s = c .before .before .before .before .before in
+    let s = c .before .before .before .before .before .before in
     let i = c .before .inside-at in
     let q = s .args .q in
     let e : c .pairs-among2 .result ≡ choose2 (insideBy (s .args .sums .now) (s .args .a) (s .args .w) (s .args .c) + q) =

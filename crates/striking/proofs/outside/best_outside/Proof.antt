@@ -9,21 +9,21 @@ use Rattle.striking.proofs.outside.best_outside.Statement.{statement}
 use Rattle.striking.proofs.outside.best_outside.Tie as tie
 
 abbrev Inv-loop : tie.InvT-loop
-Inv-loop names m a w sums inner outer best₀ j₀ best j = (a + w + j ≤ m) × (best ≡ largest (beforeBy names m sums inner outer a w) j)
+Inv-loop names m a w pairs sums inner outer best₀ j₀ best j = (a + w + j ≤ m) × (best ≡ largest (beforeBy names m sums inner outer a w) j)
 
 abbrev μ-loop : tie.MeasureT-loop
-μ-loop names m a w sums inner outer best₀ j₀ best j = m - (a + w + j)
+μ-loop names m a w pairs sums inner outer best₀ j₀ best j = m - (a + w + j)
 
 abbrev Inv-loop2 : tie.InvT-loop2
-Inv-loop2 names m a w sums inner outer best₀ j k₀ best k = (k ≤ a)
+Inv-loop2 names m a w pairs sums inner outer best₀ j k₀ best k = (k ≤ a)
     × (best ≡ max (largest (beforeBy names m sums inner outer a w) (m - (a + w))) (largest (behindBy names m sums inner outer a w) k))
 
 abbrev μ-loop2 : tie.MeasureT-loop2
-μ-loop2 names m a w sums inner outer best₀ j k₀ best k = a - k
+μ-loop2 names m a w pairs sums inner outer best₀ j k₀ best k = a - k
 
 -- the call's start, from the first loop
 abbrev start : tie.At-loop Inv-loop μ-loop Inv-loop2 μ-loop2 → tie.Start Inv-loop μ-loop Inv-loop2 μ-loop2
-start c = c .before .before .before .before
+start c = c .before .before .before .before .before
 
 abbrev before : tie.Start Inv-loop μ-loop Inv-loop2 μ-loop2 → ℕ → ℕ
 before c = let args = c .args in beforeBy (args .names) (args .m) (args .sums .now) (args .inner .now) (args .outer .now) (args .a) (args .w)
@@ -99,7 +99,7 @@ sub-outside-at-3 c = search needs
 outside-at-requires-2 : tie.Need-outside-at-requires-2 Inv-loop μ-loop Inv-loop2 μ-loop2
 outside-at-requires-2 c κs =
     let s = start (c .before .before .before) in
-    (s .pre .0, s .pre .1, s .pre .2, s .pre .3, omega arith, omega arith, omega arith, omega arith)
+    (s .pre .0, s .pre .1, s .pre .2, s .pre .3, omega arith, omega arith, omega arith, omega arith, s .pre .5)
 
 larger-requires-2 : tie.Need-larger-requires-2 Inv-loop μ-loop Inv-loop2 μ-loop2
 larger-requires-2 c κs = search needs

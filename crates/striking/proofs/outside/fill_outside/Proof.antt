@@ -14,24 +14,24 @@ use Rattle.striking.proofs.outside.fill_outside.Statement.{statement}
 use Rattle.striking.proofs.outside.fill_outside.Tie as tie
 
 abbrev Inv-loop2 : tie.InvT-loop2
-Inv-loop2 names m sums inner outer₀ w a₀ outer a =
+Inv-loop2 names m pairs sums inner outer₀ w a₀ outer a =
     (a + w ≤ m + 1) × (length outer ≡ length outer₀)
     × ((lines : List ℕ) → RunSums names m 0 lines sums → InsideAll m lines inner → Outside m lines outer w a)
 
 abbrev μ-loop2 : tie.MeasureT-loop2
-μ-loop2 names m sums inner outer₀ w a₀ outer a = m + 1 - (a + w)
+μ-loop2 names m pairs sums inner outer₀ w a₀ outer a = m + 1 - (a + w)
 
 abbrev Inv-loop : tie.InvT-loop
-Inv-loop names m sums inner outer₀ w₀ outer w =
+Inv-loop names m pairs sums inner outer₀ w₀ outer w =
     (w ≤ m) × (length outer ≡ length outer₀)
     × ((lines : List ℕ) → RunSums names m 0 lines sums → InsideAll m lines inner → Outside m lines outer w 0)
 
 abbrev μ-loop : tie.MeasureT-loop
-μ-loop names m sums inner outer₀ w₀ outer w = w
+μ-loop names m pairs sums inner outer₀ w₀ outer w = w
 
 -- the call's start, from the outer loop
 abbrev start : tie.At-loop Inv-loop2 μ-loop2 Inv-loop μ-loop → tie.Start Inv-loop2 μ-loop2 Inv-loop μ-loop
-start c = c .before .before .before .before
+start c = c .before .before .before .before .before
 
 -- what is known in the inner loop
 module _ (c : tie.In-loop2 Inv-loop2 μ-loop2 Inv-loop μ-loop) where
@@ -65,7 +65,7 @@ few c =
 
 loop-holds : tie.Need-loop-holds Inv-loop2 μ-loop2 Inv-loop μ-loop
 loop-holds c =
-    let b = c .before .before .before in
+    let b = c .before .before .before .before in
     (search needs, refl, λ lines k i. outside-first lines (b .args .outer .now) (b .pre .1))
 
 loop2-holds : tie.Need-loop2-holds Inv-loop2 μ-loop2 Inv-loop μ-loop
@@ -78,7 +78,7 @@ best-outside-requires : tie.Need-best-outside-requires Inv-loop2 μ-loop2 Inv-lo
 best-outside-requires c κs =
     let b = c .before in
     let (lines, k, i) = s b .pre .0 in
-    (ready k, rack b, i .room, room b, omega arith)
+    (ready k, rack b, i .room, room b, omega arith, s b .pre .2)
 
 cast-outer : tie.Need-cast-outer Inv-loop2 μ-loop2 Inv-loop μ-loop
 cast-outer c = record { fits = omega (arith, few c) }

@@ -10,14 +10,14 @@ use Rattle.striking.proofs.reach.kept_tips.Statement.{statement}
 use Rattle.striking.proofs.reach.kept_tips.Tie as tie
 
 abbrev Inv-loop : tie.InvT-loop
-Inv-loop names m q set goal sums inner outer kept₀ t₀ kept t = (t ≤ m) × (kept ≡ setOf (staysBy names m sums inner outer q set goal) t)
+Inv-loop names m q set goal pairs sums inner outer kept₀ t₀ kept t = (t ≤ m) × (kept ≡ setOf (staysBy names m sums inner outer q set goal) t)
 
 abbrev μ-loop : tie.MeasureT-loop
-μ-loop names m q set goal sums inner outer kept₀ t₀ kept t = m - t
+μ-loop names m q set goal pairs sums inner outer kept₀ t₀ kept t = m - t
 
 -- the call's start, from the loop
 abbrev start : tie.At-loop Inv-loop μ-loop → tie.Start Inv-loop μ-loop
-start c = c .before .before .before .before
+start c = c .before .before .before .before .before
 
 abbrev stays : tie.Start Inv-loop μ-loop → ℕ → Bool
 stays c =

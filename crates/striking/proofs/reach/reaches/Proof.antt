@@ -12,21 +12,21 @@ use Rattle.striking.proofs.reach.reaches.Statement.{statement}
 use Rattle.striking.proofs.reach.reaches.Tie as tie
 
 abbrev Inv-loop2 : tie.InvT-loop2
-Inv-loop2 names m q goal t sums inner outer a i j₀ j =
+Inv-loop2 names m q goal t pairs sums inner outer a i j₀ j =
     (t + j ≤ m) × (every (λ k. ltb (endedBy names m sums inner outer q a (t - a + 1 + k) (t - a)) goal) j ≡ true)
 
 abbrev μ-loop2 : tie.MeasureT-loop2
-μ-loop2 names m q goal t sums inner outer a i j₀ j = m - (t + j)
+μ-loop2 names m q goal t pairs sums inner outer a i j₀ j = m - (t + j)
 
 abbrev Inv-loop : tie.InvT-loop
-Inv-loop names m q goal t sums inner outer a₀ a = (a ≤ t + 1) × (every (missesBy names m sums inner outer q goal t) a ≡ true)
+Inv-loop names m q goal t pairs sums inner outer a₀ a = (a ≤ t + 1) × (every (missesBy names m sums inner outer q goal t) a ≡ true)
 
 abbrev μ-loop : tie.MeasureT-loop
-μ-loop names m q goal t sums inner outer a₀ a = t + 1 - a
+μ-loop names m q goal t pairs sums inner outer a₀ a = t + 1 - a
 
 -- the call's start, from the outer loop
 abbrev start : tie.At-loop Inv-loop2 μ-loop2 Inv-loop μ-loop → tie.Start Inv-loop2 μ-loop2 Inv-loop μ-loop
-start c = c .before .before .before .before
+start c = c .before .before .before .before .before
 
 -- the tests from a first tip, and of one interval from it
 abbrev misses : tie.At-loop Inv-loop2 μ-loop2 Inv-loop μ-loop → ℕ → Bool

@@ -29,7 +29,7 @@ shl-result c = search needs
 returns-3 : tie.Need-returns-3
 unfolding staysBy
 returns-3 c =
-    let s = c .before .before .before .before .before .before .before in
+    let s = c .before .before .before .before .before .before .before .before in
     let t = s .args .t in
     let below : t < 64 = omega arith in
     let l : 2 ^ t < 2 ^ 64 = pow-lt below in
