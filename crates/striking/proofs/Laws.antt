@@ -11,9 +11,9 @@ use Rattle.model.specs.Interval.{named, isRunOf, C}
 use Rattle.model.proofs.Tests.{le-or-lt}
 use Rattle.placements.specs.Repeated.{repeated}
 use Rattle.placements.specs.Good.{GoodLines}
-use Rattle.goals.specs.Goal.{Struck}
+use Rattle.goals.specs.Goal.{strike, Struck}
 use Rattle.goals.proofs.Strike.{missed-iff, strike-runs}
-use Rattle.striking.specs.Striking.{goalRefusal, struckBy}
+use Rattle.striking.specs.Striking.{goalRefusal}
 use Rattle.striking.proofs.Kept.{goal-missed, goal-met}
 
 module _ {m : ℕ} {qs sets : List ℕ} (good : GoodLines m qs sets) (rs : All (λ s. T (isRunOf (named sets) s)) sets) (K : ℕ) where
@@ -24,11 +24,8 @@ module _ {m : ℕ} {qs sets : List ℕ} (good : GoodLines m qs sets) (rs : All (
   met h = ap (λ r. r .number) (sym (goal-met m qs sets K [] h .0))
 
   -- STRUCK exactly, where nothing is refused
-  pub struck-exact : (old : List ℕ) → (goalRefusal m qs sets K) .number ≡ 0 → Struck m qs sets K (struckBy m qs sets K old)
-  struck-exact old z = ⊎-elim
-      (λ h. rw (← (goal-met m qs sets K old h .1)) (strike-runs good rs K h))
-      (λ h. absurd (omega (arith, z, missed h)))
-      (le-or-lt K (C (repeated qs sets) 0 m))
+  pub struck-exact : (goalRefusal m qs sets K) .number ≡ 0 → Struck m qs sets K (strike m qs sets K)
+  struck-exact z = ⊎-elim (strike-runs good rs K) (λ h. absurd (omega (arith, z, missed h))) (le-or-lt K (C (repeated qs sets) 0 m))
 
   -- 34 exactly when no valid plan has K placement pairs
   pub refused-iff : ((goalRefusal m qs sets K) .number ≡ 34) ↔ ((plan : List ℕ) → Valid sets plan → pairs (repeated qs plan) < K)
