@@ -1,4 +1,6 @@
 pub mod Signed
 pub mod ReadLines
+pub mod WrittenFile
 pub mod KeptFile
+pub mod GoalFile
 pub mod AsBoard
