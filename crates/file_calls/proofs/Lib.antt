@@ -4,3 +4,4 @@ pub mod WrittenFile
 pub mod KeptFile
 pub mod GoalFile
 pub mod AsBoard
+pub mod GoalAsBoard
