@@ -30,8 +30,8 @@ struckSets earlier m qs lines K sets = lentBy (goalOf earlier m qs lines K) (len
 abbrev pub NoneMeets : List ℕ → List ℕ → ℕ → Type 0
 NoneMeets qs lines K = (plan : List ℕ) → Valid lines plan → pairs (repeated qs plan) < K
 
--- the goal rule, where asked is the number refused before the goal is looked at and struck are the sets left: on lines that are runs of the named tips
--- a tip stays on a line exactly when some valid plan with at least K placement pairs uses it there, and 34 exactly when no valid plan has K
+-- the goal rule, where asked is the number refused before the goal is looked at and struck are the sets left: on lines that are runs of the named
+-- tips a tip stays on a line exactly when some valid plan with at least K placement pairs uses it there, and 34 exactly when no valid plan has K
 pub record GoalRule (asked m : ℕ) (qs lines : List ℕ) (K : ℕ) (struck : List ℕ) (number : ℕ) : Type 0 where
   pub runs : number ≡ 0 → All (λ s. (c : ℕ) → Misses lines s c → ⊥) lines
   pub exact : number ≡ 0 → Struck m qs lines K struck

@@ -41,8 +41,8 @@ use Rattle.rows.specs.Rows.{B27-common, B27-best, B31-best, B32-best, B3
 use Rattle.rows.specs.Rows.{B36-best-1, B36-best-2, B37-quick, B37-best, B38-quick, B39-none, B39-best, B40-quick, B40-best, B41-quick}
 use Rattle.rows.specs.Rows.{B41-best, B41-open, B42-check, B43-foreign, B43-64, B43-255, B44-more, B44-most, B45-whole, B45-less, B46-exact}
 use Rattle.rows.specs.Rows.{B46-less, B46-huge, B47-huge, B48-open, B48-short, B48-few, B48-run, B48-none}
-use Rattle.rows.specs.Rows.{B49-none, B49-14, B49-17, B50-18, B50-20, B51-21, B51-most, B51-empty-0, B51-empty-1, B52-goal, B53-all, B53-gap, B53-best}
-use Rattle.rows.specs.Rows.{B54-2, B54-3, B54-4, B55-open, B55-run, B55-most}
+use Rattle.rows.specs.Rows.{B49-none, B49-14, B49-17, B50-18, B50-20, B51-21, B51-most, B51-empty-0, B51-empty-1, B52-goal}
+use Rattle.rows.specs.Rows.{B53-all, B53-gap, B53-best, B54-2, B54-3, B54-4, B55-open, B55-run, B55-most}
 
 pub starred : All Gives rows
 unfolding run addOf closeOf commonOf keepOf quickOf quickBuffer bestOf bestBuffer bestTable checkOf Lines.checkOf checkRefusal claimRefusal

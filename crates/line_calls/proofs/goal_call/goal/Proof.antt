@@ -60,7 +60,8 @@ strike-requires c κs =
     let run = asked (named .before) in
     let d = left run in
     let s = begun d in
-    let all = asked-none (s .args .earlier) _ (number-of (asked-runs (s .args .earlier) _ (d .if1 .left) (run .run-refusal .ensures)) (named .before .if2 .left)) in (
+    let told = asked-runs (s .args .earlier) _ (d .if1 .left) (run .run-refusal .ensures) in
+    let all = asked-none (s .args .earlier) _ (number-of told (named .before .if2 .left)) in (
       record { good = s .pre .0 .good (d .if1 .left); runs = all .1; all = named .names-of .ensures },
       length-take-le _ _ (omega (arith, s .pre .0 .room (d .if1 .left), s .pre .1)) ∙ count d,
     )

@@ -39,7 +39,8 @@ returns-2 c =
     let long = d .if1 .left in
     let four = put .put-answer .ensures in
     let (outcome, (out, rule)) = asked .goal-outcome .ensures in
-    let seen-rule = subst (GoalRuleOf (s .args .file .now) (s .args .goal) (asked .goal-outcome .last .1 .1 .0)) (seen-is outcome old long four) rule in
+    let last = asked .goal-outcome .last .1 .1 .0 in
+    let seen-rule = subst (GoalRuleOf (s .args .file .now) (s .args .goal) last) (seen-is outcome old long four) rule in
     (number-long outcome old long four, (answer-long outcome old long four, (out ∙ if-long old _ _ long, λ _. seen-rule)))
 
 pub tipshare-goal-spec : {M : Type 1} → statement M
