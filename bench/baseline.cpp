@@ -2,8 +2,9 @@
  * Tip sharing by hand in plain C++, with the steps meant for the proved library: counts are made tip by tip and taken
  * down as lines are planned; best sharing runs on the ranks of the named tips, counts placements by lowest and highest
  * tip, sums the counts in two directions and has r^3/6 steps for r named tips; then the table is spread over the rack. A
- * check sums the same counts over the rack, in 64 bits. The contiguous inner loops are written so that the compiler puts
- * them into vector instructions.
+ * check sums the same counts over the rack, in 64 bits. A goal of pairs fills, for each line that no earlier one equals, a
+ * table of the most pairs inside each stretch and one of those outside it, of all lines but this one. The contiguous
+ * inner loops of the plans and the check are written so that the compiler puts them into vector instructions.
  * A board whose quantities are all 1 has code of its own wherever a quantity counts.
  */
 #include "libraries.h"
@@ -246,6 +247,138 @@ uint32_t best(const Lines &lines, const Job &job, const Named &named, size_t mou
     return table[job.rack - 1];
 }
 
+/* For a goal of pairs: the most pairs inside and outside each stretch of the rack, from its first tip to before its end. */
+struct Around {
+    static constexpr size_t kEnds = kMostTips + 1;
+    size_t rack;
+    uint64_t named;
+    // The placements of the lines lying within each stretch.
+    uint32_t within[kEnds][kEnds];
+    uint32_t inside[kEnds][kEnds];
+    uint32_t outside[kEnds][kEnds];
+
+    /* The pairs on tip c of a stretch, with so many placements more; no line has a tip that is not named. */
+    uint32_t pairs_at(size_t a, size_t end, size_t c, uint32_t more) const
+    {
+        const uint32_t taken = (named >> c & 1) != 0 ? within[a][end] - within[a][c] - within[c + 1][end] : 0;
+        return pairs_on(taken + more);
+    }
+
+    uint32_t split_at(size_t a, size_t end, size_t c, uint32_t more) const
+    {
+        return pairs_at(a, end, c, more) + inside[a][c] + inside[c + 1][end];
+    }
+
+    /* The shortest stretches first. */
+    void fill_inside()
+    {
+        memset(inside, 0, sizeof inside);
+        for (size_t width = 1; width <= rack; width++) {
+            for (size_t a = 0; a + width <= rack; a++) {
+                uint32_t most = 0;
+                for (size_t c = a; c < a + width; c++) {
+                    const uint32_t split = split_at(a, a + width, c, 0);
+                    most = most > split ? most : split;
+                }
+                inside[a][a + width] = most;
+            }
+        }
+    }
+
+    /* The longest stretches first: what is outside of one is a tip beside it and what is beyond and outside of both. */
+    void fill_outside()
+    {
+        outside[0][rack] = 0;
+        for (size_t width = rack - 1; width > 0; width--) {
+            for (size_t a = 0; a + width <= rack; a++) {
+                const size_t end = a + width;
+                uint32_t most = 0;
+                for (size_t after = end + 1; after <= rack; after++) {
+                    const uint32_t pairs =
+                        outside[a][after] + pairs_at(a, after, end, 0) + inside[end + 1][after];
+                    most = most > pairs ? most : pairs;
+                }
+                for (size_t before = 0; before < a; before++) {
+                    const uint32_t pairs =
+                        outside[before][end] + pairs_at(before, end, a - 1, 0) + inside[before][a - 1];
+                    most = most > pairs ? most : pairs;
+                }
+                outside[a][end] = most;
+            }
+        }
+    }
+
+    /* The most pairs of a plan with so many placements more on the tip. */
+    uint32_t most_with(size_t tip, uint32_t more) const
+    {
+        uint32_t most = 0;
+        for (size_t a = 0; a <= tip; a++) {
+            for (size_t end = tip + 1; end <= rack; end++) {
+                const uint32_t pairs = outside[a][end] + split_at(a, end, tip, more);
+                most = most > pairs ? most : pairs;
+            }
+        }
+        return most;
+    }
+};
+
+template <typename Quantities> void count_within(const Lines &lines, Quantities quantities, size_t count, Around &around)
+{
+    memset(around.within, 0, sizeof around.within);
+    for (size_t line = 0; line < count; line++) {
+        around.within[lowest(lines.sets[line])][highest(lines.sets[line]) + 1] += quantities[line];
+    }
+    for (size_t a = 0; a <= around.rack; a++) {
+        for (size_t end = 1; end <= around.rack; end++) {
+            around.within[a][end] += around.within[a][end - 1];
+        }
+    }
+    for (size_t a = around.rack; a-- > 0;) {
+        for (size_t end = 0; end <= around.rack; end++) {
+            around.within[a][end] += around.within[a + 1][end];
+        }
+    }
+}
+
+/* The first line with the set and the quantity of this one. */
+template <typename Quantities> size_t first_same(const uint64_t *sets, Quantities quantities, size_t line)
+{
+    size_t same = 0;
+    while (sets[same] != sets[line] || quantities[same] != quantities[line]) {
+        same++;
+    }
+    return same;
+}
+
+template <typename Quantities>
+void strike(const Lines &lines, Quantities quantities, size_t count, uint32_t goal, const Around &all, Around &rest,
+            uint64_t *kept)
+{
+    rest.rack = all.rack;
+    rest.named = all.named;
+    for (size_t line = 0; line < count; line++) {
+        const uint64_t set = lines.sets[line];
+        const size_t same = first_same(lines.sets, quantities, line);
+        if (same < line) {
+            kept[line] = kept[same];
+            continue;
+        }
+        memcpy(rest.within, all.within, sizeof rest.within);
+        for (size_t a = 0; a <= lowest(set); a++) {
+            for (size_t end = highest(set) + 1; end <= rest.rack; end++) {
+                rest.within[a][end] -= quantities[line];
+            }
+        }
+        rest.fill_inside();
+        rest.fill_outside();
+        kept[line] = 0;
+        for (uint64_t tips = set; tips != 0; tips &= tips - 1) {
+            const uint64_t stays = rest.most_with(lowest(tips), quantities[line]) >= goal;
+            kept[line] |= stays << lowest(tips);
+        }
+    }
+}
+
 }  // namespace
 
 extern "C" {
@@ -291,6 +424,31 @@ uint32_t baseline_keep(const uint8_t *file, size_t file_len, uint16_t k, uint8_t
             const unsigned top = occurrences.busiest() >> 6;
             return answer_keep(file, file_len, {k, out, out_len}, job, top, answer, tips_with, strike);
         });
+    });
+}
+
+uint32_t baseline_goal(const uint8_t *file, size_t file_len, uint32_t goal, uint8_t *out, size_t out_len,
+                       uint64_t *answer, size_t answer_len)
+{
+    Lines lines;
+    const auto read = [&] { return read_sets(file, file_len, lines); };
+    return answer_with(answer, answer_len, read, [&](const Job &job) {
+        Around all;
+        const auto most = [&](const Named &named) {
+            all.rack = job.rack;
+            all.named = named.tips;
+            with_quantities(job, lines.quantities,
+                            [&](auto quantities) { count_within(lines, quantities, job.count, all); });
+            all.fill_inside();
+            return all.inside[0][job.rack];
+        };
+        const auto strike_all = [&](const Named &, uint64_t *kept) {
+            Around rest;
+            with_quantities(job, lines.quantities, [&](auto quantities) {
+                strike(lines, quantities, job.count, goal, all, rest, kept);
+            });
+        };
+        return answer_goal(lines, job, {goal, out, out_len}, answer, most, strike_all);
     });
 }
 

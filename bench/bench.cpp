@@ -19,6 +19,9 @@ constexpr double kBatchSeconds = 200e-6;
 constexpr size_t kDefaultRounds = 201;
 constexpr size_t kMostCalls = 1 << 20;
 constexpr size_t kFilesCounted = 8;
+/* A call that takes longer than a batch is made on so many files, and in fewer rounds: about so many nanoseconds. */
+constexpr size_t kFilesOfSlow = 3;
+constexpr double kSlowRounds = 2e9;
 
 /* One implementation of include/tipshare.h. */
 struct Library {
@@ -27,6 +30,7 @@ struct Library {
     decltype(&tipshare_read) read;
     decltype(&tipshare_common) common;
     decltype(&tipshare_keep) keep;
+    decltype(&tipshare_goal) goal;
     decltype(&tipshare_quick) quick;
     decltype(&tipshare_best) best;
     decltype(&tipshare_check) check;
@@ -34,23 +38,25 @@ struct Library {
 };
 
 const Library kLibraries[] = {
-    {"tipshare", "proved", tipshare_read, tipshare_common, tipshare_keep, tipshare_quick, tipshare_best,
-     tipshare_check, tipshare_report},
-    {"baseline", "same steps", baseline_read, baseline_common, baseline_keep, baseline_quick, baseline_best,
-     baseline_check, baseline_report},
-    {"tuned", "tuned", tuned_read, tuned_common, tuned_keep, tuned_quick, tuned_best, tuned_check, tuned_report},
+    {"tipshare", "proved", tipshare_read, tipshare_common, tipshare_keep, tipshare_goal, tipshare_quick,
+     tipshare_best, tipshare_check, tipshare_report},
+    {"baseline", "same steps", baseline_read, baseline_common, baseline_keep, baseline_goal, baseline_quick,
+     baseline_best, baseline_check, baseline_report},
+    {"tuned", "tuned", tuned_read, tuned_common, tuned_keep, tuned_goal, tuned_quick, tuned_best, tuned_check,
+     tuned_report},
 };
 constexpr size_t kNumber = std::size(kLibraries);
 
-enum class Call { read, common, keep, quick, best, check, report };
+enum class Call { read, common, keep, goal, quick, best, check, report };
 
 struct NamedCall {
     Call call;
     const char *name;
 };
 
-const NamedCall kCalls[] = {{Call::read, "read"}, {Call::common, "common"}, {Call::keep, "keep"},    {Call::quick, "quick"},
-                            {Call::best, "best"}, {Call::check, "check"},   {Call::report, "report"}};
+const NamedCall kCalls[] = {{Call::read, "read"},   {Call::common, "common"}, {Call::keep, "keep"},
+                            {Call::goal, "goal"},   {Call::quick, "quick"},   {Call::best, "best"},
+                            {Call::check, "check"}, {Call::report, "report"}};
 
 /* What a call can write to, lent at the lengths that always do. */
 struct Buffers {
@@ -86,6 +92,8 @@ uint64_t make_call(const Library &library, Call call, const File &file, Buffers 
     case Call::common: return library.common(bytes, length, lent.answer, places);
     case Call::keep:
         return library.keep(bytes, length, file.k, lent.out, job::kLongestFile, lent.answer, places);
+    case Call::goal:
+        return library.goal(bytes, length, file.claim, lent.out, job::kLongestFile, lent.answer, places);
     case Call::quick:
         return library.quick(bytes, length, file.mounted, lent.plan, sizeof lent.plan, lent.answer, places);
     case Call::best:
@@ -103,7 +111,8 @@ uint64_t make_call(const Library &library, Call call, const File &file, Buffers 
 bool all_agree(Call call, const char *call_name, const Boards &boards)
 {
     static Buffers expected, other;
-    for (size_t number = 0; number < boards.files.size(); number++) {
+    const size_t files = call == Call::goal ? std::min(kFilesOfSlow, boards.files.size()) : boards.files.size();
+    for (size_t number = 0; number < files; number++) {
         const File &file = boards.files[number];
         expected.fill_with_junk();
         const uint64_t returned = make_call(kLibraries[0], call, file, expected);
@@ -178,11 +187,14 @@ Measured measure(Call call, const Boards &boards, size_t rounds)
         lent[i].fill_with_junk();
         runners.push_back({kLibraries[i], call, boards, lent[i]});
         // Warms up, and finds how many calls a batch needs.
+        double nanoseconds = 0;
         for (calls[i] = 1; calls[i] < kMostCalls; calls[i] *= 2) {
-            if (runners[i].batch(calls[i]) >= 1e9 * kBatchSeconds) {
+            nanoseconds = runners[i].batch(calls[i]);
+            if (nanoseconds >= 1e9 * kBatchSeconds) {
                 break;
             }
         }
+        rounds = std::min(rounds, std::max<size_t>(3, static_cast<size_t>(kSlowRounds / nanoseconds)));
     }
     std::vector<double> results[kNumber];
     for (size_t round = 0; round < rounds; round++) {
@@ -261,10 +273,10 @@ std::string shown(double nanoseconds)
     return digits;
 }
 
-/* Best sharing and the check refuse a board with a line that is no run, so there is nothing to time. */
+/* A goal, best sharing and the check refuse a board with a line that is no run, so there is nothing to time. */
 bool is_measured(const NamedCall &named, const Boards &boards, const Settings &settings)
 {
-    const bool needs_runs = named.call == Call::best || named.call == Call::check;
+    const bool needs_runs = named.call == Call::goal || named.call == Call::best || named.call == Call::check;
     return (!needs_runs || boards.runs) &&
            (settings.only_call.empty() || settings.only_call == named.name);
 }
@@ -344,6 +356,35 @@ bool growth_table(const Settings &settings, Output &output, const char *title, c
     return true;
 }
 
+/* A goal at a best plan's pairs, solved anew for each tip of each line: beside the calls above. */
+bool anew_table(const Settings &settings, const Output &output)
+{
+    if (output.json || !(settings.only_call.empty() || settings.only_call == "goal")) {
+        return true;
+    }
+    static Buffers expected, lent;
+    printf("\n## A goal, the board solved anew for each tip of each line\n\n| Board | Nanoseconds |\n|---|---:|\n");
+    for (const Boards &boards : main_boards()) {
+        if (!boards.runs || (!settings.only_board.empty() && settings.only_board != boards.name)) {
+            continue;
+        }
+        const File &file = boards.files[0];
+        lent.fill_with_junk();
+        expected.fill_with_junk();
+        const uint64_t returned = make_call(kLibraries[2], Call::goal, file, expected);
+        const Clock::time_point start = Clock::now();
+        const uint64_t anew = anew_goal(file.bytes.data(), file.bytes.size(), file.claim, lent.out, job::kLongestFile,
+                                        lent.answer, TIPSHARE_ANSWER_PLACES);
+        printf("| %s | %s |\n", boards.name.c_str(), shown(nanoseconds_since(start)).c_str());
+        fflush(stdout);
+        if (anew != returned || !lent.equals(expected)) {
+            fprintf(stderr, "a goal solved anew differs: %s\n", boards.name.c_str());
+            return false;
+        }
+    }
+    return true;
+}
+
 bool growth_tables(const Settings &settings, Output &output)
 {
     std::vector<Boards> by_lines, by_rack;
@@ -381,8 +422,9 @@ void introduction(const Settings &settings)
     printf("A cell is the median of %zu batches, in nanoseconds a call. A batch lasts about %.0f microseconds and goes "
            "on through %zu files of the board's description. The libraries take turns batch by batch, after a warm-up. "
            "Each has its own buffers, of the longest lengths, which are filled with junk once and not cleared between "
-           "calls. Before it is timed, each call is made once by every library on each file, and what it returns and "
-           "writes is compared whole. A ratio is the proved library's median over the one before it: above 1 the "
+           "calls. Before it is timed, each call is made once by every library on each file (a goal on three), and what "
+           "it returns and writes is compared whole. A call that takes longer than a batch has fewer of them, 3 at "
+           "least. A ratio is the proved library's median over the one before it: above 1 the "
            "proved library is slower.\n\n",
            settings.rounds, 1e6 * kBatchSeconds, kFilesEach);
 }
@@ -442,7 +484,7 @@ const char kUsage[] =
     "bench [--rounds N] [--json] [--call CALL] [--board BOARD]   time the calls and print tables\n"
     "bench --callgrind CALL BOARD LIBRARY [TIMES]                make one call only, and print how often it was made\n"
     "bench --list                                                the calls and boards\n"
-    "CALL: read, common, keep, quick, best, check, report. LIBRARY: tipshare, baseline, tuned.\n"
+    "CALL: read, common, keep, goal, quick, best, check, report. LIBRARY: tipshare, baseline, tuned.\n"
     "With --board the tables of growth are left out.\n";
 
 int usage()
@@ -488,7 +530,7 @@ int main(int argc, char **argv)
     if (!settings.json) {
         introduction(settings);
     }
-    if (!main_table(settings, output)) {
+    if (!main_table(settings, output) || !anew_table(settings, output)) {
         return 1;
     }
     if (settings.only_board.empty() && !growth_tables(settings, output)) {

@@ -8,7 +8,7 @@
 
 /*
  * A job file, with the bound that keep is called with, the least that is accepted, so that it strikes tips, the tip that
- * is mounted for the plans, and the best plan with its pairs and its table, which is checked.
+ * is mounted for the plans, and the best plan with its pairs, which are the goal too, and its table, which is checked.
  */
 struct File {
     std::vector<uint8_t> bytes;

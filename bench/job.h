@@ -27,6 +27,7 @@ constexpr uint32_t kForeignTip = 19;
 constexpr uint32_t kWrongClaim = 20;
 constexpr uint32_t kTooManyPlacements = 30;
 constexpr uint32_t kTableFails = 33;
+constexpr uint32_t kGoalMissed = 34;
 
 /* A job file that was accepted, or the number and the line of its refusal. */
 struct Job {
@@ -440,6 +441,40 @@ template <typename Pairs>
         return refused(answer, TIPSHARE_NO_RUN, no_run);
     }
     return answered(answer, TIPSHARE_ACCEPTED, 0, pairs(named), 0, 0);
+}
+
+/* What a goal of pairs lends. */
+struct Goal {
+    uint32_t pairs;
+    uint8_t *out;
+    size_t out_len;
+};
+
+/*
+ * Answers a goal of pairs on a good file: refused by a line that is no run, by most(named), the pairs of a best plan, or
+ * by a short output, else strike(named, kept) gives the set of each line that is written.
+ */
+template <typename Most, typename Strike>
+[[gnu::always_inline]] inline uint32_t answer_goal(const Lines &lines, const Job &job, const Goal &goal,
+                                                   uint64_t *answer, const Most &most, const Strike &strike)
+{
+    const Named named(lines.sets, job.count);
+    const size_t no_run = named.first_no_run(lines.sets, job.count);
+    if (no_run < job.count) {
+        return refused(answer, TIPSHARE_NO_RUN, no_run);
+    }
+    if (most(named) < goal.pairs) {
+        return refused(answer, kGoalMissed);
+    }
+    const size_t written = length_of(job.count, job.single() ? kSet : kSet + 1);
+    if (goal.out_len < written) {
+        return refused(answer, TIPSHARE_SHORT_OUTPUT);
+    }
+    uint64_t kept[kMostLines];
+    strike(named, kept);
+    with_quantities(job, lines.quantities,
+                    [&](auto quantities) { write_file(goal.out, job.rack, kept, quantities, job.count); });
+    return answered(answer, TIPSHARE_ACCEPTED, 0, written, 0, 0);
 }
 
 /* What other software hands over: a plan, how many pairs it is said to have, and a table. */

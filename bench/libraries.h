@@ -7,6 +7,7 @@ extern "C" {
 decltype(tipshare_read) baseline_read, tuned_read;
 decltype(tipshare_common) baseline_common, tuned_common;
 decltype(tipshare_keep) baseline_keep, tuned_keep;
+decltype(tipshare_goal) baseline_goal, tuned_goal, anew_goal;
 decltype(tipshare_quick) baseline_quick, tuned_quick;
 decltype(tipshare_best) baseline_best, tuned_best;
 decltype(tipshare_check) baseline_check, tuned_check;

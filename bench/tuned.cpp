@@ -3,7 +3,7 @@
  *
  * Occurrences are counted for 64 tips at once: bit t of plane i is bit i of the count of tip t. Quick sharing finds
  * the lines of a tip in the transposed board. Best sharing goes by the length of the stretch, four stretches at once. A
- * check needs 64 bits only where some entry of the table is huge.
+ * check needs 64 bits only where some entry of the table is huge. A goal of pairs makes its tables once for all lines.
  * Sets are used as they stand in the file: the bit of tip t there is bit t ^ 56 of a 64-bit number. Those of version 2
  * are first packed without the quantities between them. A board whose quantities are all 1 has code of its own wherever
  * a quantity counts.
@@ -650,6 +650,266 @@ struct Entries {
     }
 };
 
+/*
+ * A goal of pairs. Stretches are counted by the ranks of the named tips, from a to before an end. The tables are those of
+ * all lines, made once: the most pairs inside a stretch, and the most outside it, where the stretch is what the tips
+ * chosen so far leave. In a plan a line is taken by the first chosen tip that it has. Where that is the wanted tip, and
+ * the stretch has the whole line, the tables hold with the line in them, so that one look does for all lines with these
+ * ends. Else another tip of the line comes first and leaves it off: from there the stretches beside that tip are followed
+ * as far as they can still reach the goal, with the line's placements more on the wanted tip.
+ */
+struct Reach {
+    static constexpr size_t kEnds = kMostTips + 1;
+    // Rows are whole vectors.
+    static constexpr size_t kRow = kMostTips + 8;
+    static constexpr int32_t kNever = -(1 << 30);
+
+    const size_t ranks;
+    // The placements within each stretch, by its first tip and by its end.
+    alignas(16) int16_t within[kEnds][kRow];
+    alignas(16) int16_t within_to[kEnds][kRow];
+    alignas(16) int32_t inside[kEnds][kRow];
+    alignas(16) int32_t inside_to[kEnds][kRow];
+    alignas(16) int32_t outside[kEnds][kRow];
+    alignas(16) int32_t outside_to[kEnds][kRow];
+    // The most placements that one tip of the stretch takes.
+    alignas(16) int16_t busiest[kEnds][kRow];
+    // The tips that a line from a to before its end can be on where that tip is the first of its own.
+    uint64_t first_on[kEnds][kEnds];
+    // The stretches that can be left in a plan that reaches the goal.
+    uint16_t live[kEnds * kEnds];
+    size_t live_count;
+    // What is followed for one line: the most pairs outside a stretch, and which ends have one.
+    int32_t from[kEnds][kEnds];
+    uint64_t ends_from[kEnds];
+
+    explicit Reach(const Named &named) : ranks(named.count) {}
+
+    static int32_t pairs(int16_t placements)
+    {
+        return int32_t{placements} * static_cast<int16_t>(placements - 1) >> 1;
+    }
+
+    template <typename Quantities>
+    void count(const uint64_t *sets, Quantities quantities, size_t count, const Named &named)
+    {
+        memset(within, 0, (ranks + 1) * sizeof within[0]);
+        for (size_t line = 0; line < count; line++) {
+            int16_t &here = within[named.first(sets[line])][named.last(sets[line]) + 1];
+            here = static_cast<int16_t>(here + quantities[line]);
+        }
+        for (size_t a = 0; a < ranks; a++) {
+            for (size_t end = a + 1; end < ranks; end++) {
+                within[a][end + 1] = static_cast<int16_t>(within[a][end + 1] + within[a][end]);
+            }
+        }
+        for (size_t a = ranks; a-- > 0;) {
+            for (size_t end = 0; end <= ranks; end++) {
+                within[a][end] = static_cast<int16_t>(within[a][end] + within[a + 1][end]);
+            }
+        }
+    }
+
+    uint32_t fill_inside()
+    {
+        memset(inside, 0, (ranks + 1) * sizeof inside[0]);
+        memset(busiest, 0, (ranks + 1) * sizeof busiest[0]);
+        for (size_t a = ranks; a-- > 0;) {
+            int32_t *__restrict const row = inside[a];
+            int16_t *__restrict const most = busiest[a];
+            const int16_t *const all = within[a];
+            for (size_t c = a; c < ranks; c++) {
+                const int16_t before = all[c];
+                const int32_t left = row[c];
+                const int16_t *const behind = within[c + 1];
+                const int32_t *const right = inside[c + 1];
+                for (size_t end = c + 1; end <= ranks; end++) {
+                    const int16_t taken = static_cast<int16_t>(all[end] - before - behind[end]);
+                    const int32_t split = pairs(taken) + left + right[end];
+                    row[end] = row[end] > split ? row[end] : split;
+                    most[end] = most[end] > taken ? most[end] : taken;
+                }
+            }
+        }
+        return static_cast<uint32_t>(inside[0][ranks]);
+    }
+
+    /* The longest stretches first: each hands on what is outside of the stretches beside its tips. */
+    void fill_outside()
+    {
+        for (size_t a = 0; a <= ranks; a++) {
+            for (size_t end = 0; end <= ranks; end++) {
+                within_to[end][a] = within[a][end];
+                inside_to[end][a] = inside[a][end];
+                outside[a][end] = kNever;
+                outside_to[end][a] = kNever;
+            }
+        }
+        outside[0][ranks] = 0;
+        for (size_t a = 0; a < ranks; a++) {
+            for (size_t end = ranks; end > a; end--) {
+                const int32_t here =
+                    outside[a][end] > outside_to[end][a] ? outside[a][end] : outside_to[end][a];
+                outside[a][end] = here;
+                int32_t *__restrict const before = outside[a];
+                int32_t *__restrict const behind = outside_to[end];
+                const int16_t all = within[a][end];
+                for (size_t c = a; c < end; c++) {
+                    const int16_t taken = static_cast<int16_t>(all - within[a][c] - within_to[end][c + 1]);
+                    const int32_t with_tip = here + pairs(taken);
+                    const int32_t left = with_tip + inside_to[end][c + 1];
+                    const int32_t right = with_tip + inside[a][c];
+                    before[c] = before[c] > left ? before[c] : left;
+                    behind[c + 1] = behind[c + 1] > right ? behind[c + 1] : right;
+                }
+            }
+        }
+    }
+
+    /* Which tips a line of any ends reaches the goal on as the first of its own, in the stretches that have it whole. */
+    void find_first_on(int32_t goal)
+    {
+        for (size_t a = 0; a < ranks; a++) {
+            memset(first_on[a] + a + 1, 0, (ranks - a) * sizeof first_on[a][0]);
+        }
+        alignas(16) int32_t most[kRow];
+        for (size_t c = 0; c < ranks; c++) {
+            for (size_t end = c + 1; end <= ranks; end++) {
+                most[end] = kNever;
+            }
+            const int16_t *const behind = within[c + 1];
+            const int32_t *const right = inside[c + 1];
+            for (size_t a = 0; a <= c; a++) {
+                const int16_t *const all = within[a];
+                const int32_t *const out = outside[a];
+                const int16_t before = all[c];
+                const int32_t left = inside[a][c];
+                for (size_t end = c + 1; end <= ranks; end++) {
+                    const int16_t taken = static_cast<int16_t>(all[end] - before - behind[end]);
+                    const int32_t whole = out[end] + pairs(taken) + left + right[end];
+                    most[end] = most[end] > whole ? most[end] : whole;
+                }
+                // A line may end before the stretch does.
+                size_t last = ranks;
+                while (last > c && most[last] < goal) {
+                    last--;
+                }
+                for (size_t end = c + 1; end <= last; end++) {
+                    first_on[a][end] |= uint64_t{1} << c;
+                }
+            }
+        }
+        live_count = 0;
+        for (size_t a = 0; a < ranks; a++) {
+            for (size_t end = a + 1; end <= ranks; end++) {
+                live[live_count] = static_cast<uint16_t>(a << 8 | end);
+                live_count += outside[a][end] + inside[a][end] >= goal;
+            }
+        }
+    }
+
+    static uint64_t below(size_t end) { return end >= 64 ? ~uint64_t{0} : (uint64_t{1} << end) - 1; }
+
+    /* The ranks on which a line, from first to before its end, with so many placements reaches the goal. */
+    uint64_t kept(size_t first, size_t end, int32_t quantity, int32_t goal)
+    {
+        const uint64_t own = below(end) & ~below(first);
+        uint64_t open = own & ~first_on[first][end];
+        if (open == 0) {
+            return own;
+        }
+        const int32_t among = quantity * (quantity - 1) / 2;
+        // Follows a stretch that has one of the open tips where it can still reach the goal.
+        const auto follow = [&](size_t a, size_t e, int32_t out) {
+            if ((open & below(e) & ~below(a)) != 0 && out + inside[a][e] + quantity * busiest[a][e] + among >= goal) {
+                if ((ends_from[a] >> (e - 1) & 1) == 0 || from[a][e] < out) {
+                    from[a][e] = out;
+                }
+                ends_from[a] |= uint64_t{1} << (e - 1);
+            }
+        };
+        memset(ends_from, 0, sizeof ends_from);
+        for (size_t at = 0; at < live_count; at++) {
+            const size_t a = live[at] >> 8;
+            const size_t e = live[at] & 0xFF;
+            if (a > first || e < end) {
+                continue;
+            }
+            for (size_t c = first; c < end; c++) {
+                const int32_t others = within[a][e] - within[a][c] - within[c + 1][e] - quantity;
+                const int32_t with_tip = outside[a][e] + others * (others - 1) / 2;
+                follow(a, c, with_tip + inside[c + 1][e]);
+                follow(c + 1, e, with_tip + inside[a][c]);
+            }
+        }
+        for (size_t a = 0; a < ranks; a++) {
+            while (ends_from[a] != 0) {
+                const size_t e = highest(ends_from[a]) + 1;
+                ends_from[a] ^= uint64_t{1} << (e - 1);
+                const int32_t out = from[a][e];
+                for (size_t c = a; c < e && open != 0; c++) {
+                    const int32_t taken = within[a][e] - within[a][c] - within[c + 1][e];
+                    const int32_t beside = out + inside[a][c] + inside[c + 1][e];
+                    const int32_t more = taken + quantity;
+                    if ((open >> c & 1) != 0 && beside + more * (more - 1) / 2 >= goal) {
+                        open ^= uint64_t{1} << c;
+                    }
+                    const int32_t with_tip = out + taken * (taken - 1) / 2;
+                    follow(a, c, with_tip + inside[c + 1][e]);
+                    follow(c + 1, e, with_tip + inside[a][c]);
+                }
+            }
+        }
+        return own & ~open;
+    }
+
+    /* The set of tips of these ranks. */
+    static uint64_t tips_of(uint64_t at_ranks, const Named &named)
+    {
+        if (named.tips == below(named.count)) {
+            return at_ranks;
+        }
+        uint64_t tips = 0;
+        for (; at_ranks != 0; at_ranks &= at_ranks - 1) {
+            tips |= uint64_t{1} << named.tip[lowest(at_ranks)];
+        }
+        return tips;
+    }
+
+    /* The kept set of each line; equal lines are worked out once. */
+    template <typename Quantities>
+    void strike(const uint64_t *sets, Quantities quantities, size_t count, const Named &named, int32_t goal,
+                uint64_t *kept_sets)
+    {
+        // Every plan has so many.
+        if (goal == 0) {
+            memcpy(kept_sets, sets, count * sizeof *sets);
+            return;
+        }
+        fill_outside();
+        find_first_on(goal);
+        constexpr size_t kPlaces = 2 * kMostLines;
+        uint16_t line_at[kPlaces];
+        memset(line_at, 0xFF, sizeof line_at);
+        for (size_t line = 0; line < count; line++) {
+            const uint64_t set = sets[line];
+            const size_t first = named.first(set);
+            const size_t end = named.last(set) + 1;
+            size_t place = ((first * kEnds + end) * 256 + quantities[line]) * 0x9E3779B97F4A7C15u >> 54;
+            while (line_at[place] < count &&
+                   (sets[line_at[place]] != set || quantities[line_at[place]] != quantities[line])) {
+                place = (place + 1) % kPlaces;
+            }
+            if (line_at[place] < count) {
+                kept_sets[line] = kept_sets[line_at[place]];
+                continue;
+            }
+            line_at[place] = static_cast<uint16_t>(line);
+            kept_sets[line] = tips_of(kept(first, end, quantities[line], goal), named);
+        }
+    }
+};
+
 }  // namespace
 
 extern "C" {
@@ -698,6 +958,28 @@ uint32_t tuned_keep(const uint8_t *file, size_t file_len, uint16_t k, uint8_t *o
             }
         };
         return answer_keep(file, file_len, {k, out, out_len}, job, top, answer, tips_with, strike_them);
+    });
+}
+
+uint32_t tuned_goal(const uint8_t *file, size_t file_len, uint32_t goal, uint8_t *out, size_t out_len,
+                    uint64_t *answer, size_t answer_len)
+{
+    Lines lines;
+    const auto read = [&] { return read_sets(file, file_len, lines); };
+    return answer_with(answer, answer_len, read, [&](const Job &job) {
+        const Named of_lines(lines.sets, job.count);
+        Reach reach(of_lines);
+        const auto most = [&](const Named &named) {
+            with_quantities(job, lines.quantities,
+                            [&](auto quantities) { reach.count(lines.sets, quantities, job.count, named); });
+            return reach.fill_inside();
+        };
+        const auto strike_them = [&](const Named &named, uint64_t *kept) {
+            with_quantities(job, lines.quantities, [&](auto quantities) {
+                reach.strike(lines.sets, quantities, job.count, named, static_cast<int32_t>(goal), kept);
+            });
+        };
+        return answer_goal(lines, job, {goal, out, out_len}, answer, most, strike_them);
     });
 }
 

@@ -24,9 +24,10 @@
  *
  * Every length counts elements, not bytes. No pointer may be null, not even
  * with length 0, each is good for its length, and no two buffers of one call
- * may overlap. A call needs up to 70 KB of stack (docs/PERFORMANCE.md), and
- * keeps nothing after it returns, so calls on different buffers may run at one
- * time. The rules in full are in docs/RULES.md.
+ * may overlap. A call needs up to 70 KB of stack, tipshare_goal up to 110 KB
+ * (docs/PERFORMANCE.md), and keeps nothing after it returns, so calls on
+ * different buffers may run at one time. The rules in full are in
+ * docs/RULES.md.
  *
  * All functions but tipshare_report return 0 when the call is accepted, else a
  * number of the table below. They write the first 4 places of answer, also on
@@ -75,6 +76,8 @@
  *        brings the placements past 2048
  *    33  the table checked does not show that  have all of its m * m places
  *        the plan has the most pairs           filled, or use tipshare_best
+ *    34  no plan has so many pairs as goal     lower the goal to the pairs of
+ *                                              tipshare_best
  *   100  answer has fewer than 4 places        lend 4
  */
 #ifndef TIPSHARE_H
@@ -118,6 +121,7 @@ extern "C" {
 #define TIPSHARE_NO_PLAN 26
 #define TIPSHARE_TOO_MANY_PLACEMENTS 30
 #define TIPSHARE_WRONG_TABLE 33
+#define TIPSHARE_GOAL_MISSED 34
 #define TIPSHARE_SHORT_ANSWER 100
 
 /*
@@ -159,6 +163,25 @@ uint32_t tipshare_common(const uint8_t *file, size_t file_len,
  * complement number, 0, 0.
  */
 uint32_t tipshare_keep(const uint8_t *file, size_t file_len, uint16_t k,
+                       uint8_t *out, size_t out_len,
+                       uint64_t *answer, size_t answer_len);
+
+/*
+ * Takes from each line the tips that it has in no plan with at least goal
+ * pairs, and writes the board that is left as a job file, with the quantities
+ * handed in and of the version that tipshare_keep would write. Every line must
+ * be a run, as for tipshare_best. The lines that are left may have gaps, so that
+ * tipshare_best may refuse them with 25. With goal 0 nothing is taken; with the
+ * pairs of tipshare_best only the tips of plans with the most pairs are left.
+ * file: file_len bytes, any number. goal: any number. out: at least as many
+ * bytes as are written, 8 + 8 * n in version 1 and 8 + 9 * n in version 2.
+ * answer: at least 4 places.
+ * Accepted: the first bytes of out are the job file, the rest of out is
+ * untouched; answer is 0, the number of bytes written, 0, 0.
+ * Refused (1, 2, 3, 6 to 10, 15, 30, then 25, 34, 11): out is untouched; answer
+ * is the line, 0, 0, 0.
+ */
+uint32_t tipshare_goal(const uint8_t *file, size_t file_len, uint32_t goal,
                        uint8_t *out, size_t out_len,
                        uint64_t *answer, size_t answer_len);
 

@@ -75,6 +75,10 @@ fn fixed_single_boards() -> Vec<Board> {
         lines[511] = last_line;
         boards.push(Board::of_sets(64, &lines));
     }
+    // A tie in a rack of a size that few boards have.
+    boards.push(Board::of_sets(37, &[1 << 30 | 1 << 5, 1 << 36]));
+    // A goal strikes from the last of many lines on few tips.
+    boards.push(Board::of_sets(8, &[[0b1100; 511].as_slice(), &[0xFF]].concat()));
     // Every tip equally often, so that each round is a tie, once with runs and once without.
     let singles: Vec<u64> = (0..512).map(|line| 1 << (line % 64)).collect();
     let alternating: Vec<u64> = (0..512).map(|line| 0x5555_5555_5555_5555_u64.rotate_left(line % 64)).collect();
@@ -96,11 +100,15 @@ fn fixed_counted_boards() -> Vec<Board> {
         // By lines best takes another plan.
         counted(3, &[(0b001, 1), (0b011, 2), (0b110, 2), (0b100, 3)]),
         counted(3, &[(0b001, 1), (0b011, 4), (0b110, 4), (0b100, 1)]),
+        // A goal leaves a gap in the first, and in the second strikes from one of two equal sets.
+        counted(3, &[(0b111, 255), (0b001, 2), (0b010, 1), (0b100, 2)]),
+        counted(2, &[(0b01, 6), (0b10, 2), (0b11, 1), (0b11, 5)]),
         counted(1, &[(1, 255)]),
         counted(64, &[(all, 255), (1 << 63, 2)]),
         // A quantity with the highest bit, and those beside it.
         counted(4, &[(0b0101, 128), (0b0110, 127), (0b1010, 129)]),
         // The first version is written where every quantity is 1, whichever line has another.
+        counted(8, &[[(1, 1); 511].as_slice(), &[(0b11, 2)]].concat()),
         counted(64, &[[(all, 1); 511].as_slice(), &[(all, 2)]].concat()),
         counted(64, &[&[(all, 3)], [(1 << 63, 1); 511].as_slice()].concat()),
         // As many placements as there may be.

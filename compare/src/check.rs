@@ -16,6 +16,7 @@ pub enum Call {
     Read { answer: usize },
     Common { answer: usize },
     Keep { k: u16, out: usize, answer: usize },
+    Goal { goal: u32, out: usize, answer: usize },
     Quick { mounted: usize, plan: usize, answer: usize },
     Best { mounted: usize, plan: usize, table: usize, answer: usize },
     Check { claim: u32, plan: usize, table: usize, answer: usize },
@@ -23,7 +24,7 @@ pub enum Call {
 }
 
 /// The names of the calls, in the order of their columns.
-pub const CALL_NAMES: [&str; 7] = ["read", "common", "keep", "quick", "best", "check", "report"];
+pub const CALL_NAMES: [&str; 8] = ["read", "common", "keep", "goal", "quick", "best", "check", "report"];
 
 impl Call {
     /// Where the call stands among the names.
@@ -32,10 +33,11 @@ impl Call {
             Call::Read { .. } => 0,
             Call::Common { .. } => 1,
             Call::Keep { .. } => 2,
-            Call::Quick { .. } => 3,
-            Call::Best { .. } => 4,
-            Call::Check { .. } => 5,
-            Call::Report { .. } => 6,
+            Call::Goal { .. } => 3,
+            Call::Quick { .. } => 4,
+            Call::Best { .. } => 5,
+            Call::Check { .. } => 6,
+            Call::Report { .. } => 7,
         }
     }
 }
@@ -94,7 +96,7 @@ impl Buffers {
     fn new(file: &[u8], call: &Call, given: Given, junk: u64) -> Buffers {
         let (bytes, table, answer) = match *call {
             Call::Read { answer } | Call::Common { answer } => (0, 0, answer),
-            Call::Keep { out, answer, .. } => (out, 0, answer),
+            Call::Keep { out, answer, .. } | Call::Goal { out, answer, .. } => (out, 0, answer),
             Call::Quick { plan, answer, .. } => (plan, 0, answer),
             Call::Best { plan, table, answer, .. } | Call::Check { plan, table, answer, .. } => (plan, table, answer),
             Call::Report { out } => (out, 0, 0),
@@ -122,6 +124,7 @@ macro_rules! made_by {
             Call::Read { .. } => $module::read(file, answer).into(),
             Call::Common { .. } => $module::common(file, answer).into(),
             Call::Keep { k, .. } => $module::keep(file, k, bytes, answer).into(),
+            Call::Goal { goal, .. } => $module::goal(file, goal, bytes, answer).into(),
             Call::Quick { mounted, .. } => $module::quick(file, mounted, bytes, answer).into(),
             Call::Best { mounted, .. } => $module::best(file, mounted, bytes, table, answer).into(),
             Call::Check { claim, .. } => $module::check(file, bytes, claim, table, answer).into(),

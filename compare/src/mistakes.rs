@@ -12,6 +12,8 @@ use crate::check::{call_library, Buffers, Call, Caller, Lent};
 use crate::damage::{first_to_pass, quantities_in};
 use crate::handed::{keeps, stopping, wrapping, Handed, Rule};
 
+mod goal;
+
 /// What is wrong, and the call that is wrong in this way.
 pub type Mistake = (&'static str, Caller);
 
@@ -21,7 +23,7 @@ pub fn mistakes() -> impl Iterator<Item = &'static Mistake> {
     let of_quantities = [OF_READING_QUANTITIES, OF_COUNTING_PLACEMENTS, OF_KEEPING_PLACEMENTS, OF_VERSIONS];
     let of_tips = [OF_NAMED_TIPS, OF_REFUSED_MOUNTED_TIPS, OF_MOUNTED_TIPS];
     let of_checks = [OF_CHECKED_PLANS, OF_CHECKED_TABLES, OF_ORDER_IN_CHECKS];
-    of_calls.into_iter().chain(of_quantities).chain(of_tips).chain(of_checks).flatten()
+    of_calls.into_iter().chain(of_quantities).chain(of_tips).chain(of_checks).chain([goal::OF_GOALS]).flatten()
 }
 
 const OF_READING: &[Mistake] = &[

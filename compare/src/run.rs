@@ -15,24 +15,25 @@ use crate::handed::{keeps, stopping, wrapping, Handed, REFUSED_WAYS, WAYS};
 use crate::random::Random;
 use crate::tally::{Event, Tally, SHORT_REPORT};
 
+mod goal;
+
 /// Boards with at most this many plans are solved by trying every plan.
 const MOST_PLANS_TRIED: u64 = 1000;
 
 /// Rack sizes with the quantities and the most lines up to which every board is compared.
-const EVERY_BOARD_UP_TO: [(usize, &[u8], usize); 9] = [
+const EVERY_BOARD_UP_TO: [(usize, &[u8], usize); 8] = [
     (1, &[1], 6),
     (2, &[1], 5),
     (3, &[1], 4),
     (4, &[1], 3),
     (5, &[1], 2),
-    (6, &[1], 2),
     (1, &[1, 2, 255], 3),
     (2, &[1, 2, 3], 2),
     (3, &[1, 3], 2),
 ];
 
 /// Among so many fixed files each pair of kinds of damage has its turn once.
-const TURNS: usize = 5;
+const TURNS: usize = 8;
 
 pub struct Run {
     /// What is compared with the second implementation.
@@ -116,6 +117,7 @@ impl Run {
         self.good_file(board, file)?;
         self.each_length(board, file)?;
         self.each_check(board, file, turn)?;
+        self.each_goal(board, file)?;
         self.try_plans(board, file)?;
         let is_short = file.len() < 100;
         // Every cut of a short file, and some of a long one.
@@ -143,7 +145,7 @@ impl Run {
         let least_off = board.clone().common_tip().value.off;
         let written = board.file().len();
         let lengths = |needed: usize| (0..=needed + 1).filter(move |length| needed <= 100 || *length + 2 >= needed);
-        for answer in 0..=8 {
+        for answer in 0..=5 {
             self.case(file, Call::Read { answer })?;
             self.case(file, Call::Common { answer })?;
             self.case(file, Call::Keep { k: least_off as u16, out: written, answer })?;
@@ -153,15 +155,19 @@ impl Run {
         }
         self.each_mounted(board, file)?;
         for out in lengths(written) {
-            for k in around(least_off) {
-                self.case(file, Call::Keep { k, out, answer: ANSWER_PLACES })?;
+            for k in [least_off.saturating_sub(1), least_off] {
+                self.case(file, Call::Keep { k: k as u16, out, answer: ANSWER_PLACES })?;
             }
         }
         for plan in lengths(board.count) {
             self.case(file, Call::Quick { mounted: NO_TIP, plan, answer: ANSWER_PLACES })?;
         }
-        for plan in board.count.saturating_sub(1)..=board.count + 1 {
-            for table in lengths(board.rack * board.rack) {
+        let places = board.rack * board.rack;
+        for table in lengths(places) {
+            self.case(file, Call::Best { mounted: NO_TIP, plan: board.count, table, answer: ANSWER_PLACES })?;
+        }
+        for plan in [board.count.saturating_sub(1), board.count + 1] {
+            for table in places - 1..=places + 1 {
                 self.case(file, Call::Best { mounted: NO_TIP, plan, table, answer: ANSWER_PLACES })?;
             }
         }
@@ -213,7 +219,7 @@ impl Run {
             self.check(board, file, &own, lengths)?;
             self.check(board, file, &foreign, lengths)?;
         }
-        let longer = (0..=8).map(|answer| [count, places, answer]).chain([[count + 9, places + 9, ANSWER_PLACES]]);
+        let longer = (0..=5).map(|answer| [count, places, answer]).chain([[count + 9, places + 9, ANSWER_PLACES]]);
         longer.into_iter().try_for_each(|lengths| self.check(board, file, &own, lengths).map(|_| ()))
     }
 
@@ -316,6 +322,8 @@ impl Run {
             self.check(board, file, &changed, lengths)?;
         }
 
+        self.goals(board, file, &best)?;
+
         let any = self.random.below(100);
         let out = self.random.one_of(&[REPORT_SPACE, REPORT_SPACE, REPORT_SPACE + any, REPORT_SPACE - 1, any]);
         self.case(file, Call::Report { out })?;
@@ -334,6 +342,11 @@ impl Run {
         let out = self.length_around(file.len());
         let answer = self.answer_length();
         self.case(file, Call::Keep { k, out, answer })?;
+        // Nearly always more than any plan has, for a file that is good has a board of any size.
+        let goal = self.random.number() as u32;
+        let out = self.length_around(file.len());
+        let answer = self.answer_length();
+        self.case(file, Call::Goal { goal, out, answer })?;
         let (mounted, plan) = (self.mounted_number(rack), self.length_around(count));
         let answer = self.answer_length();
         self.case(file, Call::Quick { mounted, plan, answer })?;
@@ -617,6 +630,18 @@ fn against_every_plan(board: &Board) -> Result<(), String> {
         };
         if !right || kept.value != k as i64 - least_off as i64 {
             return Err(format!("keep within {k}, every plan {tried:?}"));
+        }
+    }
+    for goal in tried.numbers_of_pairs().flat_map(|pairs| [pairs, pairs + 1]) {
+        let kept = board.clone().goal(goal);
+        let right = match (kept.number, tried.used_with(goal)) {
+            (25, _) => board.clone().best(None, &mut vec![0; count], &mut [0; 4096]).number == 25,
+            (34, None) => kept.board == *board,
+            (0, Some(used)) => kept.board.sets[..count] == used && kept.board.quantities == board.quantities,
+            _ => false,
+        };
+        if !right {
+            return Err(format!("goal of {goal} pairs, every plan {tried:?}"));
         }
     }
     // Both rules, whichever tip is mounted.

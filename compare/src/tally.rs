@@ -61,9 +61,19 @@ pub enum Event {
     ClaimAndTable,
     TableByWrapping,
     TableByStopping,
+    GoalStrikes,
+    GoalStrikesNone,
+    GoalLeavesSeveral,
+    GoalLeavesAGap,
+    GoalByOtherLines,
+    GoalByQuantity,
+    GoalWithAbsentTip,
+    GoalMissedByOne,
+    GoalMissedAndShortOutput,
+    GoalMissedAndNoRun,
 }
 
-const EVENTS: [(Event, &str); 47] = [
+const EVENTS: [(Event, &str); 57] = [
     (Event::RackOf1, "boards with rack 1"),
     (Event::RackOf64, "boards with rack 64"),
     (Event::NoLines, "boards without lines"),
@@ -111,6 +121,16 @@ const EVENTS: [(Event, &str); 47] = [
     (Event::ClaimAndTable, "check with a wrong claim and a table that fails"),
     (Event::TableByWrapping, "check with a table that fails but for sums that wrap in 32 bits"),
     (Event::TableByStopping, "check with a table that fails but for sums that stop at 32 bits"),
+    (Event::GoalStrikes, "goal of a best plan's pairs, some line loses tips"),
+    (Event::GoalStrikesNone, "goal above 0, no line changes"),
+    (Event::GoalLeavesSeveral, "goal of a best plan's pairs, a line keeps several tips"),
+    (Event::GoalLeavesAGap, "goal that leaves a line which is no run"),
+    (Event::GoalByOtherLines, "goal that is met on a tip only where other lines move too"),
+    (Event::GoalByQuantity, "goal that leaves other tips of an equal set with another quantity"),
+    (Event::GoalWithAbsentTip, "goal that strikes from a line that lacks a tip which no line names"),
+    (Event::GoalMissedByOne, "goal of one pair more than a best plan has"),
+    (Event::GoalMissedAndShortOutput, "goal that no plan meets, and a short output"),
+    (Event::GoalMissedAndNoRun, "goal that no plan meets, and a line that is no run"),
 ];
 
 /// The counts of a run.
@@ -169,6 +189,7 @@ fn needed(column: usize) -> Vec<u32> {
     numbers.extend(OF_READING);
     let own: &[u32] = match CALL_NAMES[column] {
         "keep" => &[11, 26, 100],
+        "goal" => &[11, 25, 34, 100],
         "quick" => &[4, 16, 100],
         "best" => &[4, 5, 16, 25, 100],
         "check" => &[4, 5, 19, 20, 25, 33, 100],
@@ -225,10 +246,10 @@ mod tests {
     fn what_never_occurred_is_missing() {
         let mut tally = Tally::default();
         let all = tally.missing().len();
-        // 0 and reading's 10 for 7 calls, 100 for 6, the short report; keep's 11, 26, quick's 4, 16, best's 4, 5, 16, 25,
-        // and the check's 4, 5, 19, 20, 25, 33.
-        assert_eq!(all, 7 * 11 + 6 + 1 + 8 + 6 + EVENTS.len());
-        tally.count_call(25, 4);
+        // 0 and reading's 10 for 8 calls, 100 for 7, the short report; keep's 11, 26, quick's 4, 16, best's 4, 5, 16, 25,
+        // the check's 4, 5, 19, 20, 25, 33, and the goal's 11, 25, 34.
+        assert_eq!(all, 8 * 11 + 7 + 1 + 8 + 6 + 3 + EVENTS.len());
+        tally.count_call(25, 5);
         tally.count_event(Event::NoLines);
         assert_eq!(tally.missing().len(), all - 2);
         assert!(!tally.missing().contains(&"best with 25".to_string()));

@@ -88,9 +88,13 @@ static const char *in_words(uint32_t number)
     case TIPSHARE_SHORT_OUTPUT: return "the output is too short";
     case TIPSHARE_ZERO_QUANTITY: return "the line has quantity 0";
     case TIPSHARE_MOUNTED_OUTSIDE: return "the mounted tip is outside the rack";
+    case TIPSHARE_FOREIGN_TIP: return "a line is on a tip that it has not";
+    case TIPSHARE_WRONG_CLAIM: return "the plan has another number of pairs";
     case TIPSHARE_NO_RUN: return "the line is no run";
     case TIPSHARE_NO_PLAN: return "no plan meets the bound";
     case TIPSHARE_TOO_MANY_PLACEMENTS: return "the line brings the placements past 2048";
+    case TIPSHARE_WRONG_TABLE: return "the table does not show that the plan is a best one";
+    case TIPSHARE_GOAL_MISSED: return "no plan has so many pairs";
     case TIPSHARE_SHORT_ANSWER: return "the answer has fewer than 4 places";
     default: return "unknown number";
     }
@@ -110,6 +114,18 @@ static void print_refusal(const char *call, uint32_t number, uint64_t place)
     printf("\n");
 }
 
+/* Prints the lines of a kept board. */
+static void print_kept(const uint8_t *out)
+{
+    size_t lines = (size_t)out[6] << 8 | out[7];
+    printf("lines");
+    for (size_t line = 0; line < lines; line++) {
+        printf(" ");
+        print_set(set_of_line(out, line));
+    }
+    printf(" in version %u\n", (unsigned)out[4]);
+}
+
 static void print_keep(const uint8_t *file, size_t file_len, uint16_t k)
 {
     uint8_t out[TIPSHARE_LONGEST_FILE];
@@ -120,13 +136,36 @@ static void print_keep(const uint8_t *file, size_t file_len, uint16_t k)
     } else if (number != TIPSHARE_ACCEPTED) {
         print_refusal("keep", number, answer[0]);
     } else {
-        printf("keep within %u: margin %" PRId64 ", lines", (unsigned)k, (int64_t)answer[1]);
-        size_t lines = (size_t)out[6] << 8 | out[7];
-        for (size_t line = 0; line < lines; line++) {
-            printf(" ");
-            print_set(set_of_line(out, line));
-        }
-        printf(" in version %u\n", (unsigned)out[4]);
+        printf("keep within %u: margin %" PRId64 ", ", (unsigned)k, (int64_t)answer[1]);
+        print_kept(out);
+    }
+}
+
+/* Prints what a goal of pairs leaves of each line. */
+static void print_goal(const uint8_t *file, size_t file_len, uint32_t goal)
+{
+    uint8_t out[TIPSHARE_LONGEST_FILE];
+    uint64_t answer[TIPSHARE_ANSWER_PLACES];
+    uint32_t number = tipshare_goal(file, file_len, goal, out, sizeof out, answer, TIPSHARE_ANSWER_PLACES);
+    if (number != TIPSHARE_ACCEPTED) {
+        print_refusal("goal", number, answer[0]);
+    } else {
+        printf("goal of %" PRIu32 " pairs: ", goal);
+        print_kept(out);
+    }
+}
+
+/* Checks a plan as if other software had handed it over with its table. */
+static void print_check(const uint8_t *file, size_t file_len, const uint8_t *plan, size_t lines, uint32_t claim,
+                        const uint32_t *table, size_t places)
+{
+    uint64_t answer[TIPSHARE_ANSWER_PLACES];
+    uint32_t number =
+        tipshare_check(file, file_len, plan, lines, claim, table, places, answer, TIPSHARE_ANSWER_PLACES);
+    if (number != TIPSHARE_ACCEPTED) {
+        print_refusal("check", number, answer[0]);
+    } else {
+        printf("check: accepted, no plan has more than %" PRIu32 " pairs\n", claim);
     }
 }
 
@@ -152,6 +191,13 @@ static void print_plans(const uint8_t *file, size_t file_len, size_t rack, size_
         printf("best: %" PRIu64 " pairs, plan", answer[1]);
         print_plan(plan, lines);
         printf("; most pairs within tips 0 to %zu: %" PRIu32 "\n", rack - 1, table[rack - 1]);
+        uint32_t pairs = (uint32_t)answer[1];
+        /* The plan with its true number of pairs, and with one more. */
+        print_check(file, file_len, plan, lines, pairs, table, rack * rack);
+        print_check(file, file_len, plan, lines, pairs + 1, table, rack * rack);
+        /* The tips of all plans with as many pairs, and of those with more, of which there is none. */
+        print_goal(file, file_len, pairs);
+        print_goal(file, file_len, pairs + 1);
     } else {
         print_refusal("best", number, answer[0]);
     }

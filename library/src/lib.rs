@@ -6,7 +6,7 @@ use std::fmt;
 pub const ANSWER_PLACES: usize = 4;
 /// The bytes that a report needs lent.
 pub const REPORT_SPACE: usize = 16_384;
-/// The longest good job file: an output of keep that always does.
+/// The longest good job file: an output of keep and of goal that always does.
 pub const LONGEST_FILE: usize = 4_616;
 /// The mounted tip of the functions of the header where there is none.
 pub const NO_TIP: usize = usize::MAX;
@@ -82,6 +82,12 @@ pub fn keep(file: &[u8], k: u16, out: &mut [u8]) -> Result<Kept, Refusal> {
     Ok(Kept { margin: answer[1] as i64, bytes: answer[2] })
 }
 
+/// Keeps, of lines that are runs, the tips that some plan with so many pairs uses, and writes the kept board to out, as
+/// version 1 where every quantity is 1; gives the number of bytes written.
+pub fn goal(file: &[u8], goal: u32, out: &mut [u8]) -> Result<u64, Refusal> {
+    Ok(answer_of(|answer| on_slices::goal(file, goal, out, answer))?[1])
+}
+
 /// The mounted tip as the header has it; the number that stands for none there is no tip here.
 fn number_of(mounted: Option<usize>) -> usize {
     mounted.map_or(NO_TIP, |tip| tip.min(NO_TIP - 1))
@@ -133,6 +139,20 @@ pub mod on_slices {
                 file.as_ptr(),
                 file.len(),
                 k,
+                out.as_mut_ptr(),
+                out.len(),
+                answer.as_mut_ptr(),
+                answer.len(),
+            )
+        }
+    }
+
+    pub fn goal(file: &[u8], goal: u32, out: &mut [u8], answer: &mut [u64]) -> u32 {
+        unsafe {
+            declared::tipshare_goal(
+                file.as_ptr(),
+                file.len(),
+                goal,
                 out.as_mut_ptr(),
                 out.len(),
                 answer.as_mut_ptr(),
@@ -201,6 +221,15 @@ mod declared {
             file: *const u8,
             file_len: usize,
             k: u16,
+            out: *mut u8,
+            out_len: usize,
+            answer: *mut u64,
+            answer_len: usize,
+        ) -> u32;
+        pub fn tipshare_goal(
+            file: *const u8,
+            file_len: usize,
+            goal: u32,
             out: *mut u8,
             out_len: usize,
             answer: *mut u64,

@@ -1,6 +1,6 @@
 //! The linked library through its safe form.
 
-use library::{best, check, common, keep, quick, read, report, CommonTip, Job, Kept, Refusal, LONGEST_FILE};
+use library::{best, check, common, goal, keep, quick, read, report, CommonTip, Job, Kept, Refusal, LONGEST_FILE};
 
 /// The example of the rules: rack 3, lines {0} and {1,2}.
 const EXAMPLE: [u8; 24] = *b"TIP\x00\x01\x03\x00\x02\x00\x00\x00\x00\x00\x00\x00\x01\x00\x00\x00\x00\x00\x00\x00\x06";
@@ -76,6 +76,32 @@ fn mounted_tip_wins_a_tie() {
         assert_eq!(quick(&EXAMPLE[..7], Some(mounted), &mut []), Err(refused(6, 0, 0)));
     }
     assert_eq!(refused(16, 0, 0).to_string(), "refused 16");
+}
+
+#[test]
+fn goals_strike_what_no_plan_with_so_many_pairs_uses() {
+    // {0} and {0,1}: one pair where both are on tip 0.
+    let mut file = EXAMPLE;
+    file[23] = 0b11;
+    let mut out = [7; 25];
+    assert_eq!(goal(&file, 0, &mut out), Ok(24));
+    assert_eq!((&out[..24], out[24]), (&file[..], 7));
+    assert_eq!(goal(&file, 1, &mut out), Ok(24));
+    assert_eq!((&out[..8], out[15], out[23], out[24]), (&file[..8], 0b01, 0b01, 7));
+    // 2 and 3 placements, 1 + 3 pairs on two tips, whichever the second line is on.
+    let mut out = [7; LONGEST_FILE];
+    assert_eq!(goal(&COUNTED, 4, &mut out), Ok(26));
+    assert_eq!((&out[..26], out[26]), (&COUNTED[..], 7));
+    for number in [5, u32::MAX] {
+        assert_eq!(goal(&COUNTED, number, &mut []), Err(refused(34, 0, 0)));
+    }
+    let mut out = [7; 25];
+    assert_eq!(goal(&COUNTED, 4, &mut out), Err(refused(11, 0, 0)));
+    assert_eq!(out, [7; 25]);
+    (file[15], file[23]) = (0b010, 0b101);
+    assert_eq!(goal(&file, 9, &mut []), Err(refused(25, 1, 0)));
+    assert_eq!(goal(&file[..7], 9, &mut []), Err(refused(6, 0, 0)));
+    assert_eq!(refused(34, 0, 0).to_string(), "refused 34");
 }
 
 #[test]

@@ -9,7 +9,7 @@ use parts::files::{of_standard_output, Input, Output};
 use parts::handed::Handed;
 use parts::job::{has_mark, Job};
 use parts::list::{Fault, List};
-use parts::planning::Named;
+use parts::planning::{Kept, Named};
 use parts::MOST_TIPS;
 
 /// The most faults of a list that are printed.
@@ -48,14 +48,27 @@ pub fn sort(arguments: &[&str]) -> Result<(), Failure> {
 }
 
 pub fn keep(arguments: &[&str]) -> Result<(), Failure> {
+    strike(arguments, "k is a number from 0 to 65535", |named, k| named.keep(k))
+}
+
+pub fn goal(arguments: &[&str]) -> Result<(), Failure> {
+    strike(arguments, "a goal is a number from 0 to 4294967295", |named, goal| named.goal(goal))
+}
+
+/// Strikes tips by a number, prints which, and writes what is left where files are named for it.
+fn strike<N: FromStr>(
+    arguments: &[&str],
+    is: &str,
+    strike: impl FnOnce(&Named, N) -> Result<Kept, String>,
+) -> Result<(), Failure> {
     let (arguments, list) = option("--list", arguments)?;
-    let (k, path, job) = match arguments[..] {
-        [k, path] => (k, path, None),
-        [k, path, job] => (k, path, Some(job)),
+    let (number, path, job) = match arguments[..] {
+        [number, path] => (number, path, None),
+        [number, path, job] => (number, path, Some(job)),
         _ => return Err(Failure::Arguments),
     };
-    let Some(k) = number_of(k) else {
-        return Err(Failure::Argument(format!("k is a number from 0 to 65535, and not {k}")));
+    let Some(bound) = number_of(number) else {
+        return Err(Failure::Argument(format!("{is}, and not {number}")));
     };
     let input = input_of(path)?;
     let job = job.map(|out| output_of(out, &input)).transpose()?;
@@ -65,7 +78,7 @@ pub fn keep(arguments: &[&str]) -> Result<(), Failure> {
             return Err(Failure::Argument(format!("{out}: this is JOB and LIST; name two files")));
         }
     }
-    let kept = named(path, input.bytes)?.keep(k).map_err(|why| about(path, why))?;
+    let kept = strike(&named(path, input.bytes)?, bound).map_err(|why| about(path, why))?;
     let mut written = Vec::new();
     for (output, bytes) in [(job, &kept.file[..]), (list, kept.list.as_bytes())] {
         if let Some((out, output)) = output {

@@ -16,7 +16,7 @@ pub struct Command {
     run: fn(&[&str]) -> Result<(), Failure>,
 }
 
-const COMMANDS: [Command; 7] = [
+const COMMANDS: [Command; 8] = [
     Command {
         name: "make",
         arguments: "LIST",
@@ -59,6 +59,21 @@ const COMMANDS: [Command; 7] = [
                Example: parts keep 3 board.txt --list kept.txt\n",
         options: &["--list"],
         run: commands::keep,
+    },
+    Command {
+        name: "goal",
+        arguments: "K FILE [JOB] [--list LIST]",
+        does: "print which parts lose tips when a plan has to have K pairs at least,\n\
+               and write what is left as the job file JOB and as the parts list LIST",
+        more: "A tip is struck from a part where no plan with K pairs or more has the part on that tip, a pair being\n\
+               two placements on one tip. With K 0 nothing is struck; with the pairs of the best plan, which are\n\
+               printed, only the tips of best plans are left.\n\
+               It takes the lists that have a best plan. What is left may have gaps; where it has no best plan any\n\
+               more, the last line says which part has a gap.\n\
+               JOB and LIST replace files of their names, but never FILE.\n\
+               Example: parts goal 12 board.txt --list kept.txt\n",
+        options: &["--list"],
+        run: commands::goal,
     },
     Command {
         name: "plan",

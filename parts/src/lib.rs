@@ -2,6 +2,7 @@
 
 pub mod checking;
 pub mod files;
+pub mod goal;
 pub mod handed;
 pub mod job;
 pub mod list;

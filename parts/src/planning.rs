@@ -54,7 +54,7 @@ impl Named {
         self.label(line) + &quantity_in_words(job.lines[line].quantity)
     }
 
-    fn refused(&self, refusal: library::Refusal) -> String {
+    pub(crate) fn refused(&self, refusal: library::Refusal) -> String {
         refusal::Refusal { number: refusal.number, line: refusal.line as usize }.in_words(&self.file)
     }
 
@@ -72,10 +72,14 @@ impl Named {
             _ => self.refused(refusal),
         })?;
         file.truncate(kept.bytes as usize);
+        let text = in_words(common) + &format!("k {k} margin {}\n", kept.margin);
+        self.kept(text, file)
+    }
+
+    /// What is left of each line, behind this text, with the file that was written and its list.
+    pub(crate) fn kept(&self, mut text: String, file: Vec<u8>) -> Result<Kept, String> {
         let before = job_of(&self.file)?;
         let after = job_of(&file)?;
-        let mut text = in_words(common);
-        text += &format!("k {k} margin {}\n", kept.margin);
         let mut same = 0;
         for (line, (had, has)) in before.lines.iter().zip(&after.lines).enumerate() {
             if had == has {

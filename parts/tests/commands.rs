@@ -161,7 +161,7 @@ fn help_and_version_are_printed() {
     assert_eq!(run(&["--version"], b""), given(version.as_bytes()));
 }
 
-const COMMANDS: [&str; 6] = ["make", "show", "sort", "keep", "plan", "picture"];
+const COMMANDS: [&str; 8] = ["make", "show", "sort", "keep", "goal", "plan", "check", "picture"];
 
 #[test]
 fn every_command_has_a_page() {
@@ -178,7 +178,7 @@ fn every_command_has_a_page() {
 
 #[test]
 fn wrong_arguments_print_the_usage_of_their_command() {
-    let cases: [(&[&str], &str); 19] = [
+    let cases: [(&[&str], &str); 21] = [
         (&["make"], "make LIST"),
         (&["make", "a", "b"], "make LIST"),
         (&["make", "--list", "a"], "make LIST"),
@@ -191,6 +191,8 @@ fn wrong_arguments_print_the_usage_of_their_command() {
         (&["keep", "1", "a", "--list"], "keep K FILE [JOB] [--list LIST]"),
         (&["keep", "1", "a", "--list", "b", "--list", "c"], "keep K FILE [JOB] [--list LIST]"),
         (&["keep", "1", "a", "--job", "b"], "keep K FILE [JOB] [--list LIST]"),
+        (&["goal", "1"], "goal K FILE [JOB] [--list LIST]"),
+        (&["goal", "1", "a", "b", "c"], "goal K FILE [JOB] [--list LIST]"),
         (&["plan"], "plan FILE [--mounted T]"),
         (&["plan", "a", "b"], "plan FILE [--mounted T]"),
         (&["plan", "a", "--mounted"], "plan FILE [--mounted T]"),
@@ -451,6 +453,24 @@ fn mounted_tip_is_named_before_the_file_or_behind_it() {
     for tip in ["64", "-1", "x", "", "+1", "1.0", "18446744073709551615"] {
         let why = format!("a tip is a number from 0 to 63, and not {tip}");
         assert_eq!(run(&["plan", "-", "--mounted", tip], LIST.as_bytes()), wrong_argument(&why));
+    }
+}
+
+#[test]
+fn goal_writes_the_job_file_and_the_list() {
+    let folder = folder("goal");
+    let (job, kept) = (typed(&folder, "goal.job"), typed(&folder, "goal.txt"));
+    let list = b"# board\nrack 2\nA x2 : 0\nB : 0-1 # either\n";
+    let text = b"best 3 goal 3\nB keeps 0 struck 1\nno tip struck from 1 part\n";
+    assert_eq!(run(&["goal", "3", "-", &job, "--list", &kept], list), given(text));
+    assert_eq!(fs::read(&kept).unwrap(), b"# board\nrack 2\nA x2 : 0\nB : 0 # either\n");
+    assert_eq!(run(&["show", &job], b""), given(b"rack 2\n0 x2 : 0\n1 : 0\n"));
+    let why = "-: refused 34: no plan has 4 pairs; the most is 3, name a goal from 0 to 3";
+    assert_eq!(run(&["goal", "4", "-", &job], list), refused(why));
+    assert_eq!(run(&["show", &job], b""), given(b"rack 2\n0 x2 : 0\n1 : 0\n"));
+    for goal in ["", "-1", "4294967296", "1.5", "+1"] {
+        let why = format!("a goal is a number from 0 to 4294967295, and not {goal}");
+        assert_eq!(run(&["goal", goal, "-"], list), wrong_argument(&why));
     }
 }
 

@@ -64,6 +64,18 @@ pub fn keep(file: &[u8], k: u16, out: &mut [u8], answer: &mut [u64]) -> u32 {
     })
 }
 
+/// Keeps what a goal of pairs leaves, and writes the kept board to out: place, bytes, 0, 0.
+pub fn goal(file: &[u8], goal: u32, out: &mut [u8], answer: &mut [u64]) -> u32 {
+    on_board(file, answer, |board, answer| {
+        let kept = board.goal(goal);
+        if kept.number != refusal::NONE {
+            return refused(answer, &kept);
+        }
+        let written = kept.board.write(out);
+        answered(answer, written.number, [written.place as u64, written.value as u64, 0, 0])
+    })
+}
+
 /// The mounted tip of a call, where there is one.
 fn mounted_tip(mounted: usize) -> Option<usize> {
     (mounted != NO_TIP).then_some(mounted)

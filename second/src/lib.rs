@@ -6,6 +6,7 @@
 mod board;
 mod checking;
 mod common;
+mod goal;
 mod report;
 mod sharing;
 mod trying;

@@ -42,7 +42,7 @@ pub const CLOSED: u32 = 22;
 pub const OPEN: u32 = 23;
 /// Add on a board of 512 lines.
 pub const FULL: u32 = 24;
-/// Best sharing or a check, and some line misses a named tip between its lowest and its highest.
+/// Best sharing, a goal or a check, and some line misses a named tip between its lowest and its highest.
 pub const NO_RUN: u32 = 25;
 /// Keep, and the margin is below zero.
 pub const NO_PLAN: u32 = 26;
@@ -54,6 +54,8 @@ pub const LEFT_OVER: u32 = 28;
 pub const TOO_MANY_PLACEMENTS: u32 = 30;
 /// The table does not show that the checked plan has the most pairs.
 pub const TABLE_FAILS: u32 = 33;
+/// A goal of pairs, and no plan has so many.
+pub const GOAL_MISSED: u32 = 34;
 
 /// The answer of a call of the C interface has fewer than 4 places.
 pub const SHORT_ANSWER: u32 = 100;

@@ -12,6 +12,8 @@ pub struct Tried {
     pub most_pairs: u32,
     /// The plans by their number of placements off the tip that they use most.
     by_off: BTreeMap<usize, Alike>,
+    /// For each number of pairs that a plan has, the tips that such plans use, line by line.
+    by_pairs: BTreeMap<u32, Vec<u64>>,
 }
 
 /// The plans with one number of placements off.
@@ -49,10 +51,24 @@ impl Tried {
 
     /// For each line, the tips that plans within k use there; nothing where there is no such plan.
     pub fn used_within(&self, k: usize) -> Option<Vec<u64>> {
-        let mut within = self.by_off.range(..=k).map(|(_, alike)| alike.used.clone());
-        let first = within.next()?;
-        Some(within.fold(first, |joined, used| joined.iter().zip(used).map(|(one, other)| one | other).collect()))
+        joined(self.by_off.range(..=k).map(|(_, alike)| &alike.used))
     }
+
+    /// For each line, the tips that plans with at least so many pairs use there; nothing where there is no such plan.
+    pub fn used_with(&self, pairs: u32) -> Option<Vec<u64>> {
+        joined(self.by_pairs.range(pairs..).map(|(_, used)| used))
+    }
+
+    /// The numbers of pairs that plans have, the lowest first.
+    pub fn numbers_of_pairs(&self) -> impl Iterator<Item = u32> + '_ {
+        self.by_pairs.keys().copied()
+    }
+}
+
+/// For each line the tips that one of them has there; nothing where there are none.
+fn joined<'a>(mut all: impl Iterator<Item = &'a Vec<u64>>) -> Option<Vec<u64>> {
+    let first = all.next()?.clone();
+    Some(all.fold(first, |joined, used| joined.iter().zip(used).map(|(one, other)| one | other).collect()))
 }
 
 /// The number of plans of a board, or the limit where there are more.
@@ -88,14 +104,19 @@ fn next_plan(sets: &[u64], plan: &mut [u8]) -> bool {
 pub fn try_every_plan(board: &Board) -> Tried {
     let count = board.count;
     let sets = &board.sets[..count];
-    let mut tried = Tried { most_pairs: 0, by_off: BTreeMap::new() };
+    let mut tried = Tried { most_pairs: 0, by_off: BTreeMap::new(), by_pairs: BTreeMap::new() };
     let mut plan = vec![0; count];
     for line in 0..count {
         plan[line] = tip_from(sets[line], 0).expect("a line has a tip") as u8;
     }
     loop {
         let placed = board.placed(&plan);
-        tried.most_pairs = tried.most_pairs.max(pairs_in(&placed));
+        let pairs = pairs_in(&placed);
+        tried.most_pairs = tried.most_pairs.max(pairs);
+        let used = tried.by_pairs.entry(pairs).or_insert_with(|| vec![0; count]);
+        for line in 0..count {
+            used[line] |= 1 << plan[line];
+        }
         let mut placements_on = [0; MOST_TIPS];
         for &tip in &placed {
             placements_on[usize::from(tip)] += 1;

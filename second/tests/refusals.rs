@@ -119,6 +119,8 @@ fn assert_closed_calls_refused(board: &Board, number: u32, place: usize) {
         assert_refused(board.clone().common_tip(), board, number, place, Default::default());
         assert_refused(board.clone().keep_within(0), board, number, place, 0);
         assert_refused(board.clone().keep_within(u16::MAX), board, number, place, 0);
+        assert_refused(board.clone().goal(0), board, number, place, ());
+        assert_refused(board.clone().goal(u32::MAX), board, number, place, ());
         assert_refused(board.clone().quick(None, &mut plan), board, number, place, 0);
         assert_refused(board.clone().best(None, &mut plan, &mut table), board, number, place, 0);
         assert_refused(board.clone().check(&plan, 7, &table), board, number, place, ());
@@ -264,6 +266,7 @@ fn no_run_names_the_first_such_line() {
         let mut table = [7; 4096];
         assert_refused(board.clone().best(None, &mut plan, &mut table), &board, 25, line, 0);
         assert_refused(board.clone().check(&plan, 7, &table), &board, 25, line, ());
+        assert_refused(board.clone().goal(u32::MAX), &board, 25, line, ());
         assert_eq!((plan, table), ([7; 512], [7; 4096]));
     }
 }
@@ -301,7 +304,9 @@ fn assert_not_read(file: &[u8], number: u32, place: usize) {
         let (mut plan, mut out, mut table) = (vec![7; length], vec![7; length], vec![7; length]);
         let mut other_plan = plan.clone();
         let (other, others) = (vec![7; length], vec![7; length]);
-        let calls: [Call; 6] = [
+        let mut other_out = out.clone();
+        let calls: [Call; 7] = [
+            &mut |answer| interface::goal(file, u32::MAX, &mut other_out, answer),
             &mut |answer| interface::check(file, &other, 7, &others, answer),
             &mut |answer| interface::read(file, answer),
             &mut |answer| interface::common(file, answer),
@@ -315,7 +320,7 @@ fn assert_not_read(file: &[u8], number: u32, place: usize) {
             assert_eq!(answer, [place as u64, 0, 0, 0, 9, 9]);
         }
         assert_eq!((plan, other_plan), (vec![7; length], vec![7; length]));
-        assert_eq!((out, table), (vec![7; length], vec![7; length]));
+        assert_eq!((out, other_out, table), (vec![7; length], vec![7; length], vec![7; length]));
     }
 }
 
@@ -487,6 +492,7 @@ fn interface_answers() {
             assert_eq!(interface::read(input, &mut answer), 100);
             assert_eq!(interface::common(input, &mut answer), 100);
             assert_eq!(interface::keep(input, 1, &mut out, &mut answer), 100);
+            assert_eq!(interface::goal(input, 1, &mut out, &mut answer), 100);
             assert_eq!(interface::quick(input, interface::NO_TIP, &mut plan, &mut answer), 100);
             assert_eq!(interface::best(input, interface::NO_TIP, &mut plan, &mut table, &mut answer), 100);
             assert_eq!(interface::check(input, &plan, 0, &table, &mut answer), 100);
@@ -531,6 +537,16 @@ fn interface_answers() {
         assert_eq!(interface::check(&counted, &[0, 2], claim, &[1, 1, 4, 0, 0, 3, 0, 0, 0], &mut answer), number);
         assert_eq!(answer, [0, 0, 0, 0, 9]);
     }
+    // A goal is looked at before the length of the output; what is written is in the shorter version.
+    let mut out = [7; 27];
+    assert_eq!(interface::goal(&counted, 5, &mut out[..3], &mut answer), 34);
+    assert_eq!(interface::goal(&counted, 4, &mut out[..25], &mut answer), 11);
+    assert_eq!((answer, out), ([0, 0, 0, 0, 9], [7; 27]));
+    assert_eq!(interface::goal(&counted, 4, &mut out, &mut answer), 0);
+    assert_eq!((answer, &out[..26], out[26]), ([0, 26, 0, 0, 9], &counted[..], 7));
+    let mut out = [7; 25];
+    assert_eq!(interface::goal(&in_second, 0, &mut out[..24], &mut answer), 0);
+    assert_eq!((answer, &out[..24], out[24]), ([0, 24, 0, 0, 9], &file[..], 7));
     let mut text = vec![7; interface::REPORT_SPACE];
     assert_eq!(interface::report(&file, &mut text[1..]), 0);
     assert!(text.iter().all(|&byte| byte == 7));

@@ -49,6 +49,18 @@ entry-some m tab a (suc w) h =
     let e : w ≡ suc w - 1 = omega arith in
     ap (λ k. getD tab (a * m + (a + k)) 0) e
 
+-- no count by the sums is above the number of lines
+pub inside-le : (lines : List ℕ) (a w c : ℕ) → a + w ≤ mostTips → a ≤ c → c < a + w → insideBy (sums lines) a w c ≤ length lines
+unfolding insideBy
+inside-le lines a w c e f g = omega (
+  arith,
+  sums-at lines (c + 1) (a + w) (omega arith) (omega arith),
+  sums-at lines a c (omega arith) (omega arith),
+  sums-at lines a (a + w) (omega arith) (omega arith),
+  below-mono lines a c (a + w) (omega arith),
+  below-le lines (c + 1) (a + w),
+)
+
 module _ {names m : ℕ} {qs lines : List ℕ} (r : NamedRuns names m qs lines) where
   -- the placements
   abbrev placed : List ℕ
@@ -57,25 +69,15 @@ module _ {names m : ℕ} {qs lines : List ℕ} (r : NamedRuns names m qs lines) 
   few : length placed ≤ mostPlacements
   few = good-placements (r .good) .few
 
-  -- they are runs of the named tips
-  placed-lines : All (Line (named lines) m) placed
-  placed-lines = all-repeated qs (named-lines (r .good .most) (r .good .domains) (r .runs))
-
   has-named : has names ≡ named lines
   has-named = ap has (r .all) ∙ names-named lines
 
-  -- no count by the sums is above the number of placements
-  inside-few : (a w c : ℕ) → a + w ≤ mostTips → a ≤ c → c < a + w → insideBy (sums placed) a w c ≤ mostPlacements
-  unfolding insideBy
-  inside-few a w c e f g = omega (
-    arith,
-    few,
-    sums-at placed (c + 1) (a + w) (omega arith) (omega arith),
-    sums-at placed a c (omega arith) (omega arith),
-    sums-at placed a (a + w) (omega arith) (omega arith),
-    below-mono placed a c (a + w) (omega arith),
-    below-le placed (c + 1) (a + w),
-  )
+  -- the lines are runs of the named tips, and so are the placements
+  pub named-runs : All (Line (has names) m) lines
+  named-runs = rw has-named (named-lines (r .good .most) (r .good .domains) (r .runs))
+
+  placed-lines : All (Line (named lines) m) placed
+  placed-lines = all-repeated qs (rw has-named at named-runs)
 
   -- the sums of the placements can be read
   pub ready : (tab : List ℕ) → m * m ≤ length tab → Ready m (sums placed) tab
@@ -84,7 +86,7 @@ module _ {names m : ℕ} {qs lines : List ℕ} (r : NamedRuns names m qs lines) 
         rack = narrow;
         size = h;
         summed = λ a w c e f g. summed placed a w c (omega arith) f g few;
-        few = λ a w c e f g. inside-few a w c (omega arith) f g;
+        few = λ a w c e f g. omega (arith, few, inside-le placed a w c (omega arith) f g);
       }
 
   -- the test at one tip

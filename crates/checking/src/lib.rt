@@ -3,10 +3,23 @@ mod claimed;
 mod tabled;
 
 ghost use mathlib.Core.Path.{_≡_};
-ghost use Prim.Native.Nat.{_*_, _≤_};
+ghost use Prim.Native.Nat.{_+_, _*_, _^_, _≤_, _<_};
 ghost use lib.ListN.{length};
+ghost use Rattle.model.specs.Limits.{mostTips};
+ghost use Rattle.goals.specs.Check.{entry};
 ghost use Rattle.checking.specs.Checking.{checkRefusal, NamedRuns};
 use refusal::Refusal;
+
+// The table's entry for the interval of first tip a and width w; 0 for one of no tip.
+pub fn entry_at(m: usize, a: usize, w: usize, table: &[u32]) -> u64
+    requires { ⌜ (m ≤ mostTips) × (m * m ≤ length (now table)) × (a + w ≤ m) ⌝ }
+    ensures { λ r. ⌜ (r ≡ entry m (now (table .entry)) a w) × (r < 2 ^ 32) ⌝ }
+{
+    if w == 0 {
+        return 0;
+    }
+    table[a * m + (a + (w - 1))] as u64
+}
 
 // 19, 20 or 33, or nothing where all is accepted. `names` is the set of the tips that the lines name.
 pub fn check_plan(

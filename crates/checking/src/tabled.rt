@@ -1,24 +1,12 @@
 // A table from other software: its entry for the rack, and each entry at least each of its splits at a named tip.
+use crate::entry_at;
 ghost use mathlib.Core.Path.{_≡_};
 ghost use mathlib.Core.Bool.{_&&_};
-ghost use Prim.Native.Nat.{_+_, _*_, _^_, _≤_, _<_};
+ghost use Prim.Native.Nat.{_+_, _≤_, _<_};
 ghost use lib.Dec.{eqb};
-ghost use lib.ListN.{length};
-ghost use Rattle.model.specs.Limits.{mostTips};
 ghost use Rattle.pair_count.specs.PairTable.{PairTable};
 ghost use Rattle.goals.specs.Check.{entry};
 ghost use Rattle.checking.specs.Checking.{atBy, tipsBy, boundsBy, Ready};
-
-// The table's entry for the interval of first tip a and width w; 0 for one of no tip.
-fn entry_at(m: usize, a: usize, w: usize, table: &[u32]) -> u64
-    requires { ⌜ (m ≤ mostTips) × (m * m ≤ length (now table)) × (a + w ≤ m) ⌝ }
-    ensures { λ r. ⌜ (r ≡ entry m (now (table .entry)) a w) × (r < 2 ^ 32) ⌝ }
-{
-    if w == 0 {
-        return 0;
-    }
-    table[a * m + (a + (w - 1))] as u64
-}
 
 // Tip a + i is not named, or its split of the interval is at most this: a sum of 64-bit numbers, which does not wrap.
 fn tip_bounded(

@@ -1,39 +1,32 @@
 -- Keep within k on a file: the kept lines are written, and what is written reads back as the pruned lines of the same rack with the same quantities.
 use Prim.Native.Nat.{ℕ}
-use mathlib.Core.Path.{_≡_, refl, sym, ap, ap₂, _∙_}
-use mathlib.Core.Logic.{_↔_, ⊎-elim}
-use mathlib.Core.Bool.{Bool, true, false, cond}
-use mathlib.Core.List.{List, _++_}
+use mathlib.Core.Path.{_≡_, refl, sym, ap, _∙_}
+use mathlib.Core.Logic.{_↔_}
+use mathlib.Core.List.{List}
 use native.Mathlib.Omega.{arith}
-use lib.Dec.{ltb}
 use lib.IntN.{ℤ}
-use lib.ListN.{length, take, drop}
-use lib.Seq.{length-take-le, take-at}
-use borrow.Author.Tests.{eqb-true}
+use lib.ListN.{length, take}
 use Rattle.model.specs.CommonTip.{margin}
 use Rattle.placements.specs.Repeated.{repeated}
 use Rattle.placements.specs.Good.{GoodLines}
 use Rattle.placements.specs.Keep.{pruneQ}
 use Rattle.refusal.specs.declared.Refusal.{Refusal}
-use Rattle.refusal.specs.Refusal.{none, accepts, orElse, when, Given}
-use Rattle.refusal.proofs.Laws.{accepted}
-use Rattle.job.specs.Job.{Bytes, fileLength, paired, bytesOfLines, fileOf, versionFor, writtenOf}
-use Rattle.job.specs.Job.{versionIn, rackIn, setsIn, quantitiesIn, readRefusal, InShorterForm, ReadsAs}
-use Rattle.job.proofs.Header.{version-back}
-use Rattle.job.proofs.Reading.{bytes-quantities, read-good}
-use Rattle.job.proofs.Writing.{version-for, length-fileOf, written-back}
-use Rattle.call_refusals.specs.Calls.{keepRefusal, writeRefusal}
-use Rattle.call_refusals.proofs.Calls.{keep-none, write-none}
+use Rattle.refusal.specs.Refusal.{none, lentBy, Given}
+use Rattle.job.specs.Job.{Bytes, versionFor, rackIn, setsIn, quantitiesIn, readRefusal, InShorterForm, ReadsAs}
+use Rattle.job.proofs.Reading.{read-good}
+use Rattle.call_refusals.specs.Calls.{keepRefusal}
+use Rattle.call_refusals.proofs.Calls.{keep-none}
 use Rattle.line_calls.specs.declared.KeepAnswer.{KeepAnswer}
 use Rattle.line_calls.specs.declared.FileAnswer.{FileAnswer}
 use Rattle.line_calls.specs.Lines.{keepOf, keptSets, writeOf, writeBuffer}
 use Rattle.line_calls.specs.Rules.{NoneWithin}
-use Rattle.line_calls.proofs.KeepWithin.{keep-exact, keep-refuses, keep-good, keep-length}
+use Rattle.line_calls.proofs.KeepWithin.{keep-exact, keep-refuses, keep-good}
 use Rattle.line_calls.proofs.Refused.{Same, keep-same, write-same, write-buffer-same}
 use Rattle.file_calls.specs.declared.Outcome.{Outcome}
 use Rattle.file_calls.specs.Calls.{keepOutcome, keepIn, keepFileIn}
 use Rattle.file_calls.specs.Rules.{KeepRuleOf}
 use Rattle.file_calls.proofs.ReadLines.{AsRead}
+use Rattle.file_calls.proofs.WrittenFile.{left-lines, given-left, same-number, decided, earlier-none, reads, shorter}
 
 -- ---- the lines that keep leaves in the first places
 
@@ -55,35 +48,25 @@ module _ {d : Refusal} {m n : ℕ} {qs sets : List ℕ} (given : Given d m n qs 
   unfolding keepOf
   by-margin = ap (λ a. a .refusal) p
 
-  module _ (z : kept .refusal .number ≡ 0) where
-    through : keepRefusal d left .number ≡ 0
-    through = ap (λ r. r .number) (sym by-margin) ∙ z
+  through : kept .refusal .number ≡ 0 → keepRefusal d left .number ≡ 0
+  through z = ap (λ r. r .number) (sym by-margin) ∙ z
 
-    pub kept-free : d .number ≡ 0
-    kept-free = keep-none d left through .0
+  pub kept-free : kept .refusal .number ≡ 0 → d .number ≡ 0
+  kept-free z = keep-none d left (through z) .0
 
-    count : length lines ≡ n
-    count = length-take-le n sets (given .room kept-free)
+  good : kept .refusal .number ≡ 0 → GoodLines m (take n qs) pruned-lines
+  good z = keep-good d k (given .good) (through z)
 
-    size : length pruned-lines ≡ n
-    size = keep-length d k (given .good) through ∙ count
+  by-refusal : last ≡ lentBy (kept .refusal) (length lines) pruned-lines sets
+  unfolding keptSets
+  by-refusal = q ∙ ap (λ r. lentBy r (length lines) pruned-lines sets) (sym by-margin)
 
-    pub kept-lines : take n last ≡ pruned-lines
-    unfolding keptSets
-    kept-lines =
-        ap (take n) (q ∙ accepted (pruned-lines ++ drop (length lines) sets) sets {d = keepRefusal d left} refl through)
-        ∙ take-at pruned-lines (drop (length lines) sets) n size
-
-    good : GoodLines m (take n qs) (take n last)
-    good = rw kept-lines (keep-good d k (given .good) through)
+  pub kept-lines : kept .refusal .number ≡ 0 → take n last ≡ pruned-lines
+  kept-lines = left-lines given (kept .refusal) kept-free good by-refusal
 
   -- what writing is given
   pub given-kept : length last ≡ length sets → Given (kept .refusal) m n qs last
-  given-kept e = record {
-    room = λ z. omega (arith, e, given .room (kept-free z));
-    quantity-room = λ z. given .quantity-room (kept-free z);
-    good = good;
-  }
+  given-kept = given-left given (kept .refusal) kept-free good by-refusal
 
 -- ---- from the lines that were read to the file
 
@@ -115,24 +98,6 @@ module _ (file : List ℕ) {d : Refusal} (e : d ≡ readRefusal file) {m n : ℕ
 
 -- ---- the rule
 
--- a refusal that is none of the output's stays
-same-26 : (earlier : Refusal) (v n room : ℕ) → (writeRefusal earlier v n room .number ≡ 26) ↔ (earlier .number ≡ 26)
-unfolding writeRefusal orElse
-same-26 earlier v n room = by (accepts earlier) (ltb room (fileLength v n)) refl
-  where
-    by : (t short : Bool) → accepts earlier ≡ t → ((cond t (when short 11) earlier) .number ≡ 26) ↔ (earlier .number ≡ 26)
-    by true true e = (λ h. absurd (omega (arith, h)), λ h. absurd (omega (arith, h, eqb-true (earlier .number) 0 e)))
-    by true false e = (λ h. absurd (omega (arith, h)), λ h. absurd (omega (arith, h, eqb-true (earlier .number) 0 e)))
-    by false short e = (λ h. h, λ h. h)
-
--- what is written has the version for its quantities
-written-version : (m : ℕ) (qs sets : List ℕ) → versionIn (writtenOf m qs sets) ≡ versionFor qs
-unfolding fileOf
-written-version m qs sets =
-    let v = versionFor qs in
-    let lines = paired sets qs in
-    version-back v m (length lines) (bytesOfLines v lines) (⊎-elim (λ e. omega (arith, e)) (λ e. omega (arith, e)) (version-for qs))
-
 module _ (file : List ℕ) (k : ℕ) (out : List ℕ) where
   abbrev m : ℕ
   m = rackIn file
@@ -146,52 +111,41 @@ module _ (file : List ℕ) (k : ℕ) (out : List ℕ) where
   abbrev pruned : List ℕ
   pruned = pruneQ m qs (setsIn file) k
 
-  abbrev decided : Refusal
-  decided = writeRefusal kept-refusal (versionFor qs) (length pruned) (length out)
-
-  module _ (z : decided .number ≡ 0) where
-    kept-through : kept-refusal .number ≡ 0
-    kept-through = write-none kept-refusal (versionFor qs) (length pruned) (length out) z .0
-
-    good-kept : GoodLines m qs pruned
-    good-kept = keep-good (readRefusal file) k (read-good file) kept-through
-
-    -- the bytes in the output are the file of the pruned lines and their quantities
-    written : take (keepIn file k (length out) .second) (keepFileIn file k out) ≡ writtenOf m qs pruned
-    unfolding keepIn keepFileIn keepOf writeOf writeBuffer
-    written =
-        let size = fileLength (versionFor qs) (length pruned) in
-        ap₂ take (accepted size 0 {d = decided} refl z) (accepted (writtenOf m qs pruned ++ drop size out) out {d = decided} refl z)
-        ∙ take-at (writtenOf m qs pruned) (drop size out) size (length-fileOf (versionFor qs) m qs pruned (good-kept .same))
+  good-kept : kept-refusal .number ≡ 0 → GoodLines m qs pruned
+  good-kept = keep-good (readRefusal file) k (read-good file)
 
   abbrev o : Outcome
   o = keepIn file k (length out)
 
-  decided-by : o .refusal .number ≡ 0 → decided .number ≡ 0
+  decided-by : o .refusal .number ≡ 0 → decided file kept-refusal pruned good-kept out .number ≡ 0
   unfolding keepIn keepOf writeOf
   decided-by z = z
 
   refuses : readRefusal file ≡ none → (o .refusal .number ≡ 26) ↔ NoneWithin m qs (setsIn file) k
   unfolding keepIn keepOf writeOf
   refuses e =
-      let (there, back) = same-26 kept-refusal (versionFor qs) (length pruned) (length out) in
+      let (there, back) = same-number kept-refusal (versionFor qs) (length pruned) (length out) 26 (λ e. omega arith) (λ e. omega arith) in
       let (no-plan, refused) = keep-refuses (readRefusal file) k (read-good file) (ap (λ r. r .number) e) in
       (λ h. no-plan (there h), λ h. back (refused h))
 
-  -- what is written reads as the pruned lines: each quantity is a byte of the file, or 1
+  -- what is written reads as the pruned lines
   module _ (bytes : Bytes file) where
-    reads : (z : o .refusal .number ≡ 0) → ReadsAs m qs pruned (take (o .second) (keepFileIn file k out))
-    reads z = rw (written (decided-by z)) (written-back m qs pruned (good-kept (decided-by z)) (bytes-quantities file bytes))
+    as-pruned : (z : o .refusal .number ≡ 0) → ReadsAs m qs pruned (take (o .second) (keepFileIn file k out))
+    unfolding keepIn keepFileIn keepOf
+    as-pruned z = reads file kept-refusal pruned good-kept out (decided-by z) bytes
 
-    shorter : (z : o .refusal .number ≡ 0) → InShorterForm (take (o .second) (keepFileIn file k out))
-    shorter z = rw (reads z .quantities-are, written (decided-by z)) (written-version m qs pruned)
+    in-short : (z : o .refusal .number ≡ 0) → InShorterForm (take (o .second) (keepFileIn file k out))
+    unfolding keepIn keepFileIn keepOf
+    in-short z = shorter file kept-refusal pruned good-kept out (decided-by z) bytes
 
     pub keep-rule : KeepRuleOf file k (keepFileIn file k out) o
     keep-rule = record {
-      is-read = λ z. reads z .accepted;
-      shorter-form = shorter;
-      same-rack = λ z. reads z .rack-is;
-      same-quantities = λ z. reads z .quantities-are;
-      exact = λ z. rw (reads z .sets-are) (keep-exact (readRefusal file) k (read-good file) (kept-through (decided-by z)));
+      is-read = λ z. as-pruned z .accepted;
+      shorter-form = in-short;
+      same-rack = λ z. as-pruned z .rack-is;
+      same-quantities = λ z. as-pruned z .quantities-are;
+      exact = λ z.
+          let free = earlier-none file kept-refusal pruned good-kept out (decided-by z) in
+          rw (as-pruned z .sets-are) (keep-exact (readRefusal file) k (read-good file) free);
       refuses = refuses;
     }

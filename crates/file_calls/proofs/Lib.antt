@@ -1,4 +1,7 @@
 pub mod Signed
 pub mod ReadLines
+pub mod WrittenFile
 pub mod KeptFile
+pub mod GoalFile
 pub mod AsBoard
+pub mod GoalAsBoard

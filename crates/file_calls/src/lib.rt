@@ -12,6 +12,10 @@ use line_calls::KeepAnswer;
 use line_calls::PlanAnswer;
 use refusal::Refusal;
 
+mod goal_call;
+
+pub use goal_call::goal_outcome;
+
 // A call's refusal, and up to three counts.
 pub struct Outcome {
     pub refusal: Refusal,

@@ -6,4 +6,5 @@ pub mod Reach
 pub mod Outer
 pub mod Fast
 pub mod Strike
+pub mod Same
 pub mod Check

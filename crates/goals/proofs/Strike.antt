@@ -1,7 +1,7 @@
 -- Striking the tips that miss a pair goal keeps exactly the tips that some plan with at least K pairs uses.
 use Prim.Native.Nat.{ℕ, _≤_, _<_}
 use native.Mathlib.Omega.{arith}
-use mathlib.Core.Path.{_≡_, refl}
+use mathlib.Core.Path.{_≡_, refl, sym}
 use mathlib.Core.Logic.{_↔_}
 use mathlib.Core.Bool.{_&&_}
 use mathlib.Core.List.{List, _++_, map}
@@ -13,8 +13,8 @@ use Rattle.model.specs.Choice.{bare}
 use Rattle.model.specs.Interval.{Line, named, isRunOf, C}
 use Rattle.model.proofs.Tests.{and-left, and-right, and-in, same-test}
 use Rattle.model.proofs.Lists.{all-at, all-getD}
-use Rattle.model.proofs.ListOf.{length-listOf, listOf-at}
-use Rattle.model.proofs.Sets.{has-below, has-some, setOf-lt, setOf-cong, has-setOf}
+use Rattle.model.proofs.ListOf.{length-listOf, listOf-at, list-is}
+use Rattle.model.proofs.Sets.{has-below, has-some, setOf-lt, setOf-cong, has-setOf, set-same}
 use Rattle.model.proofs.Run.{named-lines}
 use Rattle.model.proofs.Valid.{valid-at, valid-length, valid-map}
 use Rattle.placements.specs.Repeated.{repeated}
@@ -163,3 +163,17 @@ module _ {m : ℕ} {qs sets : List ℕ} (good : GoodLines m qs sets) (rs : All (
           let ok = all-at 0 ls i l .fits t h in
           reach-by narrow lines q t b ok (C-solved bare m rest lines)
           (C-solved bare m (joined rest q t) (joined-lines narrow lines q t b ok))
+
+-- A GOAL OF NO PAIRS STRIKES NOTHING
+pub goal-of-none : (m : ℕ) (qs : List ℕ) {sets : List ℕ} → All (Domain m) sets → strike m qs sets 0 ≡ sets
+unfolding strike goalTips
+goal-of-none m qs {sets} ds = sym (list-is (goalTips m qs sets 0) (length sets) sets refl (λ i l. set-same _ _ (λ t. same i t l)))
+  where
+    same : (i t : ℕ) → i < length sets → has (getD sets i 0) t ≡ has (goalTips m qs sets 0 i) t
+    same i t l =
+        let s = getD sets i 0 in
+        let r = reach m (others qs sets i) (getD qs i 0) t in
+        rw (has-setOf (λ u. has s u && leb 0 (reach m (others qs sets i) (getD qs i 0) u)) m t) (same-test _ _
+        (λ h. and-in (ltb t m) (has s t && leb 0 r) (lt→ltb t m (has-below m s t (all-at 0 ds i l .below) h))
+        (and-in (has s t) (leb 0 r) h (le→leb 0 r (omega arith))))
+        (λ x. and-left (has s t) (leb 0 r) (and-right (ltb t m) (has s t && leb 0 r) x)))

@@ -11,11 +11,13 @@ use Rattle.refusal.specs.Refusal.{accepts}
 use Rattle.refusal.proofs.Laws.{or-first}
 use Rattle.call_refusals.specs.Calls.{planRefusal, bestRefusal}
 use Rattle.line_calls.specs.Lines.{commonOf, keepOf, quickOf, quickBuffer, bestOf, bestBuffer, bestTable, checkOf, writeOf, writeBuffer}
+use Rattle.line_calls.specs.Goal.{goalOf}
 use Rattle.line_calls.specs.Rules.{CommonRule, HalfRule, BestRule}
 use Rattle.line_calls.proofs.CommonTip.{common-refused}
 use Rattle.line_calls.proofs.KeepWithin.{keep-stopped}
 use Rattle.line_calls.proofs.Plans.{quick-refused, best-refused}
 use Rattle.line_calls.proofs.Checked.{check-first}
+use Rattle.line_calls.proofs.PairGoal.{asked-earlier, goal-stopped}
 use Rattle.line_calls.proofs.JobFile.{write-stopped}
 
 module _ (earlier : Refusal) (h : earlier .number ≡ 0 → ⊥) (m : ℕ) (lines : List ℕ) where
@@ -46,6 +48,9 @@ module _ (earlier : Refusal) {m n : ℕ} {qs rs lines others : List ℕ} (same :
 
   pub keep-same : (within : ℕ) → keepOf earlier m qs lines within ≡ keepOf earlier n rs others within
   keep-same within = by-earlier (λ k q l. keepOf earlier k q l within) (λ h k q l. keep-stopped earlier k q l within l h .0)
+
+  pub goal-same : (K : ℕ) → goalOf earlier m qs lines K ≡ goalOf earlier n rs others K
+  goal-same K = by-earlier (λ k q l. goalOf earlier k q l K) (λ h k q l. goal-stopped earlier k q l K l (asked-earlier earlier l h) h .0)
 
   pub check-same : (plan : List ℕ) (claim : ℕ) (tab : List ℕ) → checkOf earlier m qs lines plan claim tab ≡ checkOf earlier n rs others plan claim tab
   check-same plan claim tab =

@@ -10,6 +10,10 @@ ghost use Rattle.refusal.specs.Refusal.{Given};
 use head::Mounted;
 use refusal::Refusal;
 
+mod goal_call;
+
+pub use goal_call::goal;
+
 // The most placements that allow one tip, the least number of placements off the common tip, and the set W of the tips that reach top.
 pub struct CommonAnswer {
     pub refusal: Refusal,

@@ -19,13 +19,17 @@ use Rattle.sound.specs.Sound.{countOk, firstWrong, firstHeld, soundRefusal}
 use Rattle.call_refusals.specs.State.{stageRefusal, stateRefusal}
 use Rattle.call_refusals.specs.Calls.{addRefusal, keepRefusal, mountedRefusal, planRefusal, bestRefusal, writeRefusal}
 use Rattle.goals.specs.Check.{entry, isValid, bounds}
+use Rattle.goals.specs.Goal.{only, goalTips, strike}
 use Rattle.checking.specs.Checking.{claimRefusal, tableOk, checkRefusal}
+use Rattle.striking.specs.Striking.{goalRefusal}
 use Rattle.line_calls.specs.Lines
+use Rattle.line_calls.specs.Goal
 use Rattle.board.specs.Board.{noSets, noQuantities, addOf, closeOf}
 use Rattle.board.specs.Common.{commonOf, keepOf}
 use Rattle.board.specs.Sharing.{quickOf, quickBuffer, bestOf, bestBuffer, bestTable}
 use Rattle.board.specs.JobFile.{readOf, writeOf, writeBuffer}
 use Rattle.board.specs.Check.{checkOf}
+use Rattle.board.specs.Goal.{goalOf}
 use Rattle.rows.specs.Rows.{run, rows, Gives, HalfReached}
 use Rattle.rows.specs.Rows.{B1-common, B1-keep, B2-keep, B3-keep, B4-quick, B5-best, B6-best, B7-quick, B8-best, B9-quick, B9-best, B10-best}
 use Rattle.rows.specs.Rows.{B15-rack-0, B15-rack-65, B16-count-513, B16-count-most, B17-first, B17-middle, B17-last, B18-next}
@@ -37,6 +41,8 @@ use Rattle.rows.specs.Rows.{B27-common, B27-best, B31-best, B32-best, B3
 use Rattle.rows.specs.Rows.{B36-best-1, B36-best-2, B37-quick, B37-best, B38-quick, B39-none, B39-best, B40-quick, B40-best, B41-quick}
 use Rattle.rows.specs.Rows.{B41-best, B41-open, B42-check, B43-foreign, B43-64, B43-255, B44-more, B44-most, B45-whole, B45-less, B46-exact}
 use Rattle.rows.specs.Rows.{B46-less, B46-huge, B47-huge, B48-open, B48-short, B48-few, B48-run, B48-none}
+use Rattle.rows.specs.Rows.{B49-none, B49-14, B49-17, B50-18, B50-20, B51-21, B51-most, B51-empty-0, B51-empty-1, B52-goal}
+use Rattle.rows.specs.Rows.{B53-all, B53-gap, B53-best, B54-2, B54-3, B54-4, B55-open, B55-run, B55-most}
 
 pub starred : All Gives rows
 unfolding run addOf closeOf commonOf keepOf quickOf quickBuffer bestOf bestBuffer bestTable checkOf Lines.checkOf checkRefusal claimRefusal
@@ -47,6 +53,7 @@ unfolding run addOf closeOf commonOf keepOf quickOf quickBuffer bestOf bestBuffe
     listOf bestPlanQ bestTip tipBy pickOf worth from named C most lies inside low high choose2 leadingZeros trailingZeros fills isRunOf readOf
     writeOf writeBuffer Lines.writeOf Lines.writeBuffer writeRefusal readRefusal headerNumber startNumber sizeNumber versionOk lineNumbers setsIn
     quantitiesIn numberAt numberOf bytesOf lineLength headerOf lineOf bytesOfLines fileOf versionFor paired noSets noQuantities
+    goalOf Goal.goalOf Goal.goalAsked Goal.struckSets goalRefusal strike goalTips only
 starred =
     more {x = B1-common} refl
     (more {x = B1-keep} refl
@@ -138,7 +145,26 @@ starred =
     (more {x = B48-short} refl
     (more {x = B48-few} refl
     (more {x = B48-run} refl
-    (more {x = B48-none} refl none))))))))))))))))))))))))))))))))))))))))))))))))))))))))))))))))))))))))))))))))))))))))))
+    (more {x = B48-none} refl
+    (more {x = B49-none} refl
+    (more {x = B49-14} refl
+    (more {x = B49-17} refl
+    (more {x = B50-18} refl
+    (more {x = B50-20} refl
+    (more {x = B51-21} refl
+    (more {x = B51-most} refl
+    (more {x = B51-empty-0} refl
+    (more {x = B51-empty-1} refl
+    (more {x = B52-goal} refl
+    (more {x = B53-all} refl
+    (more {x = B53-gap} refl
+    (more {x = B53-best} refl
+    (more {x = B54-2} refl
+    (more {x = B54-3} refl
+    (more {x = B54-4} refl
+    (more {x = B55-open} refl
+    (more {x = B55-run} refl
+    (more {x = B55-most} refl none)))))))))))))))))))))))))))))))))))))))))))))))))))))))))))))))))))))))))))))))))))))))))))))))))))))))))))))
 
 pub half-reached : HalfReached
 unfolding has pairs uses count

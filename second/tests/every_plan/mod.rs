@@ -49,6 +49,10 @@ pub fn check(board: &Board) {
     for k in (0..=board.placements().len() + 2).chain([65_535]) {
         check_keep(board, &tried, k);
     }
+    // At each number of pairs that a plan has, one above it, and at the ends.
+    for goal in tried.numbers_of_pairs().flat_map(|pairs| [pairs, pairs + 1]).chain([0, u32::MAX]) {
+        check_goal(board, &tried, goal);
+    }
     check_quick(board, &tried);
     check_best(board, &tried);
     check_files(board);
@@ -120,6 +124,21 @@ fn check_keep(board: &Board, tried: &Tried, k: usize) {
             assert_eq!(kept.board.sets[line], expected);
         }
     }
+}
+
+fn check_goal(board: &Board, tried: &Tried, goal: u32) {
+    let kept = board.clone().goal(goal);
+    if let Some(line) = board.lines().position(|line| misses_a_tip(board, line)) {
+        return assert_answer(&kept, board, 25, line);
+    }
+    let Some(used) = tried.used_with(goal) else {
+        assert!(goal > tried.most_pairs);
+        return assert_answer(&kept, board, 34, 0);
+    };
+    let mut expected = board.clone();
+    expected.sets[..board.count].copy_from_slice(&used);
+    assert_answer(&kept, &expected, 0, 0);
+    assert!(goal <= tried.most_pairs && (goal > 0 || expected == *board));
 }
 
 /// No tip.

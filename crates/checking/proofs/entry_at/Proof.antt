@@ -4,8 +4,8 @@ use mathlib.Core.Path.{refl, sym}
 use borrow.Author.Needs.{needs}
 use Rattle.goals.specs.Check.{entry}
 use Rattle.checking.proofs.Bounds.{place-lt, entry-some}
-use Rattle.checking.proofs.tabled.entry_at.Statement.{statement}
-use Rattle.checking.proofs.tabled.entry_at.Tie as tie
+use Rattle.checking.proofs.entry_at.Statement.{statement}
+use Rattle.checking.proofs.entry_at.Tie as tie
 
 -- the place is in the table
 place : (c : tie.Start) → 0 < c .args .w → c .args .a * c .args .m + (c .args .a + (c .args .w - 1)) < c .args .m * c .args .m

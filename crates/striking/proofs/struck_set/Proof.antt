@@ -1,0 +1,154 @@
+use Prim.Native.Nat.{ℕ}
+use native.Mathlib.Omega.{arith}
+use mathlib.Core.Path.{_∙_}
+use mathlib.Core.List.{List}
+use lib.ListN.{getD}
+use borrow.Author.Needs.{needs}
+use Rattle.goals.specs.Goal.{others, goalTips}
+use Rattle.goals.proofs.Same.{same-tips}
+use Rattle.striking.specs.Striking.{RunSums, InsideAll, OutsideAll}
+use Rattle.striking.proofs.Others.{removable, rest-sums}
+use Rattle.striking.proofs.Read.{ready, with-none}
+use Rattle.striking.proofs.Kept.{kept-goal, struck-before}
+use Rattle.striking.proofs.struck_set.Statement.{statement}
+use Rattle.striking.proofs.struck_set.Tie as tie
+
+-- the sums from the inside table, this from the outside table, and the call's start
+abbrev summed : tie.After-fill-inside → tie.After-sums-without
+summed c = c .before .before .before .before .before
+
+abbrev filled : tie.After-fill-outside → tie.After-fill-inside
+filled c = c .before .before .before .before .before .before
+
+abbrev start : tie.After-first-same → tie.Start
+start c = c .before .before .before .before .before .before .before .before .before
+
+abbrev begun : tie.After-sums-without → tie.Start
+begun c = start (c .before .before .before .before .before)
+
+-- the quantity of the line, and the placements of the other lines
+module _ (c : tie.Start) where
+  abbrev quantity : ℕ
+  quantity = getD (c .args .quantities .now) (c .args .i) 0
+
+  abbrev rest : List ℕ
+  rest = others (c .args .quantities .now) (c .args .lines .now) (c .args .i)
+
+-- their sums
+sums-of : (c : tie.After-sums-without)
+    → let s = begun c in
+    RunSums (s .args .names) (s .args .m) (quantity s) (rest s) (c .sums-without .last .1 .1 .1 .0)
+sums-of c =
+    let s = begun c in
+    rest-sums (s .pre .0) (s .args .i) (s .pre .2) (s .pre .1) (c .sums-without .ensures)
+
+-- their tables
+inside-of : (c : tie.After-fill-inside)
+    → let s = begun (summed c) in
+    InsideAll (s .args .m) (rest s) (c .fill-inside .last .1 .1 .1 .1 .0)
+inside-of c = c .fill-inside .ensures (rest (begun (summed c))) (with-none (sums-of (summed c)))
+
+outside-of : (c : tie.After-fill-outside)
+    → let s = begun (summed (filled c)) in
+    OutsideAll (s .args .m) (rest s) (c .fill-outside .last .1 .1 .1 .1 .1 .0)
+outside-of c =
+    let k = with-none (sums-of (summed (filled c))) in
+    c .fill-outside .ensures (rest (begun (summed (filled c)))) k (inside-of (filled c))
+
+first-same-requires : tie.Need-first-same-requires
+first-same-requires c κs =
+    let s = c .before .before .before .before .before .before .before .before in
+    (s .pre .2, s .pre .0 .good .same)
+
+mul-result : tie.Need-mul-result
+mul-result c = record { fits = omega (arith, c .if1 .taken, start (c .before) .pre .2, start (c .before) .pre .0 .good .few-lines) }
+
+shared-slice-read-result : tie.Need-shared-slice-read-result
+shared-slice-read-result c = omega (arith, c .before .if1 .taken, start (c .before .before) .pre .4)
+
+returns : tie.Need-returns
+returns c =
+    let f = c .before .before in
+    let s = start f in
+    let args = s .args in
+    let j = f .first-same .result in
+    let (_, set, quantity) = f .first-same .ensures in
+    let tips = goalTips (args .m) (args .quantities .now) (args .lines .now) (args .goal) in
+    struck-before tips (args .struck .now) (args .i) j (c .before .if1 .taken) (s .pre .3)
+    ∙ same-tips (args .quantities .now) (args .lines .now) (s .pre .0 .good .same) (omega (arith, c .before .if1 .taken, s .pre .2)) (s .pre .2)
+    quantity set (args .m) (args .goal)
+
+mul-line : tie.Need-mul-line
+mul-line c = record { fits = omega (arith, start (c .before) .pre .2, start (c .before) .pre .0 .good .few-lines) }
+
+shared-slice-read-line : tie.Need-shared-slice-read-line
+shared-slice-read-line c = search needs
+
+shared-slice-read-quantity : tie.Need-shared-slice-read-quantity
+shared-slice-read-quantity c =
+    let s = start (c .before .before .before) in
+    omega (arith, s .pre .2, s .pre .0 .good .same)
+
+sums-without-requires : tie.Need-sums-without-requires
+sums-without-requires c κs =
+    let s = start (c .before .before .before .before) in
+    (rw (s .pre .1) (removable (s .pre .0) (s .args .i) (s .pre .2)), s .pre .5)
+
+fill-inside-requires : tie.Need-fill-inside-requires
+fill-inside-requires c κs =
+    let f = c .before .before .before .before in
+    ((rest (begun f), with-none (sums-of f)), begun f .pre .6, begun f .pre .8)
+
+fill-outside-requires : tie.Need-fill-outside-requires
+fill-outside-requires c κs =
+    let f = c .before .before .before .before .before in
+    let s = begun (summed f) in
+    ((rest s, with-none (sums-of (summed f)), inside-of f), s .pre .7, s .pre .8)
+
+cast-kept-tips : tie.Need-cast-kept-tips
+cast-kept-tips c =
+    let f = summed (filled (c .before .before)) in
+    record { fits = omega (arith, f .before .before .shared-slice-known8 .given (begun f .args .i)) }
+
+kept-tips-requires : tie.Need-kept-tips-requires
+kept-tips-requires c κs =
+    let f = c .before .before .before .before .before in
+    let k = sums-of (summed (filled f)) in
+    (ready k, k .rack, inside-of (filled f) .room, outside-of f .room, begun (summed (filled f)) .pre .8)
+
+same-length : tie.Need-same-length
+same-length c = search needs
+
+same-length-2 : tie.Need-same-length-2
+same-length-2 c = search needs
+
+same-length-3 : tie.Need-same-length-3
+same-length-3 c = search needs
+
+returns-2 : tie.Need-returns-2
+returns-2 c =
+    let f = c .before .before .before .before .before .before in
+    let s = begun (summed (filled f)) in
+    let k = sums-of (summed (filled f)) in
+    c .kept-tips .ensures ∙ kept-goal (s .pre .0) (s .args .i) (s .pre .2) (s .args .goal) k (inside-of (filled f)) (outside-of f)
+
+pub struck-set-spec : {M : Type 1} → statement M
+struck-set-spec =
+    tie.close
+    (tie.spec
+    first-same-requires
+    mul-result
+    shared-slice-read-result
+    returns
+    mul-line
+    shared-slice-read-line
+    shared-slice-read-quantity
+    sums-without-requires
+    fill-inside-requires
+    fill-outside-requires
+    cast-kept-tips
+    kept-tips-requires
+    same-length
+    same-length-2
+    same-length-3
+    returns-2)

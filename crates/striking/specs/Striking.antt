@@ -1,0 +1,103 @@
+-- Striking by the inside and the outside table of the other lines, from the sums of their placements by lowest and highest tip.
+use Prim.Native.Nat.{ℕ, _+_, _*_, _-_, _/_, _%_, _≤_, _<_}
+use mathlib.Core.Path.{_≡_}
+use mathlib.Core.Bool.{Bool, not, cond, _&&_}
+use mathlib.Core.List.{List}
+use lib.Dec.{ltb}
+use lib.ListN.{length, getD}
+use Rattle.model.specs.Limits.{mostTips, mostPlacements}
+use Rattle.model.specs.Count.{All, every, listOf}
+use Rattle.model.specs.Plan.{has, choose2}
+use Rattle.model.specs.Interval.{low, high, Line, C}
+use Rattle.placements.specs.Repeated.{repeated}
+use Rattle.refusal.specs.declared.Refusal.{Refusal}
+use Rattle.refusal.specs.Refusal.{when, accepts}
+use Rattle.spans.specs.Spans.{sumsWidth, sumsSize, sums, insideBy, Summed}
+use Rattle.goals.specs.Check.{entry}
+use Rattle.goals.specs.Goal.{strike}
+use Rattle.goals.specs.Tables.{Out}
+
+-- the best plan has fewer than K pairs
+unfoldable pub goalRefusal : ℕ → List ℕ → List ℕ → ℕ → Refusal
+goalRefusal m qs sets K = when (ltb (C (repeated qs sets) 0 m) K) 34
+
+-- the struck sets, or the buffer as it was where the goal is missed
+unfoldable pub struckBy : ℕ → List ℕ → List ℕ → ℕ → List ℕ → List ℕ
+struckBy m qs sets K old = cond (accepts (goalRefusal m qs sets K)) (strike m qs sets K) old
+
+-- ---- for proofs and leaf contracts: no call's contract speaks of these
+
+-- what a line with the tips low to high and quantity q adds at x and y of the sums
+unfoldable pub ownAt : ℕ → ℕ → ℕ → ℕ → ℕ → ℕ
+ownAt l h q x y = cond (ltb l x && ltb h y) q 0
+
+-- the sums without the line s of quantity q
+unfoldable pub sumsWithout : List ℕ → ℕ → ℕ → List ℕ
+sumsWithout xs s q = listOf (λ k. getD xs k 0 - ownAt (low s) (high s) q (k / sumsWidth) (k % sumsWidth)) sumsSize
+
+-- no sum goes below zero without the line
+pub record Removable (xs : List ℕ) (s q : ℕ) : Type 0 where
+  pub size : length xs ≡ sumsSize
+  pub covers : (k : ℕ) → k < sumsSize → ownAt (low s) (high s) q (k / sumsWidth) (k % sumsWidth) ≤ getD xs k 0
+
+-- of the sums each interval's counts can be read, and with q more they are few
+pub record Ready (q : ℕ) (xs : List ℕ) : Type 0 where
+  pub summed : (a w c : ℕ) → a + w ≤ mostTips → a ≤ c → c < a + w → Summed xs a w c
+  pub few : (a w c : ℕ) → a + w ≤ mostTips → a ≤ c → c < a + w → insideBy xs a w c + q ≤ mostPlacements
+
+-- lines that are runs of the tips of names, with q more few placements, and their sums
+pub record RunSums (names m q : ℕ) (lines xs : List ℕ) : Type 0 where
+  pub rack : m ≤ mostTips
+  pub few : length lines + q ≤ mostPlacements
+  pub runs : All (Line (has names) m) lines
+  pub summed : xs ≡ sums lines
+
+-- the pairs on tip c, with q placements more, of the lines lying within the interval, from the sums; no line has a tip that is not named
+unfoldable pub pairsBy : ℕ → List ℕ → ℕ → ℕ → ℕ → ℕ → ℕ
+pairsBy names xs q a w c = choose2 (cond (has names c) (insideBy xs a w c) 0 + q)
+
+-- the pairs of the interval if tip a + i takes its lines and q placements more, from the sums and the inside table
+unfoldable pub splitBy : ℕ → ℕ → List ℕ → List ℕ → ℕ → ℕ → ℕ → ℕ → ℕ
+splitBy names m xs inner q a w i = pairsBy names xs q a w (a + i) + (entry m inner a i + entry m inner (a + i + 1) (w - (i + 1)))
+
+-- the pairs outside an interval beside tip c of the interval of first tip e and width v, where that of first tip f and width x is on the other side
+unfoldable pub outsideBy : ℕ → ℕ → List ℕ → List ℕ → List ℕ → ℕ → ℕ → ℕ → ℕ → ℕ → ℕ
+outsideBy names m xs inner outer e v c f x = entry m outer e v + (pairsBy names xs 0 e v c + entry m inner f x)
+
+-- the interval lies before the tip, or behind it
+abbrev pub beforeBy : ℕ → ℕ → List ℕ → List ℕ → List ℕ → ℕ → ℕ → ℕ → ℕ
+beforeBy names m xs inner outer a w j = outsideBy names m xs inner outer a (w + 1 + j) (a + w) (a + w + 1) j
+
+abbrev pub behindBy : ℕ → ℕ → List ℕ → List ℕ → List ℕ → ℕ → ℕ → ℕ → ℕ
+behindBy names m xs inner outer a w j = outsideBy names m xs inner outer j (a - j + w) (a - 1) j (a - (j + 1))
+
+-- the pairs if the chain ends at the interval, whose tip a + i takes its lines and q placements more
+abbrev pub endedBy : ℕ → ℕ → List ℕ → List ℕ → List ℕ → ℕ → ℕ → ℕ → ℕ → ℕ
+endedBy names m xs inner outer q a w i = entry m outer a w + splitBy names m xs inner q a w i
+
+-- no chain that ends at an interval of first tip a with tip t has K pairs
+unfoldable pub missesBy : ℕ → ℕ → List ℕ → List ℕ → List ℕ → ℕ → ℕ → ℕ → ℕ → Bool
+missesBy names m xs inner outer q K t a = every (λ j. ltb (endedBy names m xs inner outer q a (t - a + 1 + j) (t - a)) K) (m - t)
+
+-- tip t is in the set s, and some chain has K pairs
+unfoldable pub staysBy : ℕ → ℕ → List ℕ → List ℕ → List ℕ → ℕ → ℕ → ℕ → ℕ → Bool
+staysBy names m xs inner outer q s K t = has s t && not (every (missesBy names m xs inner outer q K t) (t + 1))
+
+-- the inside table in the making: the intervals narrower than w are right, and those of width w with a first tip below a
+pub record Inside (m : ℕ) (lines tab : List ℕ) (w a : ℕ) : Type 0 where
+  pub room : m * m ≤ length tab
+  pub narrower : (b v : ℕ) → v < w → b + v ≤ m → entry m tab b v ≡ C lines b v
+  pub row : (b : ℕ) → b < a → b + w ≤ m → entry m tab b w ≡ C lines b w
+
+-- the outside table in the making: the intervals wider than w are right, and those of width w with a first tip below a
+pub record Outside (m : ℕ) (lines tab : List ℕ) (w a : ℕ) : Type 0 where
+  pub room : m * m ≤ length tab
+  pub wider : (b v : ℕ) → w < v → b + v ≤ m → entry m tab b v ≡ Out m (C lines) lines b v
+  pub row : (b : ℕ) → b < a → b + w ≤ m → entry m tab b w ≡ Out m (C lines) lines b w
+
+-- both whole
+abbrev pub InsideAll : ℕ → List ℕ → List ℕ → Type 0
+InsideAll m lines tab = Inside m lines tab (m + 1) 0
+
+abbrev pub OutsideAll : ℕ → List ℕ → List ℕ → Type 0
+OutsideAll m lines tab = Outside m lines tab 0 0

@@ -1,0 +1,158 @@
+// The kept set of each line for a goal of K pairs, by the inside and the outside table of the other lines.
+mod inside;
+mod outside;
+mod reach;
+mod rest;
+
+ghost use mathlib.Core.Path.{_≡_};
+ghost use Prim.Native.Nat.{_*_, _≤_, _<_};
+ghost use lib.ListN.{length, getD, take};
+ghost use Rattle.model.specs.Count.{listOf};
+ghost use Rattle.placements.specs.Repeated.{repeated};
+ghost use Rattle.spans.specs.Spans.{sumsSize, sums as sumsOf};
+ghost use Rattle.checking.specs.Checking.{NamedRuns};
+ghost use Rattle.goals.specs.Goal.{goalTips, strike};
+ghost use Rattle.pair_count.specs.PairTable.{PairTable};
+ghost use Rattle.striking.specs.Striking.{goalRefusal, struckBy};
+use refusal::Refusal;
+
+// A place for each interval of the largest rack.
+const TABLE_SIZE: usize = model::MOST_TIPS * model::MOST_TIPS;
+
+// The first line with the set and the quantity of line i, which may be line i itself.
+fn first_same(lines: &[u64], quantities: &[u8], i: usize) -> usize
+    requires { ⌜ (i < length (now lines)) × (length (now quantities) ≡ length (now lines)) ⌝ }
+    ensures { λ r. ⌜ (r ≤ i) × (getD (now (lines .entry)) r 0 ≡ getD (now (lines .entry)) i 0)
+        × (getD (now (quantities .entry)) r 0 ≡ getD (now (quantities .entry)) i 0) ⌝ }
+{
+    let mut j = 0;
+    while j < i {
+        if lines[j] == lines[i] && quantities[j] == quantities[i] {
+            return j;
+        }
+        j += 1;
+    }
+    i
+}
+
+// The kept set of line i: that of an equal line before it, or else by the sums of the others, their two tables, and the tips that reach the goal.
+fn struck_set(
+    names: u64,
+    m: usize,
+    lines: &[u64],
+    quantities: &[u8],
+    goal: u32,
+    i: usize,
+    pairs: &[u32],
+    sums: &[u32],
+    struck: &[u64],
+    rest: &mut [u32],
+    inner: &mut [u32],
+    outer: &mut [u32],
+) -> u64
+    requires { ⌜ NamedRuns names m (now quantities) (now lines) × (now sums ≡ sumsOf (repeated (now quantities) (now lines)))
+        × (i < length (now lines)) × (take i (now struck) ≡ listOf (goalTips m (now quantities) (now lines) goal) i)
+        × (i ≤ length (now struck)) × (length (now rest) ≡ sumsSize) × (m * m ≤ length (now inner)) × (m * m ≤ length (now outer))
+        × PairTable (now pairs) ⌝ }
+    ensures { λ r. ⌜ r ≡ goalTips m (now (quantities .entry)) (now (lines .entry)) goal i ⌝ }
+{
+    let j = first_same(lines, quantities, i);
+    if j < i {
+        return struck[j];
+    }
+    let line = lines[i];
+    let quantity = quantities[i];
+    rest::sums_without(sums, line, quantity, rest);
+    inside::fill_inside(names, m, pairs, rest, inner);
+    outside::fill_outside(names, m, pairs, rest, inner, outer);
+    reach::kept_tips(
+        names,
+        m,
+        quantity as u32,
+        line,
+        goal,
+        pairs,
+        rest,
+        inner,
+        outer,
+    )
+}
+
+fn strike_each(
+    names: u64,
+    m: usize,
+    lines: &[u64],
+    quantities: &[u8],
+    goal: u32,
+    pairs: &[u32],
+    sums: &[u32],
+    rest: &mut [u32],
+    inner: &mut [u32],
+    outer: &mut [u32],
+    struck: &mut [u64],
+)
+    requires { ⌜ NamedRuns names m (now quantities) (now lines) × (now sums ≡ sumsOf (repeated (now quantities) (now lines)))
+        × (length (now rest) ≡ sumsSize) × (m * m ≤ length (now inner)) × (m * m ≤ length (now outer))
+        × (length (now struck) ≡ length (now lines)) × PairTable (now pairs) ⌝ }
+    ensures { λ _. ⌜ now (struck .exit) ≡ strike m (now (quantities .entry)) (now (lines .entry)) goal ⌝ }
+{
+    let mut i = 0;
+    while i < lines.len() {
+        let kept = struck_set(
+            names,
+            m,
+            lines,
+            quantities,
+            goal,
+            i,
+            pairs,
+            sums,
+            struck,
+            rest,
+            inner,
+            outer,
+        );
+        struck[i] = kept;
+        i += 1;
+    }
+}
+
+// 34 where the best plan has fewer pairs than the goal, and nothing is struck. `names` is the set of the tips that the lines name.
+// The five arrays take 74,764 bytes of the stack.
+pub fn strike(
+    names: u64,
+    m: usize,
+    lines: &[u64],
+    quantities: &[u8],
+    goal: u32,
+    struck: &mut [u64],
+) -> Refusal
+    requires { ⌜ NamedRuns names m (now quantities) (now lines) × (length (now struck) ≡ length (now lines)) ⌝ }
+    ensures answer { λ r. ⌜ r ≡ goalRefusal m (now (quantities .entry)) (now (lines .entry)) goal ⌝ }
+    ensures struck { λ _. ⌜ now (struck .exit) ≡ struckBy m (now (quantities .entry)) (now (lines .entry)) goal (now (struck .entry)) ⌝ }
+{
+    let pairs = pair_count::pair_table();
+    let mut sums = [0u32; spans::SUMS_SIZE];
+    spans::sum_spans(lines, quantities, &mut sums);
+    let mut inner = [0u32; TABLE_SIZE];
+    inside::fill_inside(names, m, &pairs, &sums, &mut inner);
+    if checking::entry_at(m, 0, m, &inner) < goal as u64 {
+        return refusal::refuse(34);
+    }
+    let mut rest = [0u32; spans::SUMS_SIZE];
+    let mut outer = [0u32; TABLE_SIZE];
+    strike_each(
+        names,
+        m,
+        lines,
+        quantities,
+        goal,
+        &pairs,
+        &sums,
+        &mut rest,
+        &mut inner,
+        &mut outer,
+        struck,
+    );
+    refusal::refuse(0)
+}
