@@ -13,3 +13,4 @@ pub mod Copied
 pub mod Answered
 pub mod Refused
 pub mod Ruling
+pub mod Numbered

@@ -7,6 +7,7 @@ ghost use Rattle.placing.specs.Call.{orderRefusal, orderAfter, PlacingRu
 
 mod flags;
 mod marking;
+pub mod numbers;
 mod picking;
 mod placement;
 mod searching;
