@@ -19,8 +19,8 @@ use Rattle.placing.specs.declared.Parts.{Parts}
 use Rattle.placing.specs.declared.Rows.{Rows}
 use Rattle.placing.specs.Rows.{withRule, withRules}
 use Rattle.placing.specs.Given.{partsOf}
-use Rattle.placing.specs.Call.{orderRefusal, orderAfter, PlacingRule}
-use Rattle.placing.specs.Numbers.{partIn, partsIn, ruleIn, rulesIn, numbersRefusal, orderIn, orderAfterIn, emptyParts}
+use Rattle.placing.specs.Call.{orderRefusal, orderAfter}
+use Rattle.placing.specs.Numbers.{partIn, partsIn, ruleIn, rulesIn, numbersRefusal, orderIn, orderAfterIn, PlacingRuleIn, emptyParts}
 use Rattle.placing.proofs.Listed.{listed, listed-at}
 use Rattle.placing.proofs.Rules.{rules-rest, rules-end}
 use Rattle.placing.proofs.Refused.{over, refused-buffer}
@@ -82,7 +82,7 @@ module _ (a b : List Part) (size : length a ≡ length b) (same : length a ≤ 1
 module _ (parts rules buffer : List ℕ) where
   abbrev Answers : Refusal → List ℕ → Type 0
   Answers r out = (r ≡ orderIn parts rules (length buffer)) × ((out ≡ orderAfterIn parts rules buffer)
-      × ((numbersRefusal parts rules) .number ≡ 0 → PlacingRule (partsIn parts) (rulesIn rules) (length buffer) out r))
+      × PlacingRuleIn parts rules (length buffer) out r)
 
   misfit : R.refuse 101 ≡ numbersRefusal parts rules → Answers (R.refuse 101) buffer
   unfolding orderIn orderAfterIn

@@ -1,5 +1,6 @@
 -- Parts and rules as plain numbers, for a caller who has no records: four numbers a part, two a rule.
 use Prim.Native.Nat.{ℕ, _+_, _*_, _/_, _%_}
+use mathlib.Core.Path.{_≡_}
 use mathlib.Core.Bool.{Bool, not, cond, _&&_}
 use mathlib.Core.List.{List}
 use lib.Dec.{eqb}
@@ -10,7 +11,7 @@ use Rattle.refusal.specs.Refusal.{accepts, when, orElse}
 use Rattle.ordering.specs.declared.Part.{Part}
 use Rattle.ordering.specs.declared.Rule.{Rule}
 use Rattle.ordering.specs.Parts.{noPart}
-use Rattle.placing.specs.Call.{orderRefusal, orderAfter}
+use Rattle.placing.specs.Call.{orderRefusal, orderAfter, PlacingRule}
 
 -- a flag is set by every number but 0
 abbrev pub flag : ℕ → Bool
@@ -46,6 +47,11 @@ orderIn parts rules room = orElse (numbersRefusal parts rules) (orderRefusal (pa
 -- and the order buffer then
 unfoldable pub orderAfterIn : List ℕ → List ℕ → List ℕ → List ℕ
 orderAfterIn parts rules buffer = cond (accepts (numbersRefusal parts rules)) (orderAfter (partsIn parts) (rulesIn rules) buffer) buffer
+
+-- what the answer means, for numbers that are four a part and two a rule
+abbrev pub PlacingRuleIn : List ℕ → List ℕ → ℕ → List ℕ → Refusal → Type 0
+PlacingRuleIn parts rules room buffer r =
+    (numbersRefusal parts rules) .number ≡ 0 → PlacingRule (partsIn parts) (rulesIn rules) room buffer r
 
 -- an array of 128 places without a part
 unfoldable pub emptyParts : List Part

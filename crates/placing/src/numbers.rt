@@ -5,8 +5,7 @@ ghost use Prim.Native.Nat.{ℕ, _≤_, _<_, _/_};
 ghost use lib.ListN.{length};
 ghost use Rattle.placing.specs.Rows.{withRules};
 ghost use Rattle.placing.specs.Given.{partsOf};
-ghost use Rattle.placing.specs.Call.{PlacingRule};
-ghost use Rattle.placing.specs.Numbers.{partIn, partsIn, ruleIn, rulesIn, numbersRefusal, orderIn, orderAfterIn, emptyParts};
+ghost use Rattle.placing.specs.Numbers.{partIn, partsIn, ruleIn, rulesIn, orderIn, orderAfterIn, PlacingRuleIn, emptyParts};
 use crate::Parts;
 use crate::Rows;
 use crate::flags::start_rows;
@@ -87,8 +86,7 @@ fn with_rules_in(mut rows: Rows, numbers: &[u32]) -> Rows
 pub fn order_numbers(parts: &[u32], rules: &[u32], order: &mut [u8]) -> Refusal
     ensures refusal { λ r. ⌜ r ≡ orderIn (now (parts .entry)) (now (rules .entry)) (length (now (order .entry))) ⌝ }
     ensures order { λ _. ⌜ now (order .exit) ≡ orderAfterIn (now (parts .entry)) (now (rules .entry)) (now (order .entry)) ⌝ }
-    ensures rule { λ r. ⌜ ((numbersRefusal (now (parts .entry)) (now (rules .entry))) .number ≡ 0
-        → PlacingRule (partsIn (now (parts .entry))) (rulesIn (now (rules .entry))) (length (now (order .entry))) (now (order .exit)) r) ⌝ }
+    ensures rule { λ r. ⌜ PlacingRuleIn (now (parts .entry)) (now (rules .entry)) (length (now (order .entry))) (now (order .exit)) r ⌝ }
 {
     if parts.len() % 4 != 0 {
         return Refusal {
