@@ -1,5 +1,5 @@
 -- The placing order is the least that obeys; and which part precedes which by their flags.
-use Prim.Native.Nat.{ℕ, zero, suc, _+_, _<_}
+use Prim.Native.Nat.{ℕ, zero, suc, _+_, _≤_, _<_}
 use native.Mathlib.Numerals.{add-one}
 use native.Mathlib.Omega.{arith}
 use mathlib.Core.Path.{_≡_, ap, sym, _∙_}
@@ -10,10 +10,12 @@ use lib.ListN.{length, take, getD}
 use Rattle.model.specs.Count.{each}
 use Rattle.model.proofs.Tests.{and-right, and-in}
 use Rattle.model.proofs.Lists.{all-at, each-iff}
+use Rattle.model.proofs.Fails.{none-fails}
 use Rattle.ordering.specs.declared.Part.{Part}
 use Rattle.ordering.specs.declared.Rule.{Rule}
 use Rattle.ordering.specs.Order.{Least}
 use Rattle.ordering.specs.Parts.{noRule, partAt, names, ruled, finePitch, byFlags, windowOk, taskOf, placingOrder}
+use Rattle.ordering.specs.Call.{firstBad}
 use Rattle.ordering.proofs.Least.{least-order}
 
 or-left : (a b : Bool) → T a → T (a || b)
@@ -36,6 +38,10 @@ pub placing-order : (parts : List Part) (rules : List Rule) → T (each (windowO
     → Least (taskOf parts rules) (placingOrder parts rules)
 unfolding placingOrder
 placing-order parts rules w = least-order (taskOf parts rules) (last-below parts w)
+
+-- each window is good where the first bad one is past the parts
+pub windows-good : (parts : List Part) → length parts ≤ firstBad parts → T (each (windowOk (length parts)) parts)
+windows-good parts l = each-iff (windowOk (length parts)) parts .1 (none-fails (windowOk (length parts)) parts l)
 
 -- one rule more among the first i
 pub ruled-more : (rules : List Rule) (i a b : ℕ) → i < length rules

@@ -9,7 +9,6 @@ use lib.Seq.{getD-take, length-take-le}
 use Rattle.model.specs.Count.{each}
 use Rattle.model.proofs.Tests.{and-right}
 use Rattle.model.proofs.Lists.{all-at, each-iff}
-use Rattle.model.proofs.Fails.{none-fails}
 use Rattle.ordering.specs.declared.Part.{Part}
 use Rattle.ordering.specs.declared.Rule.{Rule}
 use Rattle.ordering.specs.Order.{Task}
@@ -20,7 +19,6 @@ use Rattle.ordering.proofs.Least.{least-order, least-unique}
 use Rattle.ordering.proofs.Parts.{placing-order}
 use Rattle.placing.specs.Sets.{hasPart}
 use Rattle.placing.specs.Flat.{rowAt, flatTask}
-use Rattle.placing.specs.Given.{firstBad}
 
 module _ (parts : List Part) (rules : List Rule) (n : ℕ) (e : length parts ≡ n) (firsts lasts low high : List ℕ) (room : n ≤ length lasts)
     (fs : (i : ℕ) → i < length parts → getD firsts i 0 ≡ partAt parts i .first)
@@ -52,7 +50,3 @@ module _ (parts : List Part) (rules : List Rule) (n : ℕ) (e : length parts ≡
   -- the least order by the flat arrays is the placing order
   pub flat-order : leastOrder t ≡ placingOrder parts rules
   flat-order = least-unique (least-agree agree (least-order t below)) (placing-order parts rules windows)
-
--- each window is good where the first bad one is past the parts
-pub windows-good : (parts : List Part) → length parts ≤ firstBad parts → T (each (windowOk (length parts)) parts)
-windows-good parts l = each-iff (windowOk (length parts)) parts .1 (none-fails (windowOk (length parts)) parts l)

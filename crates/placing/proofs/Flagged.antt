@@ -19,7 +19,8 @@ use Rattle.placing.specs.declared.Rows.{Rows}
 use Rattle.placing.specs.Sets.{hasPart, noParts, single, joined}
 use Rattle.placing.specs.Flat.{rowAt}
 use Rattle.placing.specs.Rows.{noRows, withRow}
-use Rattle.placing.specs.Given.{partsOf, firstBad, noPositions, flagRow}
+use Rattle.placing.specs.Given.{partsOf, noPositions, flagRow}
+use Rattle.ordering.specs.Call.{firstBad}
 use Rattle.placing.proofs.Members.{has-single, has-joined}
 use Rattle.placing.proofs.Lasts.{first-none}
 use Rattle.placing.proofs.Listed.{listed, listed-at}

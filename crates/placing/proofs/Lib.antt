@@ -11,6 +11,5 @@ pub mod Flagged
 pub mod Added
 pub mod Copied
 pub mod Answered
-pub mod Refused
-pub mod Ruling
+pub mod Judged
 pub mod Numbered

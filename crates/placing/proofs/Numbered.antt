@@ -19,12 +19,12 @@ use Rattle.placing.specs.declared.Parts.{Parts}
 use Rattle.placing.specs.declared.Rows.{Rows}
 use Rattle.placing.specs.Rows.{withRule, withRules}
 use Rattle.placing.specs.Given.{partsOf}
-use Rattle.placing.specs.Call.{orderRefusal, orderAfter}
+use Rattle.ordering.specs.Call.{orderRefusal, orderAfter}
 use Rattle.placing.specs.Numbers.{partIn, partsIn, ruleIn, rulesIn, numbersRefusal, orderIn, orderAfterIn, PlacingRuleIn, emptyParts}
 use Rattle.placing.proofs.Listed.{listed, listed-at}
 use Rattle.placing.proofs.Rules.{rules-rest, rules-end}
-use Rattle.placing.proofs.Refused.{over, refused-buffer}
-use Rattle.placing.proofs.Ruling.{placing-rule}
+use Rattle.ordering.proofs.Refused.{over, refused-buffer}
+use Rattle.ordering.proofs.Ruling.{placing-rule}
 
 pub empty-size : length emptyParts ≡ 128
 unfolding emptyParts

@@ -7,7 +7,7 @@ use lib.ListN.{length, replicate}
 use Rattle.model.specs.Count.{each, firstFail, listOf}
 use Rattle.ordering.specs.declared.Part.{Part}
 use Rattle.ordering.specs.declared.Rule.{Rule}
-use Rattle.ordering.specs.Parts.{partAt, finePitch, byFlags, before, windowOk, ruleOk}
+use Rattle.ordering.specs.Parts.{partAt, finePitch, byFlags, before, ruleOk}
 use Rattle.placing.specs.declared.PartSet.{PartSet}
 use Rattle.placing.specs.declared.Parts.{Parts}
 use Rattle.placing.specs.declared.Rows.{Rows}
@@ -17,10 +17,6 @@ use Rattle.placing.specs.Flat.{rowAt}
 -- the parts: as many of the array as are counted
 abbrev pub partsOf : Parts → List Part
 partsOf p = listOf (partAt (p .parts)) (p .count)
-
--- the place of the first part with a bad window; the number of parts where there is none
-abbrev pub firstBad : List Part → ℕ
-firstBad parts = firstFail (windowOk (length parts)) parts
 
 -- an array of 128 zeros
 unfoldable pub noPositions : List ℕ

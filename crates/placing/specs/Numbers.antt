@@ -11,7 +11,7 @@ use Rattle.refusal.specs.Refusal.{accepts, when, orElse}
 use Rattle.ordering.specs.declared.Part.{Part}
 use Rattle.ordering.specs.declared.Rule.{Rule}
 use Rattle.ordering.specs.Parts.{noPart}
-use Rattle.placing.specs.Call.{orderRefusal, orderAfter, PlacingRule}
+use Rattle.ordering.specs.Call.{orderRefusal, orderAfter, PlacingRule}
 
 -- a flag is set by every number but 0
 abbrev pub flag : ℕ → Bool

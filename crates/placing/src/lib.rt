@@ -1,9 +1,9 @@
-// The placing order.
+// The least placing order, without a search: the last positions are settled, then each position takes the lowest part that fits.
 ghost use mathlib.Core.Path.{_≡_};
 ghost use lib.ListN.{length};
 ghost use Rattle.placing.specs.Rows.{withRules};
 ghost use Rattle.placing.specs.Given.{partsOf};
-ghost use Rattle.placing.specs.Call.{orderRefusal, orderAfter, PlacingRule};
+ghost use Rattle.ordering.specs.Call.{orderRefusal, orderAfter, PlacingRule};
 
 mod flags;
 mod marking;

@@ -2,8 +2,9 @@
 ghost use mathlib.Core.Path.{_≡_};
 ghost use Prim.Native.Nat.{ℕ, _≤_, _<_};
 ghost use lib.ListN.{length, getD};
+ghost use Rattle.ordering.specs.Call.{firstBad};
 ghost use Rattle.ordering.specs.Parts.{partAt, windowOk};
-ghost use Rattle.placing.specs.Given.{partsOf, firstBad, noPositions};
+ghost use Rattle.placing.specs.Given.{partsOf, noPositions};
 use crate::Parts;
 use ordering::Part;
 

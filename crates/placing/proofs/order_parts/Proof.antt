@@ -44,11 +44,11 @@ use Rattle.ordering.specs.declared.Rule.{Rule}
 use Rattle.ordering.proofs.Rule as U
 use Rattle.placing.specs.Rows.{withRules}
 use Rattle.placing.specs.Given.{partsOf, Started, RowsFor}
-use Rattle.placing.specs.Call.{orderRefusal, orderAfter, PlacingRule}
+use Rattle.ordering.specs.Call.{orderRefusal, orderAfter, PlacingRule}
 use Rattle.placing.specs.declared.Parts.{Parts}
 use Rattle.placing.specs.declared.Rows.{Rows}
 use Rattle.placing.proofs.Added.{rows-for}
-use Rattle.placing.proofs.Ruling.{placing-rule}
+use Rattle.ordering.proofs.Ruling.{placing-rule}
 use Rattle.placing.proofs.Parts as P
 use Rattle.placing.proofs.Parts.Laws as P′
 use Rattle.placing.proofs.Rows as T

@@ -10,11 +10,11 @@ use Rattle.model.proofs.Tests.{passes, fails}
 use Rattle.refusal.specs.declared.Refusal.{Refusal}
 use Rattle.ordering.specs.Parts.{partAt, placingOrder}
 use Rattle.placing.specs.Given.{partsOf}
-use Rattle.placing.specs.Call.{orderRefusal}
+use Rattle.ordering.specs.Call.{orderRefusal}
 use Rattle.placing.proofs.Listed.{listed}
 use Rattle.placing.proofs.Copied.{bytes-size, prefix-back, prefix-room}
-use Rattle.placing.proofs.Refused.{over, bad-window, bad-rule, short, no-order, one-order, refused-buffer, accepted-buffer, rules-bad}
-use Rattle.placing.proofs.Refused.{rules-good}
+use Rattle.ordering.proofs.Refused.{over, bad-window, bad-rule, short, no-order, one-order, refused-buffer, accepted-buffer}
+use Rattle.placing.proofs.Judged.{rules-bad, rules-good}
 use borrow.Author.Needs.{needs}
 use Rattle.placing.proofs.placement.place.Statement.{statement}
 use Rattle.placing.proofs.placement.place.Tie as tie

@@ -4,10 +4,11 @@ use native.Mathlib.Omega.{arith}
 use lib.ListN.{length, take}
 use lib.Seq.{length-take-le}
 use Rattle.ordering.specs.Parts.{noPart, partAt}
+use Rattle.ordering.proofs.Parts.{windows-good}
 use Rattle.placing.specs.Given.{partsOf}
 use Rattle.placing.proofs.Listed.{listed, listed-at}
 use Rattle.placing.proofs.Flagged.{full}
-use Rattle.placing.proofs.Answered.{flat-order, windows-good}
+use Rattle.placing.proofs.Answered.{flat-order}
 use borrow.Author.Needs.{needs}
 use Rattle.placing.proofs.placement.search.Statement.{statement}
 use Rattle.placing.proofs.placement.search.Tie as tie

@@ -14,16 +14,14 @@ use Rattle.model.proofs.Tests.{cond-case, T-true}
 use Rattle.refusal.specs.declared.Refusal.{Refusal}
 use Rattle.refusal.specs.Refusal as R
 use Rattle.refusal.proofs.Laws.{or-none, or-next, when-none, when-taken, at-none}
 use Rattle.ordering.specs.declared.Part.{Part}
 use Rattle.ordering.specs.declared.Rule.{Rule}
 use Rattle.ordering.specs.Order.{Obeys, LexLe, Least}
 use Rattle.ordering.specs.Parts.{ruleOk, taskOf, placingOrder}
 use Rattle.ordering.proofs.Least.{least-obeys, least-at-most, least-none}
-use Rattle.ordering.proofs.Parts.{placing-order}
-use Rattle.placing.specs.Given.{firstBad}
-use Rattle.placing.specs.Call.{absent, partsRefusal, givenRefusal, orderRefusal, orderAfter, PlacingRule}
-use Rattle.placing.proofs.Answered.{windows-good}
-use Rattle.placing.proofs.Refused.{accepted-buffer}
+use Rattle.ordering.proofs.Parts.{windows-good, placing-order}
+use Rattle.ordering.specs.Call.{absent, firstBad, partsRefusal, givenRefusal, orderRefusal, orderAfter, PlacingRule}
+use Rattle.ordering.proofs.Refused.{accepted-buffer}
 
 -- what the number of each of two refusals is not, that of the first that applies is not
 or-not : {n : ℕ} (first next : Refusal) → (first .number ≡ n → ⊥) → (next .number ≡ n → ⊥) → (R.orElse first next) .number ≡ n → ⊥

@@ -6,12 +6,13 @@ use mathlib.Core.List.{List, []}
 use mathlib.Core.Option.{Option, none, some}
 use lib.Dec.{ltb}
 use lib.ListN.{length, take}
+use Rattle.model.specs.Count.{firstFail}
 use Rattle.refusal.specs.declared.Refusal.{Refusal}
 use Rattle.refusal.specs.Refusal.{when, orElse, scan, lentBy}
 use Rattle.ordering.specs.declared.Part.{Part}
 use Rattle.ordering.specs.declared.Rule.{Rule}
 use Rattle.ordering.specs.Order.{Obeys, LexLe}
 use Rattle.ordering.specs.Parts.{windowOk, ruleOk, taskOf, placingOrder}
 
 -- there is no order
 abbrev pub absent : Option (List ℕ) → Bool
@@ -22,6 +23,10 @@ absent (some order) = false
 abbrev pub ordered : Option (List ℕ) → List ℕ
 ordered none = []
 ordered (some order) = order
+
+-- the place of the first part with a bad window; the number of parts where there is none
+abbrev pub firstBad : List Part → ℕ
+firstBad parts = firstFail (windowOk (length parts)) parts
 
 -- 12 for over 128 parts, else at the first part with a bad window
 abbrev pub partsRefusal : List Part → Refusal

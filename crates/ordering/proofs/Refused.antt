@@ -1,26 +1,18 @@
 -- The answer of the call in each of its cases.
 use Prim.Native.Nat.{ℕ, _≤_, _<_}
-use native.Mathlib.Omega.{arith}
-use mathlib.Core.Path.{_≡_, refl, ap, sym, _∙_}
-use mathlib.Core.Logic.{⊎-elim}
-use mathlib.Core.Bool.{true, false}
+use mathlib.Core.Path.{_≡_, refl, ap}
 use mathlib.Core.List.{List, _++_}
 use mathlib.Core.Option.{none, some}
 use lib.ListN.{length, drop}
 use borrow.Author.Tests.{lt-ltb, le-ltb}
-use Rattle.model.specs.Count.{each, firstFail}
-use Rattle.model.proofs.Tests.{le-or-lt, T-true, true-T}
-use Rattle.model.proofs.Lists.{each-iff}
-use Rattle.model.proofs.Fails.{none-fails, fails-none}
+use Rattle.model.specs.Count.{firstFail}
 use Rattle.refusal.specs.declared.Refusal.{Refusal}
 use Rattle.refusal.specs.Refusal as R
 use Rattle.refusal.proofs.Laws.{lent-refused, lent-accepted}
 use Rattle.ordering.specs.declared.Part.{Part}
 use Rattle.ordering.specs.declared.Rule.{Rule}
 use Rattle.ordering.specs.Parts.{ruleOk, placingOrder}
-use Rattle.placing.specs.declared.Rows.{Rows}
-use Rattle.placing.specs.Given.{firstBad, RowsFor}
-use Rattle.placing.specs.Call.{ordered, givenRefusal, orderRefusal, orderAfter}
+use Rattle.ordering.specs.Call.{firstBad, ordered, givenRefusal, orderRefusal, orderAfter}
 
 module _ (parts : List Part) (rules : List Rule) where
   abbrev n : ℕ
@@ -72,14 +64,3 @@ module _ (parts : List Part) (rules : List Rule) where
         → order ++ drop n buffer ≡ orderAfter parts rules buffer
     unfolding orderAfter
     accepted-buffer order z h = lent-accepted {d = orderRefusal parts rules (length buffer)} refl n (ordered (placingOrder parts rules)) buffer z (ap ordered h)
-
-  module _ (rows : Rows) (r : RowsFor parts rules rows) where
-    pub rules-bad : rows .good ≡ false → q < length rules
-    rules-bad g =
-        ⊎-elim
-        (λ l. absurd (T-true {b = false} (sym g ∙ r .good ∙ true-T _ (each-iff (ruleOk n) rules .1 (none-fails (ruleOk n) rules l)))))
-        (λ l. l)
-        (le-or-lt (length rules) q)
-
-    pub rules-good : rows .good ≡ true → length rules ≤ q
-    rules-good g = omega (arith, fails-none (ruleOk n) (each-iff (ruleOk n) rules .0 (T-true (sym (r .good) ∙ g))))
