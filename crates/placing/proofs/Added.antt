@@ -13,11 +13,11 @@ use Rattle.ordering.specs.declared.Rule.{Rule}
 use Rattle.ordering.specs.Parts.{noPart, partAt, names, ruled, byFlags, before, ruleOk}
 use Rattle.placing.specs.declared.Parts.{Parts}
 use Rattle.placing.specs.declared.Rows.{Rows}
-use Rattle.placing.specs.Sets.{hasPart, single}
-use Rattle.placing.specs.Flat.{rowAt}
+use Rattle.flat_order.specs.Sets.{hasPart, single}
+use Rattle.flat_order.specs.Flat.{rowAt}
 use Rattle.placing.specs.Rows.{withRow, marked, spoiled, withRules}
 use Rattle.placing.specs.Given.{partsOf, Started, RowsFor}
-use Rattle.placing.proofs.Members.{has-single, has-joined}
+use Rattle.flat_order.proofs.Members.{has-single, has-joined}
 use Rattle.placing.proofs.Flagged.{row-set}
 use Rattle.placing.proofs.Listed.{listed, listed-at}
 use Rattle.placing.proofs.Rules.{rule-after, rule-bad, rule-good, rule-parts}

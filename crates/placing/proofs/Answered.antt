@@ -17,8 +17,8 @@ use Rattle.ordering.specs.Parts.{partAt, before, windowOk, taskOf, placingOrder
 use Rattle.ordering.proofs.Agree.{Agree, least-agree}
 use Rattle.ordering.proofs.Least.{least-order, least-unique}
 use Rattle.ordering.proofs.Parts.{placing-order}
-use Rattle.placing.specs.Sets.{hasPart}
-use Rattle.placing.specs.Flat.{rowAt, flatTask}
+use Rattle.flat_order.specs.Sets.{hasPart}
+use Rattle.flat_order.specs.Flat.{rowAt, flatTask}
 
 module _ (parts : List Part) (rules : List Rule) (n : ℕ) (e : length parts ≡ n) (firsts lasts low high : List ℕ) (room : n ≤ length lasts)
     (fs : (i : ℕ) → i < length parts → getD firsts i 0 ≡ partAt parts i .first)

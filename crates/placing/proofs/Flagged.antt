@@ -13,16 +13,16 @@ use Rattle.model.specs.Count.{firstFail}
 use Rattle.model.proofs.Tests.{le-or-lt, test, true-T, false-T}
 use Rattle.ordering.specs.declared.Part.{Part}
 use Rattle.ordering.specs.Parts.{noPart, partAt, finePitch, byFlags, windowOk}
-use Rattle.placing.specs.declared.PartSet.{PartSet}
+use Rattle.flat_order.specs.declared.PartSet.{PartSet}
 use Rattle.placing.specs.declared.Parts.{Parts}
 use Rattle.placing.specs.declared.Rows.{Rows}
-use Rattle.placing.specs.Sets.{hasPart, noParts, single, joined}
-use Rattle.placing.specs.Flat.{rowAt}
+use Rattle.flat_order.specs.Sets.{hasPart, noParts, single, joined}
+use Rattle.flat_order.specs.Flat.{rowAt}
 use Rattle.placing.specs.Rows.{noRows, withRow}
 use Rattle.placing.specs.Given.{partsOf, noPositions, flagRow}
 use Rattle.ordering.specs.Call.{firstBad}
-use Rattle.placing.proofs.Members.{has-single, has-joined}
-use Rattle.placing.proofs.Lasts.{first-none}
+use Rattle.flat_order.proofs.Members.{has-single, has-joined}
+use Rattle.flat_order.proofs.Lasts.{first-none}
 use Rattle.placing.proofs.Listed.{listed, listed-at}
 
 -- ---- sets by a test

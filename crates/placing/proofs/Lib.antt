@@ -1,11 +1,5 @@
 pub mod Walk
-pub mod Members
 pub mod Rules
-pub mod Lasts
-pub mod Settled
-pub mod Counts
-pub mod Tight
-pub mod Picks
 pub mod Listed
 pub mod Flagged
 pub mod Added

@@ -8,11 +8,11 @@ use Rattle.model.specs.Count.{each, firstFail, listOf}
 use Rattle.ordering.specs.declared.Part.{Part}
 use Rattle.ordering.specs.declared.Rule.{Rule}
 use Rattle.ordering.specs.Parts.{partAt, finePitch, byFlags, before, ruleOk}
-use Rattle.placing.specs.declared.PartSet.{PartSet}
+use Rattle.flat_order.specs.declared.PartSet.{PartSet}
 use Rattle.placing.specs.declared.Parts.{Parts}
 use Rattle.placing.specs.declared.Rows.{Rows}
-use Rattle.placing.specs.Sets.{hasPart, noParts, joined}
-use Rattle.placing.specs.Flat.{rowAt}
+use Rattle.flat_order.specs.Sets.{hasPart, noParts, joined}
+use Rattle.flat_order.specs.Flat.{rowAt}
 
 -- the parts: as many of the array as are counted
 abbrev pub partsOf : Parts → List Part

@@ -4,16 +4,16 @@ ghost use mathlib.Core.Bool.{cond, not, _&&_};
 ghost use Prim.Native.Nat.{ℕ, _≤_};
 ghost use lib.Dec.{ltb};
 ghost use Rattle.ordering.specs.Parts.{partAt, finePitch};
-ghost use Rattle.placing.specs.Sets.{hasPart, noParts};
+ghost use Rattle.flat_order.specs.Sets.{hasPart, noParts};
 ghost use Rattle.placing.specs.Given.{flagRow, Started};
-use crate::PartSet;
 use crate::Parts;
 use crate::Rows;
 use crate::marking::at_most_128;
 use crate::marking::no_rows;
 use crate::marking::with_row;
-use crate::sets::join;
-use crate::sets::single_part;
+use flat_order::PartSet;
+use flat_order::sets::join;
+use flat_order::sets::single_part;
 use ordering::Part;
 
 fn when(test: bool, s: PartSet) -> PartSet

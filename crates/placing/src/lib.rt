@@ -8,11 +8,7 @@ ghost use Rattle.ordering.specs.Call.{orderRefusal, orderAfter, PlacingRule};
 mod flags;
 mod marking;
 pub mod numbers;
-mod picking;
 mod placement;
-mod searching;
-mod sets;
-mod settling;
 mod windows;
 
 use crate::flags::start_rows;
@@ -21,12 +17,6 @@ use crate::placement::place;
 use ordering::Part;
 use ordering::Rule;
 use refusal::Refusal;
-
-// A set of parts: part x is bit x of `low`, and from 64 on bit x - 64 of `high`.
-pub struct PartSet {
-    pub low: u64,
-    pub high: u64,
-}
 
 // The parts are the first `count`.
 pub struct Parts {

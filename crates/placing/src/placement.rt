@@ -11,10 +11,10 @@ ghost use Rattle.placing.specs.Given.{partsOf, noBytes, RowsFor};
 ghost use Rattle.ordering.specs.Call.{firstBad, orderRefusal, orderAfter};
 use crate::Parts;
 use crate::Rows;
-use crate::searching::least_order;
 use crate::windows::first_bad_window;
 use crate::windows::firsts_of;
 use crate::windows::lasts_of;
+use flat_order::least_order;
 use refusal::Refusal;
 
 fn no_bytes() -> [u8; 128]

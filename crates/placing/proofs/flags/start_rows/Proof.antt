@@ -4,7 +4,7 @@ use mathlib.Core.Bool.{not, _&&_}
 use native.Mathlib.Omega.{arith}
 use borrow.Author.Tests.{lt-ltb}
 use Rattle.ordering.specs.Parts.{partAt, finePitch}
-use Rattle.placing.specs.Sets.{hasPart}
+use Rattle.flat_order.specs.Sets.{hasPart}
 use Rattle.placing.proofs.Flagged.{Rowed, rowed-none, rowed-more}
 use borrow.Author.Needs.{needs}
 use Rattle.placing.proofs.flags.start_rows.Statement.{statement}
