@@ -10,8 +10,9 @@ use mathlib.Core.List.{List}
 use lib.Dec.{T, ltb, eqb, ltb→lt, lt→ltb, eqb→eq, eqb-refl, not-T}
 use lib.ListN.{length, getD, set, take, length-set}
 use lib.Seq.{take-all, getD-set-other}
-use Rattle.model.specs.Count.{listOf, lowestAt}
+use Rattle.model.specs.Count.{listOf, largest, lowestAt}
 use Rattle.model.proofs.Tests.{same-test, false-T, le-or-lt, cond-case}
+use Rattle.model.proofs.Largest.{largest-ge, lowest-lt, lowest-attains}
 use Rattle.model.proofs.ListOf.{filled-more}
 use Rattle.flat_order.specs.declared.PartSet.{PartSet}
 use Rattle.flat_order.specs.Sets.{hasPart, single, joined}
@@ -41,15 +42,18 @@ first-more all i h x = has-joined all (single i) x ∙ rw (h x, has-single i x) 
         right true b u = tt
         right false b u = u
 
--- one part more is compared
-pub heavier-more : (f : ℕ → ℕ) (i : ℕ) → lowestAt f (i + 1) ≡ cond (ltb (f (lowestAt f i)) (f i)) i (lowestAt f i)
+-- one part more is compared, with the largest so far
+pub heavier-more : (f : ℕ → ℕ) (i : ℕ) → lowestAt f (i + 1) ≡ cond (ltb (largest f i) (f i)) i (lowestAt f i)
 unfolding lowestAt
-heavier-more f i = rw add-one
-
-pub lowest-in : (f : ℕ → ℕ) (i : ℕ) → lowestAt f i ≤ i
-unfolding lowestAt
-lowest-in f zero = le-refl 0
-lowest-in f (suc i) = cond-case (λ r. r ≤ suc i) (ltb (f (lowestAt f i)) (f i)) (λ _. omega arith) (λ _. omega (arith, lowest-in f i))
+heavier-more f zero = same (ltb (f 0) (f 0)) ∙ sym (same (ltb (largest f 0) (f 0)))
+  where
+    same : (b : Bool) → cond b 0 0 ≡ zero
+    same true = refl
+    same false = refl
+heavier-more f (suc i) =
+    let e : f (lowestAt f (suc i)) ≡ largest f (suc i) =
+    omega (arith, lowest-attains f (suc i), largest-ge f (suc i) (lowestAt f (suc i)) (lowest-lt f (suc i) (omega arith))) in
+    rw (add-one, ← e)
 
 -- the first i last positions are capped, and the others are as they were
 pub record Capped (earlier : PartSet) (limit : ℕ) (lasts : List ℕ) (i : ℕ) (now : List ℕ) : Type 0 where

@@ -1,5 +1,5 @@
 -- Laws of sets of parts: which parts are in one part's set, in two sets joined, in one without the other; and when two have no part in common.
-use Prim.Native.Nat.{ℕ, zero, suc, _+_, _*_, _-_, _/_, _%_, _^_, _≤_, _<_, max}
+use Prim.Native.Nat.{ℕ, zero, suc, _+_, _*_, _-_, _/_, _%_, _^_, _≤_, _<_}
 use native.Mathlib.Omega.{arith}
 use native.Mathlib.Nat.{mod-eq-of-lt, one-mul}
 use mathlib.Core.Path.{_≡_, refl, ap, sym, _∙_}

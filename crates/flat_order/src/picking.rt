@@ -1,14 +1,12 @@
 // The least order by flat arrays, position by position. Slices have a place for each part.
 ghost use mathlib.Core.Path.{_≡_};
-ghost use mathlib.Core.Bool.{Bool, true, cond, _&&_};
-ghost use mathlib.Core.List.{List};
+ghost use mathlib.Core.Bool.{true, cond, _&&_};
 ghost use mathlib.Core.Option.{some, none};
 ghost use Prim.Native.Nat.{ℕ, _+_, _≤_, _<_};
-ghost use lib.Dec.{ltb, leb, eqb};
+ghost use lib.Dec.{ltb, leb};
 ghost use lib.ListN.{length, getD};
 ghost use Rattle.ordering.specs.Number.{number, lowest};
 ghost use Rattle.ordering.specs.Least.{greedy};
-ghost use Rattle.flat_order.specs.Sets.{hasPart};
 ghost use Rattle.flat_order.specs.Flat.{rowAt, noCounts, isDue, endsAt, tightOf, canStand, flatTask, SizedFor};
 use crate::PartSet;
 use crate::sets::has_part;

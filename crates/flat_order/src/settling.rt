@@ -1,10 +1,10 @@
 // The last positions, settled along the rows. Slices have a place for each part.
 ghost use mathlib.Core.Path.{_≡_};
 ghost use mathlib.Core.Bool.{cond};
-ghost use Prim.Native.Nat.{ℕ, _-_, _≤_, _<_, min};
+ghost use Prim.Native.Nat.{ℕ, _-_, _≤_, _<_, min, max};
 ghost use mathlib.Core.List.{List};
 ghost use lib.Dec.{ltb};
-ghost use lib.ListN.{length, getD};
+ghost use lib.ListN.{length};
 ghost use Rattle.model.specs.Count.{lowestAt};
 ghost use Rattle.ordering.specs.Least.{lastsOf};
 ghost use Rattle.flat_order.specs.Sets.{hasPart};
@@ -56,6 +56,12 @@ fn heavier(a: usize, b: usize, wa: usize, wb: usize) -> usize
     if wa < wb { b } else { a }
 }
 
+fn larger(a: usize, b: usize) -> usize
+    ensures { λ r. ⌜ r ≡ max a b ⌝ }
+{
+    if a < b { b } else { a }
+}
+
 // The part left whose last position is least.
 fn earliest_part(left: PartSet, lasts: &[usize]) -> usize
     requires { ⌜ length (now lasts) ≤ 128 ⌝ }
@@ -63,11 +69,12 @@ fn earliest_part(left: PartSet, lasts: &[usize]) -> usize
 {
     let n = lasts.len();
     let mut best = 0;
+    let mut most = 0;
     let mut i = 0;
     while i < n {
-        let at_best = weight(has_part(left, best), n, lasts[best]);
-        let at_i = weight(has_part(left, i), n, lasts[i]);
-        best = heavier(best, i, at_best, at_i);
+        let here = weight(has_part(left, i), n, lasts[i]);
+        best = heavier(best, i, most, here);
+        most = larger(most, here);
         i += 1;
     }
     best

@@ -1,7 +1,6 @@
 // The placing order for parts and rules as plain numbers: four numbers a part, two a rule.
 ghost use mathlib.Core.Path.{_≡_};
-ghost use mathlib.Core.List.{List};
-ghost use Prim.Native.Nat.{ℕ, _≤_, _<_, _/_};
+ghost use Prim.Native.Nat.{_≤_, _<_, _/_};
 ghost use lib.ListN.{length};
 ghost use Rattle.placing.specs.Rows.{withRules};
 ghost use Rattle.placing.specs.Given.{partsOf};

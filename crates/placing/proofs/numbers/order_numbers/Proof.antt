@@ -1,5 +1,4 @@
 use native.Mathlib.Omega.{arith}
-use mathlib.Core.Path.{_∙_}
 use Rattle.placing.specs.Numbers.{rulesIn}
 use Rattle.placing.proofs.Added.{rows-for}
 use Rattle.placing.proofs.Numbered.{misfit-parts, misfit-rules, fit-answer}
