@@ -56,7 +56,8 @@ module _ (parts : List Part) (rules : List Rule) where
 
   module _ (buffer : List ℕ) where
     -- after a refusal the buffer is as it was
-    pub refused-buffer : {r : Refusal} → r ≡ orderRefusal parts rules (length buffer) → (r .number ≡ 0 → ⊥) → buffer ≡ orderAfter parts rules buffer
+    pub refused-buffer : {r : Refusal} → r ≡ orderRefusal parts rules (length buffer) → (r .number ≡ 0 → ⊥)
+        → buffer ≡ orderAfter parts rules buffer
     unfolding orderAfter
     refused-buffer e z = lent-refused e n (ordered (placingOrder parts rules)) buffer z
 

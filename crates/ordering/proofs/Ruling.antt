@@ -72,7 +72,8 @@ module _ (parts : List Part) (rules : List Rule) (room : ℕ) where
       thirteen : Refusal
       thirteen = R.refuseAt 13 (firstFail (ruleOk n) rules) (length rules)
 
-      no : (test : Bool) (number place : ℕ) → (number ≡ 29 → ⊥) → (cond {A = Refusal} test (record { number = number; place = place }) R.none) .number ≡ 29 → ⊥
+      no : (test : Bool) (number place : ℕ) → (number ≡ 29 → ⊥)
+          → (cond {A = Refusal} test (record { number = number; place = place }) R.none) .number ≡ 29 → ⊥
       no test number place a = cond-case (λ (r : Refusal). r .number ≡ 29 → ⊥) test (λ _. a) (λ _ e. omega (arith, e))
 
   accepted-some : (orderRefusal parts rules room) .number ≡ 0 → (given .number ≡ 0) × ((order : List ℕ) × (some order ≡ placingOrder parts rules))

@@ -43,7 +43,8 @@ loop-less c = search needs
 loop-again : tie.Need-loop-again Inv-loop μ-loop
 loop-again c =
     let l = c .before .before .loop in
-    (search needs, l .inv .1, length-set (l .parts) (l .i) _ ∙ l .inv .2, part-more _ (l .parts) (l .i) _ (omega (arith, l .inv .2)) (c .part-in .ensures) (l .inv .3))
+    let long : l .i < length (l .parts) = omega (arith, l .inv .2) in
+    (search needs, l .inv .1, length-set (l .parts) (l .i) _ ∙ l .inv .2, part-more _ (l .parts) (l .i) _ long (c .part-in .ensures) (l .inv .3))
 
 returns-2 : tie.Need-returns-2 Inv-loop μ-loop
 returns-2 c =

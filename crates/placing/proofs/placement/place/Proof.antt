@@ -50,7 +50,8 @@ returns-3 c =
     let g = fails {x = a .rows .good} refl (c .if3 .taken) in
     let b = r few .bad g in
     let e : record { number = 13; place = a .rows .bad } ≡ orderRefusal (partsOf (a .parts)) rules (length (a .order .now)) =
-    rw b (bad-rule (partsOf (a .parts)) rules (length (a .order .now)) (omega (arith, size)) (omega (arith, size, w .ensures)) (rules-bad (partsOf (a .parts)) rules (a .rows) (r few) g)) in
+    rw b (bad-rule (partsOf (a .parts)) rules (length (a .order .now)) (omega (arith, size))
+    (omega (arith, size, w .ensures)) (rules-bad (partsOf (a .parts)) rules (a .rows) (r few) g)) in
     (e, refused-buffer (partsOf (a .parts)) rules (a .order .now) e (λ z. omega (arith, z)))
 
 -- the rules are good where the rows are
@@ -102,7 +103,8 @@ returns-5 c =
     let g = rows-good (c .before .before .before .before .before .before) in
     let z : s .result ≡ false = fails {x = s .result} refl (c .if5 .taken) in
     let o : none ≡ placingOrder (partsOf (a .parts)) rules = ap (λ b. cond b (some (s .last .1 .1 .0)) none) (sym z) ∙ s .ensures rules (r few) g in
-    let e = no-order (partsOf (a .parts)) rules (length (a .order .now)) (omega (arith, size)) (omega (arith, size, w .ensures)) (rules-good (partsOf (a .parts)) rules (a .rows) (r few) g)
+    let e = no-order (partsOf (a .parts)) rules (length (a .order .now)) (omega (arith, size))
+    (omega (arith, size, w .ensures)) (rules-good (partsOf (a .parts)) rules (a .rows) (r few) g)
     (omega (arith, size)) o in
     (e, refused-buffer (partsOf (a .parts)) rules (a .order .now) e (λ z. omega (arith, z)))
 
@@ -150,7 +152,8 @@ returns-6 c =
     let o = s .last .1 .1 .0 in
     let z : s .result ≡ true = passes {x = s .result} refl (c .before .before .before .before .before .if5 .left) in
     let h : some o ≡ placingOrder (partsOf (a .parts)) rules = ap (λ b. cond b (some o) none) (sym z) ∙ s .ensures rules (r few) g in
-    let e = one-order (partsOf (a .parts)) rules (length (a .order .now)) (omega (arith, size)) (omega (arith, size, w .ensures)) (rules-good (partsOf (a .parts)) rules (a .rows) (r few) g)
+    let e = one-order (partsOf (a .parts)) rules (length (a .order .now)) (omega (arith, size))
+    (omega (arith, size, w .ensures)) (rules-good (partsOf (a .parts)) rules (a .rows) (r few) g)
     (omega (arith, size)) o h in
     let t = prefix-back o (c .before .before .before .before .before .before .before .before .before .no-bytes .result) n
     (found-size (c .before .before .before .before .before .before .before)) in

@@ -1,5 +1,6 @@
 use Prim.Native.Nat.{_/_}
 use lib.ListN.{length}
+use Rattle.refusal.specs.declared.Refusal.{Refusal}
 use Rattle.placing.specs.Numbers.{PlacingRuleIn}
 use Rattle.file_calls.specs.declared.Outcome.{Outcome}
 use Rattle.tipshare_c.specs.Order.{orderOutcome, orderedIn}
@@ -50,7 +51,8 @@ returns-2 c =
     let four = put .put-answer .ensures in
     let (told, (left, rule)) = asked .order-numbers .ensures in
     let outcome = made .order-outcome .ensures ∙ ap (λ r. orderOutcome r (length parts / 4)) told in
-    let same = sym (ap (λ (o : Outcome). o .refusal) (made .order-outcome .ensures)) ∙ ap (λ (o : Outcome). o .refusal) (seen-is outcome old long four) in
+    let refusal : Outcome → Refusal = λ o. o .refusal in
+    let same = sym (ap refusal (made .order-outcome .ensures)) ∙ ap refusal (seen-is outcome old long four) in
     let Rule = PlacingRuleIn parts (s .args .rules .now) (length (s .args .order .now)) (asked .order-numbers .last .1 .1 .0) in
     (number-long outcome old long four, (answer-long outcome old long four, (left ∙ if-long old _ _ long, λ _. subst Rule same rule)))
 
