@@ -64,4 +64,5 @@ module _ (parts : List Part) (rules : List Rule) where
     pub accepted-buffer : (order : List ℕ) → (orderRefusal parts rules (length buffer)) .number ≡ 0 → some order ≡ placingOrder parts rules
         → order ++ drop n buffer ≡ orderAfter parts rules buffer
     unfolding orderAfter
-    accepted-buffer order z h = lent-accepted {d = orderRefusal parts rules (length buffer)} refl n (ordered (placingOrder parts rules)) buffer z (ap ordered h)
+    accepted-buffer order z h =
+        lent-accepted {d = orderRefusal parts rules (length buffer)} refl n (ordered (placingOrder parts rules)) buffer z (ap ordered h)
