@@ -98,16 +98,21 @@ template <typename Least> [[gnu::always_inline]] inline uint32_t answer_order(co
     return job::answered(lent.answer, TIPSHARE_ACCEPTED, 0, given.count, 0, 0);
 }
 
-/* The same steps as the proved library, in plain loops. */
+/* The same steps as the proved library, in plain loops over bytes. */
 class Plain {
 public:
-    explicit Plain(const Given &given) : given(given), count(given.count)
+    explicit Plain(const Given &given) : count(given.count)
     {
-        memset(before, 0, sizeof before);
+        for (size_t part = 0; part < count; part++) {
+            first[part] = static_cast<uint8_t>(given.first(part));
+            last[part] = static_cast<uint8_t>(given.last(part));
+            is_fine[part] = given.is_fine(part);
+            is_tall[part] = given.is_tall(part);
+        }
         for (size_t one = 0; one < count; one++) {
+            const uint8_t fine = is_fine[one], not_tall = is_tall[one] ^ 1;
             for (size_t other = 0; other < count; other++) {
-                before[one][other] = (given.is_fine(one) && !given.is_fine(other)) ||
-                                     (!given.is_tall(one) && given.is_tall(other));
+                before[one][other] = static_cast<uint8_t>((fine & ~is_fine[other]) | (not_tall & is_tall[other]));
             }
         }
         for (size_t rule = 0; rule < given.rule_count; rule++) {
@@ -118,27 +123,21 @@ public:
     bool least(uint8_t *order)
     {
         settle();
-        for (size_t part = 0; part < count; part++) {
-            is_left[part] = true;
-            waits[part] = 0;
-            for (size_t one = 0; one < count; one++) {
-                waits[part] += before[one][part];
-            }
-        }
+        count_waits();
         for (size_t position = 0; position < count; position++) {
             const size_t bound = full_up_to(position);
             size_t part = 0;
-            while (part < count && !(is_left[part] && given.first(part) <= position && last[part] <= bound &&
-                                     waits[part] == 0)) {
+            while (part < count &&
+                   (waits[part] != 0 || left[part] == 0 || last[part] > bound || first[part] > position)) {
                 part++;
             }
             if (bound == count || part == count) {
                 return false;
             }
             order[position] = static_cast<uint8_t>(part);
-            is_left[part] = false;
+            left[part] = 0;
             for (size_t other = 0; other < count; other++) {
-                waits[other] -= before[part][other];
+                waits[other] = static_cast<uint8_t>(waits[other] - before[part][other]);
             }
         }
         return true;
@@ -148,22 +147,33 @@ private:
     /* Each part once, by rising last position: those before it end no later. */
     void settle()
     {
-        bool settled[kMostParts] = {};
-        for (size_t part = 0; part < count; part++) {
-            last[part] = given.last(part);
-        }
+        uint8_t settled[kMostParts] = {};
         for (size_t turn = 0; turn < count; turn++) {
             size_t nearest = count;
+            unsigned end = kMostParts;
             for (size_t part = 0; part < count; part++) {
-                if (!settled[part] && (nearest == count || last[part] < last[nearest])) {
+                if (settled[part] == 0 && last[part] < end) {
                     nearest = part;
+                    end = last[part];
                 }
             }
-            settled[nearest] = true;
+            settled[nearest] = 1;
             for (size_t one = 0; one < count; one++) {
-                if (before[one][nearest] && last[nearest] < last[one]) {
-                    last[one] = last[nearest];
+                if (before[one][nearest] != 0 && end < last[one]) {
+                    last[one] = static_cast<uint8_t>(end);
                 }
+            }
+        }
+    }
+
+    /* How many parts must be before each, all of which are left. */
+    void count_waits()
+    {
+        memset(left, 1, count);
+        memset(waits, 0, count);
+        for (size_t one = 0; one < count; one++) {
+            for (size_t other = 0; other < count; other++) {
+                waits[other] = static_cast<uint8_t>(waits[other] + before[one][other]);
             }
         }
     }
@@ -171,9 +181,9 @@ private:
     /* The nearest end up to which the parts left fill every position from here; the number of parts where they are too many. */
     size_t full_up_to(size_t position) const
     {
-        size_t ending[kMostParts] = {};
+        uint8_t ending[kMostParts] = {};
         for (size_t part = 0; part < count; part++) {
-            ending[last[part]] += is_left[part];
+            ending[last[part]] = static_cast<uint8_t>(ending[last[part]] + left[part]);
         }
         size_t parts = 0;
         for (size_t end = 0; end < count; end++) {
@@ -181,39 +191,46 @@ private:
             if (parts > (end < position ? 0 : end + 1 - position)) {
                 return count;
             }
-            if (end >= position && parts + position == end + 1) {
+            if (end >= position && parts == end + 1 - position) {
                 return end;
             }
         }
         return count;
     }
 
-    const Given &given;
     const size_t count;
     uint8_t before[kMostParts][kMostParts];
-    size_t last[kMostParts];
-    bool is_left[kMostParts];
-    uint32_t waits[kMostParts];
+    uint8_t first[kMostParts];
+    uint8_t last[kMostParts];
+    uint8_t is_fine[kMostParts];
+    uint8_t is_tall[kMostParts];
+    uint8_t left[kMostParts];
+    uint8_t waits[kMostParts];
 };
 
 /* A set of parts, 64 a word. */
 struct Parts {
-    uint64_t low;
-    uint64_t high;
+    uint64_t word[2];
 
-    static Parts one(size_t part)
-    {
-        return part < 64 ? Parts{uint64_t{1} << part, 0} : Parts{0, uint64_t{1} << (part - 64)};
-    }
-    bool any() const { return (low | high) != 0; }
-    bool has(size_t part) const { return ((part < 64 ? low : high) >> part % 64 & 1) != 0; }
+    bool any() const { return (word[0] | word[1]) != 0; }
+    bool has(size_t part) const { return (word[part / 64] >> part % 64 & 1) != 0; }
     /* The lowest of a set that is not empty. */
-    size_t lowest() const { return low != 0 ? job::lowest(low) : 64 + job::lowest(high); }
-    void put(size_t part) { (part < 64 ? low : high) |= uint64_t{1} << part % 64; }
-    void take(size_t part) { (part < 64 ? low : high) &= ~(uint64_t{1} << part % 64); }
-    friend Parts operator&(Parts a, Parts b) { return {a.low & b.low, a.high & b.high}; }
-    friend Parts operator|(Parts a, Parts b) { return {a.low | b.low, a.high | b.high}; }
-    friend Parts operator~(Parts a) { return {~a.low, ~a.high}; }
+    size_t lowest() const { return word[0] != 0 ? job::lowest(word[0]) : 64 + job::lowest(word[1]); }
+    void put(size_t part) { word[part / 64] |= uint64_t{1} << part % 64; }
+    void take(size_t part) { word[part / 64] &= ~(uint64_t{1} << part % 64); }
+    friend Parts operator&(Parts a, Parts b) { return {{a.word[0] & b.word[0], a.word[1] & b.word[1]}}; }
+    friend Parts operator|(Parts a, Parts b) { return {{a.word[0] | b.word[0], a.word[1] | b.word[1]}}; }
+    friend Parts operator~(Parts a) { return {{~a.word[0], ~a.word[1]}}; }
+
+    /* Does this with each part, the lowest first. */
+    template <typename Do> [[gnu::always_inline]] void each(const Do &with) const
+    {
+        for (size_t at = 0; at < 2; at++) {
+            for (uint64_t rest = word[at]; rest != 0; rest &= rest - 1) {
+                with(64 * at + job::lowest(rest));
+            }
+        }
+    }
 };
 
 /*
@@ -249,18 +266,21 @@ private:
 
     void list_before()
     {
-        Parts fine{0, 0}, tall{0, 0};
-        all = {0, 0};
+        Parts fine{}, tall{};
+        all = {};
         for (size_t part = 0; part < count; part++) {
-            all.put(part);
-            fine = given.is_fine(part) ? fine | Parts::one(part) : fine;
-            tall = given.is_tall(part) ? tall | Parts::one(part) : tall;
+            const size_t at = part / 64;
+            all.word[at] |= uint64_t{1} << part % 64;
+            fine.word[at] |= uint64_t{given.is_fine(part)} << part % 64;
+            tall.word[at] |= uint64_t{given.is_tall(part)} << part % 64;
         }
         const Parts not_tall = all & ~tall;
         for (size_t part = 0; part < count; part++) {
-            const Parts by_pitch = fine.has(part) ? Parts{0, 0} : fine;
-            const Parts by_height = tall.has(part) ? not_tall : Parts{0, 0};
-            before[part] = by_pitch | by_height;
+            // All bits or none.
+            const uint64_t by_pitch = uint64_t{fine.has(part)} - 1, by_height = -uint64_t{tall.has(part)};
+            for (size_t at = 0; at < 2; at++) {
+                before[part].word[at] = (fine.word[at] & by_pitch) | (not_tall.word[at] & by_height);
+            }
         }
         for (size_t rule = 0; rule < given.rule_count; rule++) {
             before[given.later(rule)].put(given.earlier(rule));
@@ -275,7 +295,7 @@ private:
         for (size_t part = 0; part < count; part++) {
             ending[given.last(part)].put(part);
         }
-        Parts settled{0, 0};
+        Parts settled{};
         size_t parts = 0;
         for (size_t end = 0; end < count; end++) {
             for (Parts now = ending[end] & ~settled; now.any();) {
@@ -303,20 +323,16 @@ private:
         memset(beginning, 0, count * sizeof beginning[0]);
         for (size_t part = 0; part < count; part++) {
             beginning[given.first(part)].put(part);
-            waiting[part] = {0, 0};
+            waiting[part] = {};
         }
         left = all;
-        ready = {0, 0};
+        ready = {};
     }
 
     /* Parts that begin here are ready, or wait for one that is before them. */
     void open(size_t position)
     {
-        for (Parts parts = beginning[position]; parts.any();) {
-            const size_t part = parts.lowest();
-            parts.take(part);
-            look_at(part);
-        }
+        beginning[position].each([&](size_t part) { look_at(part); });
     }
 
     void look_at(size_t part)
@@ -333,11 +349,7 @@ private:
     {
         left.take(part);
         ready.take(part);
-        for (Parts parts = waiting[part]; parts.any();) {
-            const size_t other = parts.lowest();
-            parts.take(other);
-            look_at(other);
-        }
+        waiting[part].each([&](size_t other) { look_at(other); });
         count_down(last[part]);
     }
 

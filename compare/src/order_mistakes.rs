@@ -72,7 +72,7 @@ const OF_PARTS: &[OrderMistake] = &[
     ("the last part's positions are not looked at", |lent| {
         on_parts(lent, |parts| {
             let count = (parts.len() / PART_PLACES) as u32;
-            if let Some(part) = parts.chunks_mut(PART_PLACES).next_back() {
+            if let Some(part) = parts.chunks_exact_mut(PART_PLACES).next_back() {
                 if part[0] <= part[1] && part[1] < count {
                     (part[0], part[1]) = (0, count - 1)
                 }
@@ -84,7 +84,7 @@ const OF_PARTS: &[OrderMistake] = &[
 const OF_RULES: &[OrderMistake] = &[
     ("rules are not looked at", |lent| on_rules(lent, |_, rules| rules.clear())),
     ("rules are read the other way round", |lent| {
-        on_rules(lent, |_, rules| rules.chunks_mut(RULE_PLACES).for_each(|rule| rule.swap(0, 1)))
+        on_rules(lent, |_, rules| rules.chunks_exact_mut(RULE_PLACES).for_each(|rule| rule.swap(0, 1)))
     }),
     ("the first rule is passed over", |lent| {
         on_rules(lent, |_, rules| {
@@ -97,10 +97,13 @@ const OF_RULES: &[OrderMistake] = &[
         on_rules(lent, |_, rules| rules.truncate(rules.len().saturating_sub(RULE_PLACES)))
     }),
     ("only 128 rules are looked at", |lent| on_rules(lent, |_, rules| rules.truncate(128 * RULE_PLACES))),
+    ("the number of rules has 16 bits", |lent| {
+        on_rules(lent, |_, rules| rules.truncate(rules.len() / RULE_PLACES % 65_536 * RULE_PLACES))
+    }),
     ("only 1,024 rules are looked at", |lent| on_rules(lent, |_, rules| rules.truncate(1024 * RULE_PLACES))),
     ("more than 8,128 rules are refused", |lent| refused_where(lent, |_, rules| rules > 8128, 13)),
     ("a rule that stands twice is refused", |lent| {
-        let mut rules: Vec<Vec<u32>> = lent.rules.inside().chunks(RULE_PLACES).map(<[u32]>::to_vec).collect();
+        let mut rules: Vec<Vec<u32>> = lent.rules.inside().chunks_exact(RULE_PLACES).map(<[u32]>::to_vec).collect();
         rules.sort_unstable();
         if rules.windows(2).any(|pair| pair[0] == pair[1]) {
             return refused_where(lent, |_, _| true, 13);
@@ -137,7 +140,7 @@ const OF_ORDERS: &[OrderMistake] = &[
     ("the highest part is taken", |lent| {
         let returned = with(lent, |parts, rules| {
             let count = (parts.len() / PART_PLACES) as u32;
-            let turned: Vec<u32> = parts.chunks(PART_PLACES).rev().flatten().copied().collect();
+            let turned: Vec<u32> = parts.chunks_exact(PART_PLACES).rev().flatten().copied().collect();
             *parts = turned;
             rules.iter_mut().filter(|part| **part < count).for_each(|part| *part = count - 1 - *part);
         });
@@ -152,13 +155,13 @@ const OF_ORDERS: &[OrderMistake] = &[
         // The same parts placed from the other end: positions, flags and rules turned round.
         let returned = with(lent, |parts, rules| {
             let last = (parts.len() / PART_PLACES).max(1) as u32 - 1;
-            if parts.chunks(PART_PLACES).all(|part| part[0] <= part[1] && part[1] <= last) {
-                for part in parts.chunks_mut(PART_PLACES) {
+            if parts.chunks_exact(PART_PLACES).all(|part| part[0] <= part[1] && part[1] <= last) {
+                for part in parts.chunks_exact_mut(PART_PLACES) {
                     (part[0], part[1]) = (last - part[1], last - part[0]);
                     // From the other end tall parts come first.
                     part.swap(2, 3);
                 }
-                rules.chunks_mut(RULE_PLACES).for_each(|rule| rule.swap(0, 1));
+                rules.chunks_exact_mut(RULE_PLACES).for_each(|rule| rule.swap(0, 1));
             }
         });
         if returned == 0 {
@@ -211,7 +214,7 @@ const OF_REFUSALS: &[OrderMistake] = &[
         let parts = lent.parts.inside();
         let count = parts.len() / PART_PLACES;
         let is_bad = |part: &[u32]| part[0] > part[1] || part[1] as usize >= count;
-        let last = parts.chunks(PART_PLACES).rposition(|part| part.len() == PART_PLACES && is_bad(part));
+        let last = parts.chunks_exact(PART_PLACES).rposition(|part| part.len() == PART_PLACES && is_bad(part));
         if let (12, true, Some(part)) = (returned, count <= MOST_PARTS, last) {
             lent.answer.inside()[0] = part as u64;
         }
@@ -231,7 +234,7 @@ const OF_REFUSALS: &[OrderMistake] = &[
         let count = parts.len() / PART_PLACES;
         let is_bad = |part: &[u32]| part[0] > part[1] || part[1] as usize >= count;
         if returned == 12 && count > MOST_PARTS {
-            let bad = parts.chunks(PART_PLACES).position(is_bad);
+            let bad = parts.chunks_exact(PART_PLACES).position(is_bad);
             lent.answer.inside()[0] = bad.unwrap_or(0) as u64;
         }
         returned
@@ -243,7 +246,7 @@ const OF_REFUSALS: &[OrderMistake] = &[
         let returned = call_library(lent);
         let count = (lent.parts.inside().len() / PART_PLACES) as u32;
         let is_bad = |rule: &[u32]| rule[0].max(rule[1]) >= count || rule[0] == rule[1];
-        match (returned, lent.rules.inside().chunks(RULE_PLACES).position(is_bad)) {
+        match (returned, lent.rules.inside().chunks_exact(RULE_PLACES).position(is_bad)) {
             (12, Some(rule)) => {
                 lent.answer.inside()[0] = rule as u64;
                 13
@@ -362,7 +365,7 @@ const OF_BUFFERS: &[OrderMistake] = &[
     ("last positions are settled in the parts lent", |lent| {
         let returned = call_library(lent);
         if returned == 0 {
-            let mut parts = lent.parts.inside().chunks_mut(PART_PLACES);
+            let mut parts = lent.parts.inside().chunks_exact_mut(PART_PLACES);
             if let Some(part) = parts.find(|part| part[0] < part[1]) {
                 part[1] -= 1;
             }
@@ -380,7 +383,7 @@ const OF_BUFFERS: &[OrderMistake] = &[
 
 /// The rules for which this holds.
 fn kept(rules: &[u32], keep: impl Fn(&[u32]) -> bool) -> Vec<u32> {
-    rules.chunks(RULE_PLACES).filter(|rule| keep(rule)).flatten().copied().collect()
+    rules.chunks_exact(RULE_PLACES).filter(|rule| keep(rule)).flatten().copied().collect()
 }
 
 /// The library on changed parts and rules; those lent stay.
@@ -407,7 +410,7 @@ fn on_parts(lent: &mut Buffers, change: impl Fn(&mut Vec<u32>)) -> u32 {
 fn on_part(lent: &mut Buffers, change: fn(u32, &mut [u32])) -> u32 {
     on_parts(lent, |parts| {
         let count = (parts.len() / PART_PLACES) as u32;
-        parts.chunks_mut(PART_PLACES).for_each(|part| change(count, part));
+        parts.chunks_exact_mut(PART_PLACES).for_each(|part| change(count, part));
     })
 }
 
@@ -415,8 +418,8 @@ fn on_part(lent: &mut Buffers, change: fn(u32, &mut [u32])) -> u32 {
 fn on_good(lent: &mut Buffers, change: fn(u32, &mut [u32])) -> u32 {
     on_parts(lent, |parts| {
         let count = (parts.len() / PART_PLACES) as u32;
-        if parts.chunks(PART_PLACES).all(|part| part[0] <= part[1] && part[1] < count) {
-            parts.chunks_mut(PART_PLACES).for_each(|part| change(count, part));
+        if parts.chunks_exact(PART_PLACES).all(|part| part[0] <= part[1] && part[1] < count) {
+            parts.chunks_exact_mut(PART_PLACES).for_each(|part| change(count, part));
         }
     })
 }

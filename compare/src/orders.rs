@@ -12,6 +12,8 @@ use crate::random::Random;
 
 /// With at most so many parts every order is tried.
 const MOST_PARTS_TRIED: usize = 6;
+/// With more numbers of rules than these not every length is tried.
+const MOST_RULES_OF_EACH_LENGTH: usize = 10_000;
 /// The numbers that a call must give.
 const NEEDED: [u32; 7] = [0, 12, 13, 14, 29, 100, 101];
 
@@ -91,10 +93,11 @@ enum Event {
     TooFewPositions,
     FineAndTall,
     SeveralRefusals,
+    ManyMoreRules,
     EveryOrderTried,
 }
 
-const EVENTS: [(Event, &str); 16] = [
+const EVENTS: [(Event, &str); 17] = [
     (Event::NoParts, "orders without parts"),
     (Event::OnePart, "orders of one part"),
     (Event::MostParts, "orders of 128 parts, accepted"),
@@ -110,6 +113,7 @@ const EVENTS: [(Event, &str); 16] = [
     (Event::TooFewPositions, "no order but with all positions"),
     (Event::FineAndTall, "parts that are fine and tall beside plain ones"),
     (Event::SeveralRefusals, "orders refused for several reasons"),
+    (Event::ManyMoreRules, "orders by more than 65,535 rules, accepted"),
     (Event::EveryOrderTried, "orders found by trying every order"),
 ];
 
@@ -192,6 +196,9 @@ impl Orders {
     fn each_length(&mut self, handed: &Handed) -> Result<(), Difference> {
         let count = handed.parts.len() / PART_PLACES;
         self.good(handed)?;
+        if handed.rules.len() > MOST_RULES_OF_EACH_LENGTH {
+            return Ok(());
+        }
         for order in (0..=count + 1).filter(|order| count <= 8 || order + 2 >= count || *order == 0) {
             self.case(handed, order, ANSWER_PLACES)?;
         }
@@ -260,7 +267,6 @@ impl Orders {
     fn count_decided(&mut self, handed: &Handed, accepted: bool) {
         let (parts, mut rules) = records_of(handed);
         let count = parts.len();
-        let many = rules.len() > 1000;
         let number = rules.len();
         let least = |parts: &[Part], rules: &[Rule]| Placing { parts, rules }.least_order();
         if count <= 12 && number <= 40 {
@@ -294,7 +300,8 @@ impl Orders {
             (count == 0, Event::NoParts),
             (count == 1, Event::OnePart),
             (accepted && count == MOST_PARTS, Event::MostParts),
-            (accepted && many, Event::ManyRules),
+            (accepted && number > 1000, Event::ManyRules),
+            (accepted && number > 65_535, Event::ManyMoreRules),
             (accepted && rules.len() < number, Event::RuleTwice),
         ]);
     }
@@ -385,6 +392,8 @@ fn fixed() -> Vec<Handed> {
         handed(&[[0, 1, 0, 1], [0, 1, 1, 1]], &[]),
         handed(&[[0, 2, 1, 1], plain(2), [0, 2, 1, 0]], &[]),
         handed(&[[0, 2, 256, 0], [0, 2, 0, 1 << 31], [0, 2, 2, 2]], &[]),
+        handed(&[plain(127); 128], &every(128).repeat(2)),
+        handed(&[plain(127); 128], &[&[[1, 2]].repeat(65_536)[..], &[[127, 0]]].concat()),
     ]
 }
 
