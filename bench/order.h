@@ -234,8 +234,9 @@ struct Parts {
 };
 
 /*
- * Tuned: what is before a part is a set. A part that must wait is looked at again when the one part leaves that it waits
- * for. How many more parts could end at each position or before it is kept for 16 positions at once.
+ * Tuned: what is before a part by rules is a set. A part that must wait is looked at again when the one part leaves that
+ * it waits for. By flags all parts of a kind wait for all of another kind, so that no part is looked at for them. How many
+ * more parts could end at each position or before it is kept for 16 positions at once.
  */
 class Tuned {
 public:
@@ -250,7 +251,7 @@ public:
         begin();
         for (size_t position = 0; position < count; position++) {
             open(position);
-            const Parts candidates = ready & up_to[full_up_to(position)];
+            const Parts candidates = ready & by_flags() & up_to[full_up_to(position)];
             if (!candidates.any()) {
                 return false;
             }
@@ -266,22 +267,16 @@ private:
 
     void list_before()
     {
-        Parts fine{}, tall{};
-        all = {};
+        all = fine = {};
+        Parts tall{};
         for (size_t part = 0; part < count; part++) {
             const size_t at = part / 64;
             all.word[at] |= uint64_t{1} << part % 64;
             fine.word[at] |= uint64_t{given.is_fine(part)} << part % 64;
             tall.word[at] |= uint64_t{given.is_tall(part)} << part % 64;
         }
-        const Parts not_tall = all & ~tall;
-        for (size_t part = 0; part < count; part++) {
-            // All bits or none.
-            const uint64_t by_pitch = uint64_t{fine.has(part)} - 1, by_height = -uint64_t{tall.has(part)};
-            for (size_t at = 0; at < 2; at++) {
-                before[part].word[at] = (fine.word[at] & by_pitch) | (not_tall.word[at] & by_height);
-            }
-        }
+        low = all & ~tall;
+        memset(before, 0, count * sizeof before[0]);
         for (size_t rule = 0; rule < given.rule_count; rule++) {
             before[given.later(rule)].put(given.earlier(rule));
         }
@@ -304,6 +299,9 @@ private:
                 last[part] = static_cast<uint8_t>(end);
                 parts++;
                 now = (now | before[part]) & ~settled;
+                // The first part that is not fine settles all fine ones, and the first tall one all that are not.
+                now = fine.has(part) ? now : now | (fine & ~settled);
+                now = low.has(part) ? now : now | (low & ~settled);
             }
             if (parts > end + 1) {
                 return false;
@@ -327,6 +325,13 @@ private:
         }
         left = all;
         ready = {};
+    }
+
+    /* Fine parts while some are left, and parts that are not tall while some are. */
+    Parts by_flags() const
+    {
+        const Parts fine_left = fine & left, low_left = low & left;
+        return (fine_left.any() ? fine_left : left) & (low_left.any() ? low_left : left);
     }
 
     /* Parts that begin here are ready, or wait for one that is before them. */
@@ -389,6 +394,8 @@ private:
     const size_t count;
     alignas(16) int8_t room[kMostParts];
     uint8_t last[kMostParts];
+    // Fine ones, and those that are not tall.
+    Parts fine, low;
     Parts all, left, ready;
     Parts before[kMostParts];
     Parts up_to[kMostParts];
