@@ -307,7 +307,7 @@ const OF_REFUSALS: &[OrderMistake] = &[
         returned
     }),
     ("broken records are looked at before a short answer", |lent| {
-        let broken = lent.parts.inside().len() % PART_PLACES != 0 || lent.rules.inside().len() % RULE_PLACES != 0;
+        let broken = !is_whole(lent);
         match call_library(lent) {
             100 if broken => 101,
             returned => returned,
@@ -395,7 +395,7 @@ fn with(lent: &mut Buffers, change: impl Fn(&mut Vec<u32>, &mut Vec<u32>)) -> u3
 
 /// Whether parts and rules are whole records.
 fn is_whole(lent: &mut Buffers) -> bool {
-    lent.parts.inside().len() % PART_PLACES == 0 && lent.rules.inside().len() % RULE_PLACES == 0
+    lent.parts.inside().len().is_multiple_of(PART_PLACES) && lent.rules.inside().len().is_multiple_of(RULE_PLACES)
 }
 
 /// The library on changed parts, where parts and rules are whole records.
