@@ -42,9 +42,24 @@ struct Given {
         return part;
     }
 
+    /* Whether some rule has not two parts, several rules at once. */
+    bool has_bad_rule() const
+    {
+        const auto number = static_cast<uint32_t>(count);
+        uint32_t bad = 0;
+        for (size_t rule = 0; rule < rule_count; rule++) {
+            const uint32_t one = earlier(rule), other = later(rule);
+            bad |= static_cast<uint32_t>(one >= number) | (other >= number) | (one == other);
+        }
+        return bad != 0;
+    }
+
     /* The first rule without two parts, their number where there is none. */
     size_t first_bad_rule() const
     {
+        if (!has_bad_rule()) {
+            return rule_count;
+        }
         size_t rule = 0;
         while (rule < rule_count && earlier(rule) < count && later(rule) < count && earlier(rule) != later(rule)) {
             rule++;
@@ -258,6 +273,7 @@ public:
             const size_t part = candidates.lowest();
             order[position] = static_cast<uint8_t>(part);
             leave(part);
+            count_down(position, last[part]);
         }
         return true;
     }
@@ -355,20 +371,18 @@ private:
         left.take(part);
         ready.take(part);
         waiting[part].each([&](size_t other) { look_at(other); });
-        count_down(last[part]);
     }
 
-    /* One part less can end before this position. */
-    void count_down(size_t end)
+    /* One part less can end before this position; what is behind is not asked for again. */
+    void count_down(size_t position, size_t end)
     {
-        const __m128i one = _mm_set1_epi8(1);
-        size_t at = 0;
-        for (; at + kStep <= end; at += kStep) {
+        const __m128i steps = _mm_setr_epi8(0, 1, 2, 3, 4, 5, 6, 7, 8, 9, 10, 11, 12, 13, 14, 15);
+        const __m128i ends = _mm_set1_epi8(static_cast<char>(end));
+        for (size_t at = position / kStep * kStep; at < end; at += kStep) {
             auto *const here = reinterpret_cast<__m128i *>(room + at);
-            _mm_store_si128(here, _mm_sub_epi8(_mm_load_si128(here), one));
-        }
-        for (; at < end; at++) {
-            room[at]--;
+            // -1 at each position before the end.
+            const __m128i before_end = _mm_cmplt_epi8(_mm_add_epi8(steps, _mm_set1_epi8(static_cast<char>(at))), ends);
+            _mm_store_si128(here, _mm_add_epi8(_mm_load_si128(here), before_end));
         }
     }
 
