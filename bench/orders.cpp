@@ -55,7 +55,7 @@ Boards boards_of(const char *name, const char *description, uint32_t count, uint
 std::vector<Boards> order_boards()
 {
     return {
-        boards_of("parts-wide", "order alone: 128 parts, each at any position, and 1,000 rules", 128, 1000, 128),
+        boards_of("parts-wide", "order alone: 128 parts, each at up to 128 positions, and 1,000 rules", 128, 1000, 128),
         boards_of("parts-narrow", "order alone: 128 parts, each at up to 17 positions, and 1,000 rules", 128, 1000, 8),
         boards_of("parts-no-rules", "order alone: 128 parts, each at up to 65 positions, no rule", 128, 0, 32),
         boards_of("parts-20", "order alone: 20 parts, each at up to 17 positions, and 10 rules", 20, 10, 8),
