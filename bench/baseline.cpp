@@ -10,6 +10,7 @@
 #include "libraries.h"
 
 #include "job.h"
+#include "order.h"
 
 namespace {
 
@@ -495,6 +496,15 @@ uint32_t baseline_check(const uint8_t *file, size_t file_len, const uint8_t *pla
             return no_entry_too_low(Within(lines, job), named, table);
         });
     });
+}
+
+uint32_t baseline_order(const uint32_t *parts, size_t parts_len, const uint32_t *rules, size_t rules_len,
+                        uint8_t *order, size_t order_len, uint64_t *answer, size_t answer_len)
+{
+    return order::answer_order({parts, parts_len, rules, rules_len, order, order_len, answer, answer_len},
+                               [](const order::Given &given, uint8_t *found) {
+                                   return order::Plain(given).least(found);
+                               });
 }
 
 size_t baseline_report(const uint8_t *file, size_t file_len, uint8_t *out, size_t out_len)

@@ -34,20 +34,21 @@ struct Library {
     decltype(&tipshare_quick) quick;
     decltype(&tipshare_best) best;
     decltype(&tipshare_check) check;
+    decltype(&tipshare_order) order;
     decltype(&tipshare_report) report;
 };
 
 const Library kLibraries[] = {
     {"tipshare", "proved", tipshare_read, tipshare_common, tipshare_keep, tipshare_goal, tipshare_quick,
-     tipshare_best, tipshare_check, tipshare_report},
+     tipshare_best, tipshare_check, tipshare_order, tipshare_report},
     {"baseline", "same steps", baseline_read, baseline_common, baseline_keep, baseline_goal, baseline_quick,
-     baseline_best, baseline_check, baseline_report},
-    {"tuned", "tuned", tuned_read, tuned_common, tuned_keep, tuned_goal, tuned_quick, tuned_best, tuned_check,
+     baseline_best, baseline_check, baseline_order, baseline_report},
+    {"tuned", "tuned", tuned_read, tuned_common, tuned_keep, tuned_goal, tuned_quick, tuned_best, tuned_check, tuned_order,
      tuned_report},
 };
 constexpr size_t kNumber = std::size(kLibraries);
 
-enum class Call { read, common, keep, goal, quick, best, check, report };
+enum class Call { read, common, keep, goal, quick, best, check, order, report };
 
 struct NamedCall {
     Call call;
@@ -56,13 +57,14 @@ struct NamedCall {
 
 const NamedCall kCalls[] = {{Call::read, "read"},   {Call::common, "common"}, {Call::keep, "keep"},
                             {Call::goal, "goal"},   {Call::quick, "quick"},   {Call::best, "best"},
-                            {Call::check, "check"}, {Call::report, "report"}};
+                            {Call::check, "check"}, {Call::order, "order"},   {Call::report, "report"}};
 
 /* What a call can write to, lent at the lengths that always do. */
 struct Buffers {
     alignas(64) uint8_t plan[TIPSHARE_MOST_LINES];
     alignas(64) uint32_t table[TIPSHARE_MOST_PLACES];
     alignas(64) uint8_t out[TIPSHARE_REPORT_SPACE];
+    alignas(64) uint8_t order[TIPSHARE_MOST_PARTS];
     alignas(64) uint64_t answer[TIPSHARE_ANSWER_PLACES];
 
     void fill_with_junk()
@@ -78,7 +80,8 @@ struct Buffers {
     bool equals(const Buffers &other) const
     {
         return memcmp(plan, other.plan, sizeof plan) == 0 && memcmp(table, other.table, sizeof table) == 0 &&
-               memcmp(out, other.out, sizeof out) == 0 && memcmp(answer, other.answer, sizeof answer) == 0;
+               memcmp(out, other.out, sizeof out) == 0 && memcmp(order, other.order, sizeof order) == 0 &&
+               memcmp(answer, other.answer, sizeof answer) == 0;
     }
 };
 
@@ -102,6 +105,9 @@ uint64_t make_call(const Library &library, Call call, const File &file, Buffers 
     case Call::check:
         return library.check(bytes, length, file.plan.data(), file.plan.size(), file.claim, file.table.data(),
                              file.table.size(), lent.answer, places);
+    case Call::order:
+        return library.order(file.parts.data(), file.parts.size(), file.rules.data(), file.rules.size(), lent.order,
+                             sizeof lent.order, lent.answer, places);
     case Call::report: return library.report(bytes, length, lent.out, sizeof lent.out);
     }
     return 0;
@@ -273,9 +279,13 @@ std::string shown(double nanoseconds)
     return digits;
 }
 
-/* A goal, best sharing and the check refuse a board with a line that is no run, so there is nothing to time. */
+/* A goal, best sharing and the check refuse a board with a line that is no run, so there is nothing to time; an order is
+   no board. */
 bool is_measured(const NamedCall &named, const Boards &boards, const Settings &settings)
 {
+    if (boards.is_order != (named.call == Call::order)) {
+        return false;
+    }
     const bool needs_runs = named.call == Call::goal || named.call == Call::best || named.call == Call::check;
     return (!needs_runs || boards.runs) &&
            (settings.only_call.empty() || settings.only_call == named.name);
@@ -322,6 +332,10 @@ bool main_table(const Settings &settings, Output &output)
 bool growth_table(const Settings &settings, Output &output, const char *title, const std::vector<Boards> &all,
                   size_t Boards::*size, const char *last = "Last doubling")
 {
+    const auto grows = [&](const NamedCall &named) { return is_measured(named, all[0], settings); };
+    if (std::none_of(std::begin(kCalls), std::end(kCalls), grows)) {
+        return true;
+    }
     if (!output.json) {
         printf("\n## %s, nanoseconds a call\n\n| Call | Library |", title);
         for (const Boards &boards : all) {
@@ -484,7 +498,7 @@ const char kUsage[] =
     "bench [--rounds N] [--json] [--call CALL] [--board BOARD]   time the calls and print tables\n"
     "bench --callgrind CALL BOARD LIBRARY [TIMES]                make one call only, and print how often it was made\n"
     "bench --list                                                the calls and boards\n"
-    "CALL: read, common, keep, goal, quick, best, check, report. LIBRARY: tipshare, baseline, tuned.\n"
+    "CALL: read, common, keep, goal, quick, best, check, order, report. LIBRARY: tipshare, baseline, tuned.\n"
     "With --board the tables of growth are left out.\n";
 
 int usage()

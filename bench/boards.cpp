@@ -186,7 +186,7 @@ Boards with_mounted(Boards boards, size_t tip)
 
 std::vector<Boards> main_boards()
 {
-    return {
+    std::vector<Boards> all = {
         boards_of("few-tips", "1 to 3 tips a line, anywhere in the rack", 512, 64, few_tips),
         boards_of("many-tips", "each tip with an even chance, about 32 a line", 512, 64, many_tips),
         boards_of("short-runs", "runs of 1 to 4 tips", 512, 64, run_of(1, 4)),
@@ -213,6 +213,10 @@ std::vector<Boards> main_boards()
         boards_of("runs-of-1", "any-runs in a file of version 2, every quantity 1", 512, 64, any_run, all_1),
         with_mounted(boards_of("runs-mounted", "any-runs with the last tip mounted", 512, 64, any_run), 63),
     };
+    for (Boards &boards : order_boards()) {
+        all.push_back(std::move(boards));
+    }
+    return all;
 }
 
 Boards eight_tips(size_t apart)

@@ -17,6 +17,9 @@ struct File {
     std::vector<uint8_t> plan;
     uint32_t claim;
     std::vector<uint32_t> table;
+    // Parts and rules to order, which have nothing to do with the job file.
+    std::vector<uint32_t> parts = {};
+    std::vector<uint32_t> rules = {};
 };
 
 /* Many boards of one description: of a few, the processor soon foresees every branch, which it cannot of a new one. */
@@ -27,12 +30,17 @@ struct Boards {
     size_t rack;
     bool runs;
     std::vector<File> files;
+    // Parts and rules alone, without a job file.
+    bool is_order = false;
 };
 
 constexpr size_t kFilesEach = 64;
 
 /* The boards of the main table. */
 std::vector<Boards> main_boards();
+
+/* Parts and rules for the placing order. */
+std::vector<Boards> order_boards();
 
 /* The same lines on 8 named tips, which stand so far apart in the rack: 1 for a rack of 8, and 9 for one of 64. */
 Boards eight_tips(size_t apart);

@@ -5,6 +5,7 @@
 #include <cstdint>
 #include <cstdio>
 #include <cstdlib>
+#include <cstring>
 
 #include "job.h"
 
@@ -45,6 +46,28 @@ static void check_it()
     tipshare_check(file, length, plan, sizeof plan, claim, table, TIPSHARE_MOST_PLACES, answer,
                    TIPSHARE_ANSWER_PLACES);
 }
+/* As many parts and rules as are measured, of which many have no order. */
+static uint32_t parts[TIPSHARE_PART_PLACES * TIPSHARE_MOST_PARTS];
+static uint32_t rules[TIPSHARE_RULE_PLACES * 1000];
+static uint8_t order[TIPSHARE_MOST_PARTS];
+static void order_it()
+{
+    const size_t count = rand() % 2 == 0 ? TIPSHARE_MOST_PARTS : 1 + (size_t)rand() % TIPSHARE_MOST_PARTS;
+    const size_t rule_count = count == 1 ? 0 : (size_t)rand() % 1001;
+    for (size_t part = 0; part < count; part++) {
+        const uint32_t first = (uint32_t)(rand() % (int)(part + 1));
+        const uint32_t last = (uint32_t)(part + (size_t)rand() % (count - part));
+        const uint32_t given[] = {first, last, part < count / 4, part >= count - count / 4};
+        memcpy(parts + TIPSHARE_PART_PLACES * part, given, sizeof given);
+    }
+    for (size_t rule = 0; rule < rule_count; rule++) {
+        const uint32_t later = (uint32_t)(1 + (size_t)rand() % (count - 1));
+        rules[TIPSHARE_RULE_PLACES * rule] = (uint32_t)rand() % later;
+        rules[TIPSHARE_RULE_PLACES * rule + 1] = later;
+    }
+    tipshare_order(parts, TIPSHARE_PART_PLACES * count, rules, TIPSHARE_RULE_PLACES * rule_count, order, sizeof order,
+                   answer, TIPSHARE_ANSWER_PLACES);
+}
 static void report_it() { tipshare_report(file, length, text, sizeof text); }
 
 static const struct {
@@ -52,7 +75,7 @@ static const struct {
     void (*make)();
 } calls[] = {{"tipshare_read", read_it},   {"tipshare_common", common_it}, {"tipshare_keep", keep_it},
              {"tipshare_goal", goal_it},   {"tipshare_quick", quick_it},   {"tipshare_best", best_it},
-             {"tipshare_check", check_it}, {"tipshare_report", report_it}};
+             {"tipshare_check", check_it}, {"tipshare_order", order_it},   {"tipshare_report", report_it}};
 enum { CALLS = sizeof calls / sizeof calls[0] };
 
 static __attribute__((noinline)) void paint()

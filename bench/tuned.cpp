@@ -13,6 +13,7 @@
 #include <emmintrin.h>
 
 #include "job.h"
+#include "order.h"
 
 namespace {
 
@@ -1034,6 +1035,15 @@ uint32_t tuned_check(const uint8_t *file, size_t file_len, const uint8_t *plan, 
                                                  : no_entry_too_low(within, named, table);
         });
     });
+}
+
+uint32_t tuned_order(const uint32_t *parts, size_t parts_len, const uint32_t *rules, size_t rules_len,
+                     uint8_t *order, size_t order_len, uint64_t *answer, size_t answer_len)
+{
+    return order::answer_order({parts, parts_len, rules, rules_len, order, order_len, answer, answer_len},
+                               [](const order::Given &given, uint8_t *found) {
+                                   return order::Tuned(given).least(found);
+                               });
 }
 
 size_t tuned_report(const uint8_t *file, size_t file_len, uint8_t *out, size_t out_len)

@@ -34,13 +34,14 @@
  * a refusal, and none past them. Only with answer_len below 4 nothing at all
  * is written and the number is 100.
  *
- * A refused call writes to no buffer but answer: answer[0] is the line that
- * the refusal is about, or 0, and the other places are 0, except that 26
- * carries its margin in answer[1].
+ * A refused call writes to no buffer but answer: answer[0] is the line, part or
+ * rule that the refusal is about, or 0, and the other places are 0, except that
+ * 26 carries its margin in answer[1].
  *
  * Where several refusals apply, the first in this order is given: 100, then
  * 6, 7, 8, 1, 9, 10, then 2, 3 or 15 of the first bad line, then 30, then those
- * of the call in the order named with it.
+ * of the call in the order named with it. tipshare_order takes no file: there
+ * it is 100, 101, 12, 13, 14, 29.
  *
  *   No.  What is wrong                         What to do
  *   ---  ------------------------------------  --------------------------------
@@ -58,6 +59,13 @@
  *        (version 1) or 8 + 9 * n (version 2)  more, or correct n
  *    11  out is shorter than the file that is  lend file_len; 4616 always do
  *        to be written
+ *    12  there are over 128 parts, or the      split the parts, or give part
+ *        first position of part answer[0] is   answer[0] positions from 0 to
+ *        after its last, or its last is not    n - 1, the first not after the
+ *        below the number of parts n           last
+ *    13  rule answer[0] names a part that is   name two different parts, 0 to
+ *        not there, or one part twice          n - 1, in that rule
+ *    14  order is shorter than n bytes         lend n; 128 always do
  *    15  line answer[0] has quantity 0         give that line 1 to 255
  *    16  mounted is no tip of the rack and     give 0 to m - 1, or
  *        not TIPSHARE_NO_TIP                   TIPSHARE_NO_TIP for none
@@ -72,6 +80,9 @@
  *    26  no plan has at most k placements off  raise k by at least -margin, the
  *        its most used tip; answer[1] is the   margin being (int64_t)answer[1]
  *        margin, below zero
+ *    29  no order obeys: flags and rules go    give some parts more positions,
+ *        round in a circle, or too many parts  or take out a rule or a flag
+ *        must share some positions
  *    30  line answer[0], the first such,       split the parts list
  *        brings the placements past 2048
  *    33  the table checked does not show that  have all of its m * m places
@@ -79,6 +90,8 @@
  *    34  no plan has so many pairs as goal     lower the goal to the pairs of
  *                                              tipshare_best
  *   100  answer has fewer than 4 places        lend 4
+ *   101  parts_len is no multiple of 4, or     hand over 4 numbers a part and 2
+ *        rules_len is no multiple of 2         a rule
  */
 #ifndef TIPSHARE_H
 #define TIPSHARE_H
@@ -100,6 +113,9 @@ extern "C" {
 #define TIPSHARE_ANSWER_PLACES 4      /* the places of an answer */
 #define TIPSHARE_REPORT_SPACE 16384   /* the bytes that a report needs lent */
 #define TIPSHARE_NO_TIP SIZE_MAX      /* no tip is mounted */
+#define TIPSHARE_MOST_PARTS 128       /* the most parts to order, and an order that always does */
+#define TIPSHARE_PART_PLACES 4        /* the numbers of a part */
+#define TIPSHARE_RULE_PLACES 2        /* the numbers of a rule */
 
 #define TIPSHARE_ACCEPTED 0
 #define TIPSHARE_RACK_SIZE 1
@@ -113,16 +129,21 @@ extern "C" {
 #define TIPSHARE_FILE_LINES 9
 #define TIPSHARE_FILE_LENGTH 10
 #define TIPSHARE_SHORT_OUTPUT 11
+#define TIPSHARE_BAD_WINDOW 12
+#define TIPSHARE_BAD_RULE 13
+#define TIPSHARE_SHORT_ORDER 14
 #define TIPSHARE_ZERO_QUANTITY 15
 #define TIPSHARE_MOUNTED_OUTSIDE 16
 #define TIPSHARE_FOREIGN_TIP 19
 #define TIPSHARE_WRONG_CLAIM 20
 #define TIPSHARE_NO_RUN 25
 #define TIPSHARE_NO_PLAN 26
+#define TIPSHARE_NO_ORDER 29
 #define TIPSHARE_TOO_MANY_PLACEMENTS 30
 #define TIPSHARE_WRONG_TABLE 33
 #define TIPSHARE_GOAL_MISSED 34
 #define TIPSHARE_SHORT_ANSWER 100
+#define TIPSHARE_BROKEN_RECORD 101
 
 /*
  * Reads a job file.
@@ -248,6 +269,31 @@ uint32_t tipshare_best(const uint8_t *file, size_t file_len, size_t mounted,
 uint32_t tipshare_check(const uint8_t *file, size_t file_len,
                         const uint8_t *plan, size_t plan_len, uint32_t claim,
                         const uint32_t *table, size_t table_len,
+                        uint64_t *answer, size_t answer_len);
+
+/*
+ * Finds the order in which parts are placed: each part has a first and a last
+ * position, all positions differ, a fine part comes before each part that is
+ * not fine, a part that is not tall before each tall one, and of the two parts
+ * of a rule the first before the second. Of all orders that obey, it is the one
+ * with the lowest part number at position 0, then at position 1, and so on.
+ * No job file is read.
+ * parts: 4 numbers a part, n parts in parts_len = 4 * n numbers: its first and
+ * its last position, 0 to n - 1, then whether it is fine and whether it is tall
+ * (0 is no, every other number is yes). Parts are numbered 0 to n - 1.
+ * rules: 2 numbers a rule, the part to be placed earlier and the one to be
+ * placed later, in rules_len = 2 * r numbers; any number of rules, and one may
+ * stand several times. order: at least n bytes. answer: at least 4 places.
+ * Accepted: order[p] is the part at position p, for p below n, the rest of
+ * order is untouched; answer is 0, the number of parts n, 0, 0. Without parts
+ * the call is accepted, and nothing is written to order.
+ * Refused (101, then 12, 13, 14, 29): order is untouched; answer is the first
+ * part with bad positions for 12 (0 where there are over 128 parts), the first
+ * bad rule for 13, else 0, then 0, 0, 0.
+ */
+uint32_t tipshare_order(const uint32_t *parts, size_t parts_len,
+                        const uint32_t *rules, size_t rules_len,
+                        uint8_t *order, size_t order_len,
                         uint64_t *answer, size_t answer_len);
 
 /*

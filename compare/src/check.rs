@@ -51,7 +51,7 @@ pub struct Lent<T> {
 }
 
 impl<T: Copy> Lent<T> {
-    fn junk<const N: usize>(random: &mut Random, length: usize, cells: fn(u64) -> [T; N]) -> Lent<T> {
+    pub(crate) fn junk<const N: usize>(random: &mut Random, length: usize, cells: fn(u64) -> [T; N]) -> Lent<T> {
         let start = GUARD + random.below(16);
         let mut junk = Vec::with_capacity(start + length + GUARD + N);
         while junk.len() < start + length + GUARD {
@@ -61,7 +61,7 @@ impl<T: Copy> Lent<T> {
     }
 
     /// Puts these cells at the beginning of the lent part, as many as there is room for.
-    fn begin_with(&mut self, cells: &[T]) {
+    pub(crate) fn begin_with(&mut self, cells: &[T]) {
         let number = cells.len().min(self.length);
         self.inside()[..number].copy_from_slice(&cells[..number]);
     }
@@ -200,7 +200,11 @@ pub fn compare(library: Caller, file: &[u8], call: &Call, given: Given, junk: u6
 }
 
 /// The first place where two buffers differ; below 0 and past the length it lies outside the lent part.
-fn first_difference<T: Copy + PartialEq + fmt::Display>(name: &str, library: &Lent<T>, second: &Lent<T>) -> String {
+pub(crate) fn first_difference<T: Copy + PartialEq + fmt::Display>(
+    name: &str,
+    library: &Lent<T>,
+    second: &Lent<T>,
+) -> String {
     let cells = library.cells.iter().zip(&second.cells);
     match cells.clone().position(|(library, second)| library != second) {
         None => String::new(),

@@ -5,6 +5,8 @@ pub mod check;
 pub mod damage;
 pub mod handed;
 pub mod mistakes;
+pub mod order_mistakes;
+pub mod orders;
 pub mod random;
 pub mod run;
 pub mod tally;

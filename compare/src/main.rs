@@ -7,6 +7,8 @@ use std::{env, fs};
 
 use compare::check::Difference;
 use compare::mistakes::mistakes;
+use compare::order_mistakes::order_mistakes;
+use compare::orders::Orders;
 use compare::run::{compare_program, Run};
 
 const DEFAULT_CASES: u64 = 440_000;
@@ -15,9 +17,12 @@ const LEAST_CASES: u64 = 380_000;
 const DEFAULT_FILES: u64 = 2_000;
 const LEAST_FILES: u64 = 1_000;
 const DEFAULT_SEED: u64 = 1;
+/// Beside so many calls on job files one order is asked for.
+const CALLS_AN_ORDER: u64 = 22;
 
 const USAGE: &str = "\
 compare [--cases N] [--seed S] [--last FILE]     compare the library on N calls, 440,000 without N, 380,000 at least
+compare --orders N [--seed S]                    compare it on N placing orders alone
 compare --hex FILE [--seed S]                    compare it on one job file, given as hex digits
 compare --program PROGRAM [--files N]            compare what the program prints for N files, 2,000 without N,
                                                  1,000 at least
@@ -32,6 +37,7 @@ struct Settings {
     last: Option<PathBuf>,
     hex: Option<PathBuf>,
     program: Option<String>,
+    orders: Option<u64>,
     self_test: bool,
 }
 
@@ -44,6 +50,7 @@ fn settings() -> Result<Settings, String> {
         last: None,
         hex: None,
         program: None,
+        orders: None,
         self_test: false,
     };
     let mut arguments = env::args().skip(1);
@@ -60,6 +67,7 @@ fn settings() -> Result<Settings, String> {
             "--last" => settings.last = Some(value.into()),
             "--hex" => settings.hex = Some(value.into()),
             "--program" => settings.program = Some(value),
+            "--orders" => settings.orders = Some(number(&name, &value, 1)?),
             _ => return Err(USAGE.into()),
         }
     }
@@ -81,6 +89,8 @@ fn main() -> ExitCode {
     };
     let result = if settings.self_test {
         return find_mistakes(&settings);
+    } else if let Some(calls) = settings.orders {
+        return compare_orders(settings.seed, calls);
     } else if let Some(program) = &settings.program {
         let files = settings.files;
         compare_program(program, settings.seed, files).map(|()| println!("{program}: {files} files, no difference"))
@@ -119,6 +129,24 @@ fn compare_library(settings: Settings) -> ExitCode {
     if !missing.is_empty() {
         return ExitCode::FAILURE;
     }
+    compare_orders(settings.seed, settings.cases / CALLS_AN_ORDER)
+}
+
+fn compare_orders(seed: u64, calls: u64) -> ExitCode {
+    let mut orders = Orders::new(seed, calls);
+    let result = orders.all();
+    println!("{}", orders.tally);
+    if let Err(difference) = result {
+        println!("{difference}");
+        return ExitCode::FAILURE;
+    }
+    let missing = orders.tally.missing();
+    for what in &missing {
+        println!("NEVER OCCURRED: {what}");
+    }
+    if !missing.is_empty() {
+        return ExitCode::FAILURE;
+    }
     println!("no difference");
     ExitCode::SUCCESS
 }
@@ -132,7 +160,13 @@ fn find_mistakes(settings: &Settings) -> ExitCode {
         missed += u32::from(!found);
         println!("{} after {:>6} calls: {what}", if found { "found " } else { "MISSED" }, run.tally.cases);
     }
-    println!("{} mistakes, {missed} missed", mistakes().count());
+    for &(what, caller) in order_mistakes() {
+        let mut orders = Orders::new(settings.seed, settings.cases / CALLS_AN_ORDER).with(caller);
+        let found = orders.all().is_err();
+        missed += u32::from(!found);
+        println!("{} after {:>6} calls: {what}", if found { "found " } else { "MISSED" }, orders.tally.calls);
+    }
+    println!("{} mistakes, {missed} missed", mistakes().count() + order_mistakes().count());
     if missed == 0 {
         ExitCode::SUCCESS
     } else {

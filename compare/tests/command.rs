@@ -28,6 +28,13 @@ fn wrong_arguments_print_the_commands() {
 }
 
 #[test]
+fn orders_alone_are_compared() {
+    let (output, _, status) = run(&["--orders", "10000"]);
+    assert!(output.ends_with("\nno difference\n") && status == 0, "{output}");
+    assert_eq!(run(&["--orders", "0"]).2, 2);
+}
+
+#[test]
 fn another_program_is_told_apart() {
     let (output, _, status) = run(&["--program", "cat"]);
     assert!(output.starts_with("DIFFERENCE: program cat printed\nTIP") && status == 1, "{output}");

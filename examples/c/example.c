@@ -86,16 +86,21 @@ static const char *in_words(uint32_t number)
     case TIPSHARE_FILE_LINES: return "the file names more than 512 lines";
     case TIPSHARE_FILE_LENGTH: return "the length does not fit the version and the number of lines";
     case TIPSHARE_SHORT_OUTPUT: return "the output is too short";
+    case TIPSHARE_BAD_WINDOW: return "a part has no good positions, or there are over 128";
+    case TIPSHARE_BAD_RULE: return "a rule does not name two parts";
+    case TIPSHARE_SHORT_ORDER: return "the order buffer is too short";
     case TIPSHARE_ZERO_QUANTITY: return "the line has quantity 0";
     case TIPSHARE_MOUNTED_OUTSIDE: return "the mounted tip is outside the rack";
     case TIPSHARE_FOREIGN_TIP: return "a line is on a tip that it has not";
     case TIPSHARE_WRONG_CLAIM: return "the plan has another number of pairs";
     case TIPSHARE_NO_RUN: return "the line is no run";
     case TIPSHARE_NO_PLAN: return "no plan meets the bound";
+    case TIPSHARE_NO_ORDER: return "no order obeys";
     case TIPSHARE_TOO_MANY_PLACEMENTS: return "the line brings the placements past 2048";
     case TIPSHARE_WRONG_TABLE: return "the table does not show that the plan is a best one";
     case TIPSHARE_GOAL_MISSED: return "no plan has so many pairs";
     case TIPSHARE_SHORT_ANSWER: return "the answer has fewer than 4 places";
+    case TIPSHARE_BROKEN_RECORD: return "a part or a rule is not whole";
     default: return "unknown number";
     }
 }
@@ -109,7 +114,9 @@ static void print_refusal(const char *call, uint32_t number, uint64_t place)
     case TIPSHARE_TIP_OUTSIDE:
     case TIPSHARE_ZERO_QUANTITY:
     case TIPSHARE_NO_RUN:
-    case TIPSHARE_TOO_MANY_PLACEMENTS: printf(" (line %" PRIu64 ")", place);
+    case TIPSHARE_TOO_MANY_PLACEMENTS: printf(" (line %" PRIu64 ")", place); break;
+    case TIPSHARE_BAD_WINDOW: printf(" (part %" PRIu64 ")", place); break;
+    case TIPSHARE_BAD_RULE: printf(" (rule %" PRIu64 ")", place);
     }
     printf("\n");
 }
@@ -203,6 +210,22 @@ static void print_plans(const uint8_t *file, size_t file_len, size_t rack, size_
     }
 }
 
+/* Prints the order of parts, 4 numbers each, by rules, 2 numbers each. */
+static void print_order(const uint32_t *parts, size_t count, const uint32_t *rules, size_t rule_count)
+{
+    uint8_t order[TIPSHARE_MOST_PARTS];
+    uint64_t answer[TIPSHARE_ANSWER_PLACES];
+    uint32_t number = tipshare_order(parts, TIPSHARE_PART_PLACES * count, rules, TIPSHARE_RULE_PLACES * rule_count,
+                                     order, sizeof order, answer, TIPSHARE_ANSWER_PLACES);
+    if (number == TIPSHARE_ACCEPTED) {
+        printf("order:");
+        print_plan(order, (size_t)answer[1]);
+        printf("\n");
+    } else {
+        print_refusal("order", number, answer[0]);
+    }
+}
+
 /* Calls each function on one file. */
 static void print_all(const uint8_t *file, size_t file_len)
 {
@@ -280,5 +303,14 @@ int main(void)
     file[8 + 9 * 3 + 7] = 0;
     number = tipshare_read(file, length, answer, TIPSHARE_ANSWER_PLACES);
     print_refusal("read", number, answer[0]);
+
+    printf("\nFour parts to place: a tall one, a plain one, a fine one and a plain one that goes before the other\n");
+    /* First and last position, fine, tall. */
+    const uint32_t parts[4 * TIPSHARE_PART_PLACES] = {0, 3, 0, 1, 0, 3, 0, 0, 0, 3, 1, 0, 0, 3, 0, 0};
+    const uint32_t rules[3 * TIPSHARE_RULE_PLACES] = {3, 1, 1, 3, 2, 4};
+    print_order(parts, 4, rules, 1);
+    print_order(parts, 4, rules, 2);
+    print_order(parts, 4, rules, 3);
+    print_order(parts, 3, rules, 0);
     return 0;
 }

@@ -10,12 +10,14 @@ pub const REPORT_SPACE: usize = 16_384;
 pub const LONGEST_FILE: usize = 4_616;
 /// The mounted tip of the functions of the header where there is none.
 pub const NO_TIP: usize = usize::MAX;
+/// The most parts to order: an order buffer that always does.
+pub const MOST_PARTS: usize = 128;
 
 /// Why a call was refused.
 #[derive(Clone, Copy, PartialEq, Eq, Debug)]
 pub struct Refusal {
     pub number: u32,
-    /// The line that it is about, for 2, 3, 15, 25 and 30.
+    /// The line that it is about, for 2, 3, 15, 25 and 30, the part for 12 and the rule for 13.
     pub line: u64,
     /// How far the bound is missed, for 26.
     pub margin: i64,
@@ -25,6 +27,8 @@ impl fmt::Display for Refusal {
     fn fmt(&self, to: &mut fmt::Formatter) -> fmt::Result {
         match self.number {
             2 | 3 | 15 | 25 | 30 => write!(to, "refused {} at line {}", self.number, self.line),
+            12 => write!(to, "refused 12 at part {}", self.line),
+            13 => write!(to, "refused 13 at rule {}", self.line),
             26 => write!(to, "refused 26 with margin {}", self.margin),
             _ => write!(to, "refused {}", self.number),
         }
@@ -46,6 +50,15 @@ pub struct CommonTip {
     pub top: u64,
     pub off: u64,
     pub tips: u64,
+}
+
+/// A part to be placed, its positions counted from 0.
+#[derive(Clone, Copy, PartialEq, Eq, Debug)]
+pub struct Part {
+    pub first: u32,
+    pub last: u32,
+    pub fine: bool,
+    pub tall: bool,
 }
 
 /// What keep wrote, and by how much the bound is met.
@@ -109,6 +122,15 @@ pub fn best(file: &[u8], mounted: Option<usize>, plan: &mut [u8], table: &mut [u
 pub fn check(file: &[u8], plan: &[u8], claim: u32, table: &[u32]) -> Result<(), Refusal> {
     answer_of(|answer| on_slices::check(file, plan, claim, table, answer))?;
     Ok(())
+}
+
+/// The order in which parts are placed: fine ones first, tall ones last, each within its positions, and of each rule's two
+/// parts the first before the second; of all such orders the least. Gives the number of parts.
+pub fn order(parts: &[Part], rules: &[(u32, u32)], order: &mut [u8]) -> Result<u64, Refusal> {
+    let of_part = |part: &Part| [part.first, part.last, part.fine.into(), part.tall.into()];
+    let parts: Vec<u32> = parts.iter().flat_map(of_part).collect();
+    let rules: Vec<u32> = rules.iter().flat_map(|&(earlier, later)| [earlier, later]).collect();
+    Ok(answer_of(|answer| on_slices::order(&parts, &rules, order, answer))?[1])
 }
 
 /// The report for a file.
@@ -207,6 +229,21 @@ pub mod on_slices {
         }
     }
 
+    pub fn order(parts: &[u32], rules: &[u32], order: &mut [u8], answer: &mut [u64]) -> u32 {
+        unsafe {
+            declared::tipshare_order(
+                parts.as_ptr(),
+                parts.len(),
+                rules.as_ptr(),
+                rules.len(),
+                order.as_mut_ptr(),
+                order.len(),
+                answer.as_mut_ptr(),
+                answer.len(),
+            )
+        }
+    }
+
     pub fn report(file: &[u8], out: &mut [u8]) -> usize {
         unsafe { declared::tipshare_report(file.as_ptr(), file.len(), out.as_mut_ptr(), out.len()) }
     }
@@ -263,6 +300,16 @@ mod declared {
             claim: u32,
             table: *const u32,
             table_len: usize,
+            answer: *mut u64,
+            answer_len: usize,
+        ) -> u32;
+        pub fn tipshare_order(
+            parts: *const u32,
+            parts_len: usize,
+            rules: *const u32,
+            rules_len: usize,
+            order: *mut u8,
+            order_len: usize,
             answer: *mut u64,
             answer_len: usize,
         ) -> u32;

@@ -108,6 +108,22 @@ const COMMANDS: [Command; 8] = [
         run: commands::check,
     },
     Command {
+        name: "order",
+        arguments: "LIST",
+        does: "print the order in which the parts are placed: fine ones first, tall ones last",
+        more:
+            "The words fine and tall stand behind a part's name, and at=0-3 where it has only the positions 0 to 3,\n\
+               counted from 0; at=2 is one position. A line `before R1 U1` has R1 placed before U1. A part has one\n\
+               position, whatever its quantity; 128 parts have an order at most.\n\
+               A fine part comes before each part that is not fine, and a part that is not tall before each tall one.\n\
+               Of all orders that obey, the one is printed that has the first part of the list at position 0 where it\n\
+               can be, else the second, and so on; then the same for position 1.\n\
+               Where no order obeys, it is told which parts stand in each other's way.\n\
+               Example: parts order board.txt\n",
+        options: &[],
+        run: commands::order,
+    },
+    Command {
         name: "picture",
         arguments: "FILE",
         does: "print a drawing of both plans, parts against tips, as SVG",

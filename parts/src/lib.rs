@@ -6,11 +6,12 @@ pub mod goal;
 pub mod handed;
 pub mod job;
 pub mod list;
+pub mod ordering;
 pub mod picture;
 pub mod planning;
 pub mod refusal;
 
-pub use second::{MOST_LINES, MOST_PLACEMENTS, MOST_TIPS};
+pub use second::{MOST_LINES, MOST_PARTS, MOST_PLACEMENTS, MOST_TIPS};
 
 /// The largest quantity of a part.
 pub const MOST_QUANTITY: usize = u8::MAX as usize;

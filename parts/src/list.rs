@@ -1,4 +1,5 @@
-//! Parts lists as text: `rack M` first, then one line a part, as `C1 x10 height=0.9 : 0 2 4-6`, and `#` comments.
+//! Parts lists as text: `rack M` first, then one line a part, as `C1 x10 height=0.9 : 0 2 4-6`, rules of the placing order,
+//! as `before R1 U1`, and `#` comments.
 
 use std::cmp::Ordering;
 use std::collections::HashMap;
@@ -10,11 +11,18 @@ use crate::{tips_in_words, MOST_LINES, MOST_PLACEMENTS, MOST_QUANTITY, MOST_TIPS
 /// Words for the quantity, in capitals or not, which no column may have. `x` is none: it is where the part is placed.
 const QUANTITIES: [&str; 7] = ["qty", "quantity", "count", "amount", "pieces", "pcs", "n"];
 
+/// The word before the positions of a part.
+const POSITIONS: &str = "at";
+/// The word that begins a rule of the placing order.
+const BEFORE: &str = "before";
+
 /// A parts list that keeps every rule.
 #[derive(Clone, PartialEq, Debug)]
 pub struct List {
     pub rack: usize,
     pub parts: Vec<Part>,
+    /// The rules of the placing order.
+    pub rules: Vec<Before>,
     /// Everything above the first part, as it stands in the list.
     head: String,
     /// Everything below the last part.
@@ -29,6 +37,12 @@ pub struct Part {
     pub quantity: u8,
     /// Numbers to sort by, as `height=0.9`.
     pub columns: Vec<(String, f64)>,
+    /// Of fine pitch, which comes first in the placing order.
+    pub fine: bool,
+    /// Tall, which comes last in the placing order.
+    pub tall: bool,
+    /// Its first and last position in the placing order, where the list says so, as `at=0-3`.
+    pub at: Option<(u32, u32)>,
     /// The tips that can pick it, bit t for tip t.
     pub tips: u64,
     /// Its line in the text, counted from 1.
@@ -37,6 +51,15 @@ pub struct Part {
     above: String,
     /// Its line as it stands in the list.
     text: String,
+}
+
+/// A rule of the placing order: one part is placed before another, both by their numbers in the list.
+#[derive(Clone, Copy, PartialEq, Eq, Debug)]
+pub struct Before {
+    pub earlier: usize,
+    pub later: usize,
+    /// Its line in the text, counted from 1.
+    pub line: usize,
 }
 
 /// What is wrong, and on which line of the text, counted from 1.
@@ -74,6 +97,13 @@ pub enum What {
     NoTip,
     TooManyParts,
     NoColumn(String),
+    FlagAgain(String),
+    Positions(String),
+    PositionsBackwards { first: String, last: String },
+    PositionsAgain(String),
+    BeforeWords(String),
+    BeforeUnknown(String),
+    BeforeItself(String),
 }
 
 impl fmt::Display for What {
@@ -91,7 +121,7 @@ impl fmt::Display for What {
             What::ColonAgain => write!(to, "a second colon; write one part a line"),
             What::UnknownWord(word) => write!(
                 to,
-                "unknown word `{word}`; write the name first, then only a quantity, as x10, and columns, as height=0.9"
+                "unknown word `{word}`; write the name first, then only a quantity, as x10, columns, as height=0.9, fine and tall"
             ),
             What::ColumnName(word) => write!(to, "no column name in `{word}`; write it as height=0.9"),
             What::ColumnValue(word) => write!(to, "no number in `{word}`; write it as height=0.9"),
@@ -132,6 +162,19 @@ impl fmt::Display for What {
             What::NoTip => write!(to, "no tip after the colon; name one at least"),
             What::TooManyParts => write!(to, "part {}; a list has {MOST_LINES} at most, split it", MOST_LINES + 1),
             What::NoColumn(column) => write!(to, "no {column}; give every part a {column} to sort by it"),
+            What::FlagAgain(flag) => write!(to, "a second {flag}; write it once"),
+            What::Positions(word) => {
+                write!(to, "no positions in `{word}`; write the first and the last, counted from 0, as at=0-3")
+            }
+            What::PositionsBackwards { first, last } => {
+                write!(to, "the positions {first}-{last} run backwards; write at={last}-{first}")
+            }
+            What::PositionsAgain(word) => write!(to, "a second `{word}`; give each part one first and last position"),
+            What::BeforeWords(line) => {
+                write!(to, "unknown words in `{line}`; write `before A B`, A being placed before B")
+            }
+            What::BeforeUnknown(name) => write!(to, "the list has no part {name}; take the rule out, or correct the name"),
+            What::BeforeItself(name) => write!(to, "{name} cannot be before itself; name two parts"),
         }
     }
 }
@@ -149,6 +192,10 @@ impl List {
         }
         if !reading.has_rack {
             faults.push(Fault { line: lines.len().max(1), what: What::NoRack });
+        }
+        // Parts below a rule may be named in it; names that faulty lines have are not missing.
+        if faults.is_empty() {
+            faults = reading.put_rules();
         }
         if !faults.is_empty() {
             return Err(faults);
@@ -201,6 +248,9 @@ impl Part {
         if is_quantity(column) {
             return Some(self.quantity.into());
         }
+        if column == POSITIONS {
+            return self.at.map(|(first, _)| first.into());
+        }
         self.columns.iter().find(|(name, _)| name == column).map(|&(_, number)| number)
     }
 
@@ -236,6 +286,8 @@ struct Reading {
     placements: usize,
     /// The line of each name.
     names: HashMap<String, usize>,
+    /// The names of each rule, and its line.
+    rules: Vec<(String, String, usize)>,
     /// The text below the last part.
     above: String,
 }
@@ -243,8 +295,17 @@ struct Reading {
 impl Reading {
     fn new() -> Reading {
         // Until the rack is known, every tip that a rack can have is inside.
-        let list = List { rack: MOST_TIPS, parts: Vec::new(), head: String::new(), tail: String::new() };
-        Reading { list, has_rack: false, count: 0, placements: 0, names: HashMap::new(), above: String::new() }
+        let list =
+            List { rack: MOST_TIPS, parts: Vec::new(), rules: Vec::new(), head: String::new(), tail: String::new() };
+        Reading {
+            list,
+            has_rack: false,
+            count: 0,
+            placements: 0,
+            names: HashMap::new(),
+            rules: Vec::new(),
+            above: String::new(),
+        }
     }
 
     fn take(&mut self, line: usize, bytes: &[u8]) -> Result<(), What> {
@@ -258,6 +319,12 @@ impl Reading {
             self.has_rack = true;
             self.above += &format!("{text}\n");
             self.list.rack = rack_of(content)?;
+            return Ok(());
+        }
+        if let Some((earlier, later)) = rule_of(content)? {
+            // It stays where it stands, as a comment does.
+            self.above += &format!("{text}\n");
+            self.rules.push((earlier, later, line));
             return Ok(());
         }
         self.count += 1;
@@ -284,6 +351,26 @@ impl Reading {
         let above = std::mem::take(&mut self.above);
         self.list.parts.push(Part { line, above, text: text.into(), ..part });
         Ok(())
+    }
+
+    /// Puts the rules into the list, or gives what is wrong with them.
+    fn put_rules(&mut self) -> Vec<Fault> {
+        let number = |(number, part): (usize, &Part)| Some((part.name.clone()?, number));
+        let numbers: HashMap<String, usize> = self.list.parts.iter().enumerate().filter_map(number).collect();
+        let mut faults = Vec::new();
+        for (earlier, later, line) in &self.rules {
+            let unknown = [earlier, later].into_iter().find(|name| !numbers.contains_key(*name));
+            let what = match unknown {
+                Some(name) => What::BeforeUnknown(name.clone()),
+                None if earlier == later => What::BeforeItself(later.clone()),
+                None => {
+                    self.list.rules.push(Before { earlier: numbers[earlier], later: numbers[later], line: *line });
+                    continue;
+                }
+            };
+            faults.push(Fault { line: *line, what });
+        }
+        faults
     }
 }
 
@@ -333,6 +420,31 @@ fn rack_of(content: &str) -> Result<usize, What> {
     }
 }
 
+/// The two names of a rule, where the line is one; a part has a colon.
+fn rule_of(content: &str) -> Result<Option<(String, String)>, What> {
+    let words: Vec<&str> = content.split_whitespace().collect();
+    if words[0] != BEFORE || content.contains(':') {
+        return Ok(None);
+    }
+    match words[..] {
+        [_, earlier, later] => Ok(Some((earlier.into(), later.into()))),
+        _ => Err(What::BeforeWords(content.into())),
+    }
+}
+
+/// The first and last position of a word as `at=0-3` or `at=2`; what is too large for a position is one that none has.
+fn positions_of(word: &str, value: &str) -> Result<(u32, u32), What> {
+    let (first, last) = value.split_once('-').unwrap_or((value, value));
+    let (Some(low), Some(high)) = (number_of(first), number_of(last)) else {
+        return Err(What::Positions(word.into()));
+    };
+    if low > high {
+        return Err(What::PositionsBackwards { first: first.into(), last: last.into() });
+    }
+    let position = |number: usize| u32::try_from(number).unwrap_or(u32::MAX);
+    Ok((position(low), position(high)))
+}
+
 /// The part of a line, which has no place in the list yet.
 fn part_of(content: &str, rack: usize) -> Result<Part, What> {
     let Some((before, after)) = content.split_once(':') else {
@@ -345,6 +457,7 @@ fn part_of(content: &str, rack: usize) -> Result<Part, What> {
     let mut name = None;
     let mut quantity = None;
     let mut columns: Vec<(String, f64)> = Vec::new();
+    let (mut fine, mut tall, mut at) = (false, false, None);
     for (place, word) in before.split_whitespace().enumerate() {
         if let Some(number) = word.strip_prefix('x').and_then(number_of) {
             if quantity.is_some() {
@@ -354,6 +467,17 @@ fn part_of(content: &str, rack: usize) -> Result<Part, What> {
                 return Err(What::NoPlacement(word.into()));
             }
             quantity = Some(u8::try_from(number).map_err(|_| What::TooManyOfPart(word.into()))?);
+            continue;
+        }
+        let flag = match word {
+            "fine" => Some(&mut fine),
+            "tall" => Some(&mut tall),
+            _ => None,
+        };
+        if let Some(flag) = flag {
+            if std::mem::replace(flag, true) {
+                return Err(What::FlagAgain(word.into()));
+            }
             continue;
         }
         let Some((column, value)) = word.split_once('=') else {
@@ -369,6 +493,12 @@ fn part_of(content: &str, rack: usize) -> Result<Part, What> {
         if is_quantity(column) {
             return Err(What::QuantityColumn(word.into()));
         }
+        if column == POSITIONS {
+            if at.replace(positions_of(word, value)?).is_some() {
+                return Err(What::PositionsAgain(word.into()));
+            }
+            continue;
+        }
         if columns.iter().any(|(earlier, _)| earlier == column) {
             return Err(What::ColumnAgain(column.into()));
         }
@@ -376,7 +506,7 @@ fn part_of(content: &str, rack: usize) -> Result<Part, What> {
         columns.push((column.into(), number));
     }
     let (tips, quantity) = (tips_of(after, rack)?, quantity.unwrap_or(1));
-    Ok(Part { name, quantity, columns, tips, line: 0, above: String::new(), text: String::new() })
+    Ok(Part { name, quantity, columns, fine, tall, at, tips, line: 0, above: String::new(), text: String::new() })
 }
 
 fn tips_of(text: &str, rack: usize) -> Result<u64, What> {

@@ -114,6 +114,22 @@ fn plans_from_other_software_are_checked() {
     assert_eq!(run(&["check", &list], b""), wrong_argument(usage));
 }
 
+#[test]
+fn orders_are_printed() {
+    let list = b"rack 3\nC1 tall : 0\nC2 : 1-2\nC3 fine : 0\n";
+    let text = b"parts 3 rules 0\nposition 0 C3 fine\nposition 1 C2\nposition 2 C1 tall\n";
+    assert_eq!(run(&["order", "-"], list), given(text));
+    let why = "-: refused 29: no order obeys: C1 before C2 (fine first), C2 before C1 (tall last); take out a word fine or tall";
+    assert_eq!(run(&["order", "-"], b"rack 3\nC1 fine tall : 0\nC2 : 1\n"), refused(why));
+    let why = "-:3: the list has no part C4; take the rule out, or correct the name";
+    assert_eq!(run(&["order", "-"], b"rack 3\nC1 : 0\nbefore C1 C4\n"), refused(why));
+    let why = "-: this is a job file and no parts list; `parts show` turns it into one";
+    assert_eq!(run(&["order", "-"], &EXAMPLE), refused(why));
+    let usage = "usage: parts order LIST\n`parts order --help` says more";
+    assert_eq!(run(&["order"], b""), wrong_argument(usage));
+    assert_eq!(run(&["order", "-", "-"], b""), wrong_argument(usage));
+}
+
 /// The list with a quantity, and its job file, which is of version 2.
 const TWICE: &str = "# board\nrack 3\nC1 x2 height=2 : 0\nC2 height=1 : 1-2\n";
 const TWICE_JOB: [u8; 26] =

@@ -255,7 +255,7 @@ fn every_fault_says_what_to_do() {
         (What::ColonAgain, "a second colon; write one part a line"),
         (
             What::UnknownWord(name()),
-            "unknown word `x`; write the name first, then only a quantity, as x10, and columns, as height=0.9",
+            "unknown word `x`; write the name first, then only a quantity, as x10, columns, as height=0.9, fine and tall",
         ),
         (What::ColumnName("=1".into()), "no column name in `=1`; write it as height=0.9"),
         (What::ColumnValue("height=x".into()), "no number in `height=x`; write it as height=0.9"),

@@ -2,6 +2,7 @@
 
 use crate::board::{Answer, Board};
 use crate::file::read as read_file;
+use crate::placing::{order_parts, Part, Placing, Rule};
 use crate::refusal;
 
 /// The least length of an output for a report.
@@ -100,6 +101,26 @@ pub fn best(file: &[u8], mounted: usize, plan: &mut [u8], table: &mut [u32], ans
 /// The check of a plan from other software: place, 0, 0, 0.
 pub fn check(file: &[u8], plan: &[u8], claim: u32, table: &[u32], answer: &mut [u64]) -> u32 {
     on_board(file, answer, |board, answer| refused(answer, &board.check(plan, claim, table)))
+}
+
+/// The numbers of a part and of a rule.
+pub const PART_PLACES: usize = 4;
+pub const RULE_PLACES: usize = 2;
+
+/// The placing order: place, parts, 0, 0.
+pub fn order(parts: &[u32], rules: &[u32], order: &mut [u8], answer: &mut [u64]) -> u32 {
+    if answer.len() < ANSWER_PLACES {
+        return refusal::SHORT_ANSWER;
+    }
+    if !parts.len().is_multiple_of(PART_PLACES) || !rules.len().is_multiple_of(RULE_PLACES) {
+        return answered(answer, refusal::BROKEN_RECORD, [0; ANSWER_PLACES]);
+    }
+    let part = |of: &[u32]| Part { first: of[0], last: of[1], fine: of[2] != 0, tall: of[3] != 0 };
+    let parts: Vec<Part> = parts.chunks(PART_PLACES).map(part).collect();
+    let rules: Vec<Rule> = rules.chunks(RULE_PLACES).map(|of| (of[0], of[1])).collect();
+    let ordered = order_parts(&Placing { parts: &parts, rules: &rules }, order);
+    let count = if ordered.number == refusal::NONE { parts.len() } else { 0 };
+    answered(answer, ordered.number, [ordered.place as u64, count as u64, 0, 0])
 }
 
 /// Writes the report to out and gives its length, 0 where out is too short.

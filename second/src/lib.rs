@@ -7,6 +7,7 @@ mod board;
 mod checking;
 mod common;
 mod goal;
+mod placing;
 mod report;
 mod sharing;
 mod trying;
@@ -19,6 +20,9 @@ pub use board::{Answer, Board, Line, Stage, MOST_LINES, MOST_PLACEMENTS, MOST_TI
 pub use checking::TableFault;
 pub use common::CommonTip;
 pub use file::{read, Version, LONGEST_FILE};
+pub use placing::{
+    order_parts, try_every_order, Because, OrderFault, Ordered, Part, Placing, Rule, Window, MOST_PARTS,
+};
 pub use report::{report, LONGEST_INPUT};
 pub use sharing::pairs_in;
 pub use trying::{number_of_plans, try_every_plan, Tried};

@@ -25,6 +25,12 @@ pub const FILE_LINES: u32 = 9;
 pub const FILE_LENGTH: u32 = 10;
 /// The output is too short for the file in the version that is written.
 pub const SHORT_OUTPUT: u32 = 11;
+/// An order, and there are over 128 parts, or a part's first position is after its last, or its last is none.
+pub const BAD_WINDOW: u32 = 12;
+/// An order, and a rule names a part that is absent, or the same part twice.
+pub const BAD_RULE: u32 = 13;
+/// The order buffer is shorter than the number of parts.
+pub const SHORT_ORDER: u32 = 14;
 /// A line's quantity is 0.
 pub const ZERO_QUANTITY: u32 = 15;
 /// The mounted tip is outside the rack.
@@ -50,6 +56,8 @@ pub const NO_PLAN: u32 = 26;
 pub const BAD_LINE: u32 = 27;
 /// After the last line of the board a set is not empty or a quantity not 0.
 pub const LEFT_OVER: u32 = 28;
+/// No order of the parts obeys.
+pub const NO_ORDER: u32 = 29;
 /// The lines stand for more than 2,048 placements.
 pub const TOO_MANY_PLACEMENTS: u32 = 30;
 /// The table does not show that the checked plan has the most pairs.
@@ -59,3 +67,5 @@ pub const GOAL_MISSED: u32 = 34;
 
 /// The answer of a call of the C interface has fewer than 4 places.
 pub const SHORT_ANSWER: u32 = 100;
+/// The numbers of the parts are no fours, or those of the rules no pairs.
+pub const BROKEN_RECORD: u32 = 101;

@@ -32,17 +32,16 @@ use Rattle.board.specs.Check.{checkOf}
 use Rattle.board.specs.Goal.{goalOf}
 use Rattle.rows.specs.Rows.{run, rows, Gives, HalfReached}
 use Rattle.rows.specs.Rows.{B1-common, B1-keep, B2-keep, B3-keep, B4-quick, B5-best, B6-best, B7-quick, B8-best, B9-quick, B9-best, B10-best}
-use Rattle.rows.specs.Rows.{B15-rack-0, B15-rack-65, B16-count-513, B16-count-most, B17-first, B17-middle, B17-last, B18-next}
-use Rattle.rows.specs.Rows.{B18-last, B18-both, B19-21, B19-27, B19-27-open, B19-27-closed, B19-28-closed}
-use Rattle.rows.specs.Rows.{B20-quick, B20-best, B21-common, B21-keep-0, B21-keep-1, B21-keep-2, B21-keep-3, B21-keep-4, B22-quick, B23-quick}
-use Rattle.rows.specs.Rows.{B23-best, B24-none, B24-bad-set, B24-last, B24-over, B25-none, B25-over, B25-first, B26-next, B26-after-set}
-use Rattle.rows.specs.Rows.{B28-read, B28-write, B29-read, B30-read, B30-over, B30-none}
-use Rattle.rows.specs.Rows.{B27-common, B27-best, B31-best, B32-best, B33-best, B34-best, B35-best, B36-quick-0, B36-quick-2}
-use Rattle.rows.specs.Rows.{B36-best-1, B36-best-2, B37-quick, B37-best, B38-quick, B39-none, B39-best, B40-quick, B40-best, B41-quick}
-use Rattle.rows.specs.Rows.{B41-best, B41-open, B42-check, B43-foreign, B43-64, B43-255, B44-more, B44-most, B45-whole, B45-less, B46-exact}
-use Rattle.rows.specs.Rows.{B46-less, B46-huge, B47-huge, B48-open, B48-short, B48-few, B48-run, B48-none}
-use Rattle.rows.specs.Rows.{B49-none, B49-14, B49-17, B50-18, B50-20, B51-21, B51-most, B51-empty-0, B51-empty-1, B52-goal}
-use Rattle.rows.specs.Rows.{B53-all, B53-gap, B53-best, B54-2, B54-3, B54-4, B55-open, B55-run, B55-most}
+use Rattle.rows.specs.Rows.{B15-rack-0, B15-rack-65, B16-count-513, B16-count-most, B17-first, B17-middle, B17-last, B18-next, B18-last}
+use Rattle.rows.specs.Rows.{B18-both, B19-21, B19-27, B19-27-open, B19-27-closed, B19-28-closed, B20-quick, B20-best, B21-common, B21-keep-0}
+use Rattle.rows.specs.Rows.{B21-keep-1, B21-keep-2, B21-keep-3, B21-keep-4, B22-quick, B23-quick, B23-best, B24-none, B24-bad-set, B24-last}
+use Rattle.rows.specs.Rows.{B24-over, B25-none, B25-over, B25-first, B26-next, B26-after-set, B27-common, B27-best, B28-read, B28-write}
+use Rattle.rows.specs.Rows.{B29-read, B30-read, B30-over, B30-none, B31-best, B32-best, B33-best, B34-best, B35-best, B36-quick-0}
+use Rattle.rows.specs.Rows.{B36-quick-2, B36-best-1, B36-best-2, B37-quick, B37-best, B38-quick, B39-none, B39-best, B40-quick, B40-best}
+use Rattle.rows.specs.Rows.{B41-quick, B41-best, B41-open, B42-check, B43-foreign, B43-64, B43-255, B44-more, B44-most, B45-whole, B45-less}
+use Rattle.rows.specs.Rows.{B46-exact, B46-less, B46-huge, B47-huge, B48-open, B48-short, B48-few, B48-run, B48-none, B49-none, B49-14}
+use Rattle.rows.specs.Rows.{B49-17, B50-18, B50-20, B51-21, B51-most, B51-empty-0, B51-empty-1, B52-goal, B53-all, B53-gap, B53-best, B54-2}
+use Rattle.rows.specs.Rows.{B54-3, B54-4, B55-open, B55-run, B55-most}
 
 pub starred : All Gives rows
 unfolding run addOf closeOf commonOf keepOf quickOf quickBuffer bestOf bestBuffer bestTable checkOf Lines.checkOf checkRefusal claimRefusal

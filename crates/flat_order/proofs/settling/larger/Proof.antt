@@ -1,0 +1,12 @@
+use native.Mathlib.Omega.{arith}
+use Rattle.flat_order.proofs.settling.larger.Statement.{statement}
+use Rattle.flat_order.proofs.settling.larger.Tie as tie
+
+returns : tie.Need-returns
+returns c = omega arith
+
+returns-2 : tie.Need-returns-2
+returns-2 c = omega arith
+
+pub larger-spec : {M : Type 1} → statement M
+larger-spec = tie.close (tie.spec returns returns-2)

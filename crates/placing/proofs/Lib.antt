@@ -1,0 +1,9 @@
+pub mod Walk
+pub mod Rules
+pub mod Listed
+pub mod Flagged
+pub mod Added
+pub mod Copied
+pub mod Answered
+pub mod Judged
+pub mod Numbered

@@ -1,0 +1,96 @@
+use Prim.Native.Nat.{ℕ, _≤_, _<_}
+use mathlib.Core.Path.{_≡_, ap, sym, _∙_}
+use native.Mathlib.Omega.{arith}
+use lib.ListN.{length, take}
+use lib.Seq.{length-take-le}
+use Rattle.ordering.specs.Parts.{noPart, partAt}
+use Rattle.ordering.proofs.Parts.{windows-good}
+use Rattle.placing.specs.Given.{partsOf}
+use Rattle.placing.proofs.Listed.{listed, listed-at}
+use Rattle.placing.proofs.Flagged.{full}
+use Rattle.placing.proofs.Answered.{flat-order}
+use borrow.Author.Needs.{needs}
+use Rattle.placing.proofs.placement.search.Statement.{statement}
+use Rattle.placing.proofs.placement.search.Tie as tie
+
+firsts-of-requires : tie.Need-firsts-of-requires
+firsts-of-requires c κs = search needs
+
+lasts-of-requires : tie.Need-lasts-of-requires
+lasts-of-requires c κs = search needs
+
+slice-aggregate-least-order : tie.Need-slice-aggregate-least-order
+slice-aggregate-least-order c = search needs
+
+array-borrow-prefix-lasts : tie.Need-array-borrow-prefix-lasts
+array-borrow-prefix-lasts c = search needs
+
+-- the arrays have 128 places
+sizes : (c : tie.Start)
+    → (c .args .parts .count ≤ length (c .args .rows .low)) × (c .args .parts .count ≤ length (c .args .rows .high))
+sizes c = (
+  omega (arith, full (λ (v : ℕ). v) (c .args .rows .low) (c .good .1 .0 .1 .1 .1 .1 .1 .0 .1 .0 .1)),
+  omega (arith, full (λ (v : ℕ). v) (c .args .rows .high) (c .good .1 .0 .1 .1 .1 .1 .1 .1 .0 .1 .0 .1)),
+)
+
+slice-aggregate-least-order-2 : tie.Need-slice-aggregate-least-order-2
+slice-aggregate-least-order-2 c = sym
+    (length-take-le _ (c .before .before .before .before .lasts-of .result)
+    (omega (arith, c .before .before .before .before .lasts-of .ensures .0)))
+
+slice-aggregate-least-order-3 : tie.Need-slice-aggregate-least-order-3
+slice-aggregate-least-order-3 c = search needs
+
+slice-aggregate-least-order-4 : tie.Need-slice-aggregate-least-order-4
+slice-aggregate-least-order-4 c = search needs
+
+least-order-requires : tie.Need-least-order-requires
+least-order-requires c κs =
+    let a = c .before .before .before .before .before .before .before .before .before .before .args in
+    let s = sizes (c .before .before .before .before .before .before .before .before .before .before) in
+    let e = length-take-le (a .parts .count) (c .before .before .before .before .before .before .before .lasts-of .result)
+    (omega (arith, c .before .before .before .before .before .before .before .lasts-of .ensures .0)) in
+    let q : length (a .order .now) ≡ length (take (a .parts .count) (c .before .before .before .before .before .before .before .lasts-of .result))
+    = omega (arith, e) in (
+      record {
+        parts = omega (arith, e);
+        firsts = omega (arith, e, c .before .before .before .before .before .before .before .before .firsts-of .ensures .0);
+        low = omega (arith, e, s .0);
+        high = omega (arith, e, s .1);
+      },
+      q,
+    )
+
+same-length : tie.Need-same-length
+same-length c = search needs
+
+returns : tie.Need-returns
+returns c =
+    λ rules r g.
+    let a = c .before .before .before .before .before .before .before .before .before .before .before .before .before .before .args in
+    let f = c .before .before .before .before .before .before .before .before .before .before .before .before .firsts-of in
+    let l = c .before .before .before .before .before .before .before .before .before .before .before .lasts-of in
+    let e = listed (partAt (a .parts .parts)) (a .parts .count) in
+    let at : (i : ℕ) → i < length (partsOf (a .parts)) → partAt (partsOf (a .parts)) i ≡ partAt (a .parts .parts) i =
+    λ i k. listed-at (partAt (a .parts .parts)) (a .parts .count) i noPart (omega (arith, e)) in
+    c .before .before .before .least-order .ensures
+    ∙ flat-order (partsOf (a .parts)) rules (a .parts .count) e (f .result) (l .result) (a .rows .low) (a .rows .high)
+    (omega (arith, l .ensures .0))
+    (λ i k. f .ensures .1 i (omega (arith, e)) ∙ sym (ap (λ x. x .first) (at i k)))
+    (λ i k. l .ensures .1 i (omega (arith, e)) ∙ sym (ap (λ x. x .last) (at i k)))
+    (r .has g) (windows-good (partsOf (a .parts)) (omega (arith, e)))
+
+pub search-spec : {M : Type 1} → statement M
+search-spec =
+    tie.close
+    (tie.spec
+    firsts-of-requires
+    lasts-of-requires
+    slice-aggregate-least-order
+    array-borrow-prefix-lasts
+    slice-aggregate-least-order-2
+    slice-aggregate-least-order-3
+    slice-aggregate-least-order-4
+    least-order-requires
+    same-length
+    returns)

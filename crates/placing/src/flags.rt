@@ -1,0 +1,83 @@
+// The rows that the flags ask for: fine pitch first, tall last.
+ghost use mathlib.Core.Path.{_≡_};
+ghost use mathlib.Core.Bool.{cond, not, _&&_};
+ghost use Prim.Native.Nat.{ℕ, _≤_};
+ghost use lib.Dec.{ltb};
+ghost use Rattle.ordering.specs.Parts.{partAt, finePitch};
+ghost use Rattle.flat_order.specs.Sets.{hasPart, noParts};
+ghost use Rattle.placing.specs.Given.{flagRow, Started};
+use crate::Parts;
+use crate::Rows;
+use crate::marking::at_most_128;
+use crate::marking::no_rows;
+use crate::marking::with_row;
+use flat_order::PartSet;
+use flat_order::sets::join;
+use flat_order::sets::single_part;
+use ordering::Part;
+
+fn when(test: bool, s: PartSet) -> PartSet
+    ensures { λ r. ⌜ r ≡ cond test s noParts ⌝ }
+{
+    if test { s } else { PartSet { low: 0, high: 0 } }
+}
+
+fn is_fine(p: Part) -> bool
+    ensures { λ r. ⌜ r ≡ finePitch p ⌝ }
+{
+    p.fine
+}
+
+// The fine-pitch parts of the first n.
+fn fine_parts(parts: Parts, n: usize) -> PartSet
+    requires { ⌜ n ≤ 128 ⌝ }
+    ensures { λ r. ⌜ ((x : ℕ) → hasPart r x ≡ (ltb x n && finePitch (partAt (parts .parts) x))) ⌝ }
+{
+    let mut all = PartSet { low: 0, high: 0 };
+    let mut i = 0;
+    while i < n {
+        let p = parts.parts[i];
+        all = join(all, when(is_fine(p), single_part(i)));
+        i += 1;
+    }
+    all
+}
+
+// The parts of the first n that are not tall.
+fn short_parts(parts: Parts, n: usize) -> PartSet
+    requires { ⌜ n ≤ 128 ⌝ }
+    ensures { λ r. ⌜ ((x : ℕ) → hasPart r x ≡ (ltb x n && not (partAt (parts .parts) x .tall))) ⌝ }
+{
+    let mut all = PartSet { low: 0, high: 0 };
+    let mut i = 0;
+    while i < n {
+        let p = parts.parts[i];
+        all = join(all, when(!p.tall, single_part(i)));
+        i += 1;
+    }
+    all
+}
+
+// The parts that are to precede a part by its flags, from the sets of the fine-pitch parts and of those that are not tall.
+fn flag_row(p: Part, fine: PartSet, short: PartSet) -> PartSet
+    ensures { λ r. ⌜ r ≡ flagRow p fine short ⌝ }
+{
+    join(when(!is_fine(p), fine), when(p.tall, short))
+}
+
+// The rows by the flags.
+pub fn start_rows(parts: Parts) -> Rows
+    ensures { λ r. ⌜ Started parts r ⌝ }
+{
+    let n = at_most_128(parts.count);
+    let fine = fine_parts(parts, n);
+    let short = short_parts(parts, n);
+    let mut rows = no_rows(parts.count);
+    let mut b = 0;
+    while b < n {
+        let p = parts.parts[b];
+        rows = with_row(rows, b, flag_row(p, fine, short));
+        b += 1;
+    }
+    rows
+}
