@@ -1,53 +1,76 @@
--- The parts due by each position, counted on from position p.
+-- The first position up to which all positions are taken, from the counts of the last positions.
 use Prim.Native.Nat.{ℕ, zero, suc, _+_, _-_, _≤_, _<_}
 use native.Mathlib.Numerals.{add-one}
 use native.Mathlib.Omega.{arith}
-use mathlib.Core.Path.{_≡_, refl, sym}
+use mathlib.Core.Path.{_≡_, ap, sym, _∙_}
+use mathlib.Core.Bool.{_&&_}
 use mathlib.Core.List.{List, []}
-use lib.Dec.{eqb, eqb→eq, eqb-refl}
+use lib.Dec.{T, leb, eqb, leb→le, eqb→eq, le→leb}
 use lib.ListN.{length, getD}
+use Rattle.model.proofs.Tests.{same-test, eqb-T, and-left, and-right}
 use Rattle.ordering.specs.Number.{number}
 use Rattle.ordering.specs.Least.{due}
-use Rattle.ordering.proofs.Number.{lowest-is}
+use Rattle.ordering.proofs.Number.{number-cong, lowest-cong, lowest-is, lowest-le}
 use Rattle.ordering.proofs.Loops.{due-more}
 use Rattle.flat_order.specs.declared.PartSet.{PartSet}
-use Rattle.flat_order.specs.Sets.{hasPart}
-use Rattle.flat_order.specs.Flat.{isDue, endsAt, tightOf, flatTask}
+use Rattle.flat_order.specs.Sets.{hasPart, single, removed, apart}
+use Rattle.flat_order.specs.Flat.{isDue, endsAt, Counted, upTo, tightBy, tightOf, canStand, flatTask}
 use Rattle.flat_order.proofs.Counts.{number-most}
 
--- those due by p, and those that end at each of the d positions after it
-pub dueFrom : List ℕ → ℕ → ℕ → ℕ → ℕ
-dueFrom counts p first zero = first
-dueFrom counts p first (suc d) = dueFrom counts p first d + getD counts (p + suc d) 0
+-- one position more
+pub up-more : (counts : List ℕ) (v : ℕ) → upTo counts (v + 1) ≡ upTo counts v + getD counts (v + 1) 0
+unfolding upTo
+up-more counts v = rw add-one
 
-pub due-next : (counts : List ℕ) (p first d : ℕ) → dueFrom counts p first (d + 1) ≡ dueFrom counts p first d + getD counts (p + (d + 1)) 0
-unfolding dueFrom
-due-next counts p first d = rw add-one
+pub up-next : (counts : List ℕ) (p d : ℕ) → upTo counts (p + (d + 1)) ≡ upTo counts (p + d) + getD counts (p + (d + 1)) 0
+up-next counts p d =
+    let e : p + (d + 1) ≡ p + d + 1 = omega arith in
+    rw e (up-more counts (p + d))
 
-pub due-start : (counts : List ℕ) (p first : ℕ) → first ≡ dueFrom counts p first 0
-unfolding dueFrom
-due-start counts p first = refl
+-- the first d at which the positions are all taken
+pub tight-is : (counts : List ℕ) (p rest d : ℕ) → d ≤ rest → (d < rest → upTo counts (p + d) ≡ d + 1)
+    → ((k : ℕ) → k < d → upTo counts (p + k) ≡ k + 1 → ⊥) → d ≡ tightBy counts p rest
+unfolding tightBy
+tight-is counts p rest d l h f = lowest-is (λ k. eqb (upTo counts (p + k)) (suc k)) rest d l
+    (λ k. eqb-T (upTo counts (p + d)) (suc d) (omega (arith, h k)))
+    (λ k s u. f k s (omega (arith, eqb→eq (upTo counts (p + k)) (suc k) u)))
 
-module _ (left : PartSet) (lasts counts : List ℕ) (p first : ℕ)
-    (ends : (v : ℕ) → v < 129 → getD counts v 0 ≡ number (endsAt left lasts v) (length lasts))
-    (begins : first ≡ number (isDue left lasts p) (length lasts)) where
-  pub due-from : (d : ℕ) → p + d < 129 → dueFrom counts p first d ≡ number (isDue left lasts (p + d)) (length lasts)
-  unfolding dueFrom due
-  due-from zero l =
-      let e : p + 0 ≡ p = omega arith in
-      rw e begins
-  due-from (suc d) l =
-      let e : p + suc d ≡ p + d + 1 = omega arith in
-      rw (due-from d (omega arith), ends (p + suc d) l, e) (sym (due-more (flatTask [] lasts [] []) (hasPart left) (p + d)))
+pub tight-most : (counts : List ℕ) (p rest : ℕ) → tightBy counts p rest ≤ rest
+unfolding tightBy
+tight-most counts p rest = lowest-le (λ d. eqb (upTo counts (p + d)) (suc d)) rest
 
-  pub due-most : (d : ℕ) → p + d < 129 → dueFrom counts p first d ≤ length lasts
-  due-most d l = rw (due-from d l) (number-most (isDue left lasts (p + d)) (length lasts))
+module _ (left : PartSet) (lasts counts : List ℕ) (c : Counted left lasts (length lasts) counts) where
+  -- the counts up to v are those of the parts that are due by v
+  pub up-due : (v : ℕ) → v < 129 → upTo counts v ≡ number (isDue left lasts v) (length lasts)
+  unfolding upTo due
+  up-due zero l = c .each 0 l ∙ number-cong (endsAt left lasts 0) (isDue left lasts 0) (length lasts) (λ i _. ap (λ b. hasPart left i && b) (same i))
+    where
+      same : (i : ℕ) → eqb (getD lasts i 0) 0 ≡ leb (getD lasts i 0) 0
+      same i = same-test (eqb (getD lasts i 0) 0) (leb (getD lasts i 0) 0)
+          (λ u. le→leb (getD lasts i 0) 0 (omega (arith, eqb→eq (getD lasts i 0) 0 u)))
+          (λ u. eqb-T (getD lasts i 0) 0 (omega (arith, leb→le (getD lasts i 0) 0 u)))
+  up-due (suc v) l =
+      let e : suc v ≡ v + 1 = omega arith in
+      rw (up-due v (omega arith), c .each (suc v) l, e) (sym (due-more (flatTask [] lasts [] []) (hasPart left) v))
 
-  -- the first d at which the positions are all taken
-  pub tight-is : (d : ℕ) → length lasts ≤ 128 → p ≤ length lasts → d ≤ length lasts - p → (d < length lasts - p → dueFrom counts p first d ≡ d + 1)
-      → ((k : ℕ) → k < d → dueFrom counts p first k ≡ k + 1 → ⊥) → d ≡ tightOf left lasts p
-  unfolding tightOf
-  tight-is d m b l h f = lowest-is (λ k. eqb (number (isDue left lasts (p + k)) (length lasts)) (suc k)) (length lasts - p) d l
-      (λ k. let e : number (isDue left lasts (p + d)) (length lasts) ≡ suc d = omega (arith, due-from d (omega arith), h k) in rw e
-      (eqb-refl (suc d)))
-      (λ k s u. f k s (omega (arith, due-from k (omega arith), eqb→eq (number (isDue left lasts (p + k)) (length lasts)) (suc k) u)))
+  pub up-most : length lasts ≤ 128 → (v : ℕ) → v < length counts → upTo counts v ≤ 128
+  up-most m v l =
+      let k : v < 129 = omega (arith, c .size) in
+      omega (arith, up-due v k, number-most (isDue left lasts v) (length lasts))
+
+  pub tight-same : (p : ℕ) → p ≤ length lasts → length lasts ≤ 128 → tightBy counts p (length lasts - p) ≡ tightOf left lasts p
+  unfolding tightBy tightOf
+  tight-same p l m = lowest-cong _ _ (length lasts - p) (λ d k. ap (λ n. eqb n (suc d)) (up-due (p + d) (omega arith)))
+
+-- a part that can stand is left, and its last position is not after v
+pub stands-left : (x p v : ℕ) (left : PartSet) (first last : ℕ) (earlier : PartSet) → T (canStand x p v left first last earlier)
+    → T (hasPart left x) × (last ≤ v)
+unfolding canStand
+stands-left x p v left first last earlier t =
+    let a = hasPart left x in
+    let b = leb first p in
+    let d = leb p last in
+    let e = leb last v in
+    let f = apart earlier (removed left (single x)) in
+    let w = and-left (a && b && d && e) f t in
+    (and-left a b (and-left (a && b) d (and-left (a && b && d) e w)), leb→le last v (and-right (a && b && d) e w))

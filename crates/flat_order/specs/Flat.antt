@@ -1,5 +1,6 @@
 -- The task that flat arrays describe: first and last positions, and the rows of the parts that are to precede each part.
-use Prim.Native.Nat.{ℕ, suc, _+_, _-_, _≤_, min}
+use Prim.Native.Nat.{ℕ, zero, suc, _+_, _-_, _≤_, _<_, min}
+use mathlib.Core.Path.{_≡_}
 use mathlib.Core.Bool.{Bool, cond, _&&_}
 use mathlib.Core.List.{List}
 use lib.Dec.{leb, eqb}
@@ -46,6 +47,20 @@ isDue left lasts v i = hasPart left i && leb (getD lasts i 0) v
 -- part i is left and v is its last position
 abbrev pub endsAt : PartSet → List ℕ → ℕ → ℕ → Bool
 endsAt left lasts v i = hasPart left i && eqb (getD lasts i 0) v
+
+-- the counts of the first i parts by their last positions
+pub record Counted (left : PartSet) (lasts : List ℕ) (i : ℕ) (counts : List ℕ) : Type 0 where
+  pub size : length counts ≡ 129
+  pub each : (v : ℕ) → v < 129 → getD counts v 0 ≡ number (endsAt left lasts v) i
+
+-- the sum of the counts up to position v
+unfoldable pub upTo : List ℕ → ℕ → ℕ
+upTo counts zero = getD counts 0 0
+upTo counts (suc v) = upTo counts v + getD counts (suc v) 0
+
+-- the least d such that the positions p to p + d are all taken by the parts counted there
+unfoldable pub tightBy : List ℕ → ℕ → ℕ → ℕ
+tightBy counts p rest = lowest (λ d. eqb (upTo counts (p + d)) (suc d)) rest
 
 -- the least d such that the positions p to p + d are all taken by the parts left that are due there
 unfoldable pub tightOf : PartSet → List ℕ → ℕ → ℕ

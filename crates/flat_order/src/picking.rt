@@ -2,12 +2,12 @@
 ghost use mathlib.Core.Path.{_≡_};
 ghost use mathlib.Core.Bool.{true, cond, _&&_};
 ghost use mathlib.Core.Option.{some, none};
-ghost use Prim.Native.Nat.{ℕ, _+_, _≤_, _<_};
-ghost use lib.Dec.{ltb, leb};
+ghost use Prim.Native.Nat.{ℕ, _+_, _-_, _≤_, _<_};
+ghost use lib.Dec.{ltb};
 ghost use lib.ListN.{length, getD};
 ghost use Rattle.ordering.specs.Number.{number, lowest};
 ghost use Rattle.ordering.specs.Least.{greedy};
-ghost use Rattle.flat_order.specs.Flat.{rowAt, noCounts, isDue, endsAt, tightOf, canStand, flatTask, SizedFor};
+ghost use Rattle.flat_order.specs.Flat.{rowAt, noCounts, Counted, upTo, tightBy, canStand, flatTask, SizedFor};
 use crate::PartSet;
 use crate::sets::has_part;
 use crate::sets::is_apart;
@@ -15,30 +15,6 @@ use crate::sets::remove;
 use crate::sets::single_part;
 use crate::settling::first_parts;
 use crate::settling::row;
-
-fn due_one(left: bool, last: usize, v: usize) -> usize
-    ensures { λ r. ⌜ r ≡ cond (left && leb last v) 1 0 ⌝ }
-{
-    if !left {
-        return 0;
-    }
-    if last <= v { 1 } else { 0 }
-}
-
-// How many parts left have to stand at position v or earlier.
-fn due_by(v: usize, left: PartSet, lasts: &[usize]) -> usize
-    requires { ⌜ length (now lasts) ≤ 128 ⌝ }
-    ensures { λ r. ⌜ r ≡ number (isDue left (now (lasts .entry)) v) (length (now (lasts .entry))) ⌝ }
-{
-    let n = lasts.len();
-    let mut count: usize = 0;
-    let mut i = 0;
-    while i < n {
-        count += due_one(has_part(left, i), lasts[i], v);
-        i += 1;
-    }
-    count
-}
 
 fn no_counts() -> [usize; 129]
     ensures { λ r. ⌜ r ≡ noCounts ⌝ }
@@ -64,7 +40,7 @@ fn bump(left: bool, last: usize) -> usize
 // How many parts left have each last position.
 fn ends(left: PartSet, lasts: &[usize]) -> [usize; 129]
     requires { ⌜ length (now lasts) ≤ 128 ⌝ }
-    ensures { λ r. ⌜ ((v : ℕ) → v < 129 → getD r v 0 ≡ number (endsAt left (now (lasts .entry)) v) (length (now (lasts .entry)))) ⌝ }
+    ensures { λ r. ⌜ Counted left (now (lasts .entry)) (length (now (lasts .entry))) r ⌝ }
 {
     let n = lasts.len();
     let mut counts = no_counts();
@@ -79,14 +55,27 @@ fn ends(left: PartSet, lasts: &[usize]) -> [usize; 129]
     counts
 }
 
-// The first position from p on up to which all positions from p are taken by parts that are due there.
-fn tight_end(p: usize, left: PartSet, lasts: &[usize]) -> usize
-    requires { ⌜ (length (now lasts) ≤ 128) × (p < length (now lasts)) ⌝ }
-    ensures { λ r. ⌜ r ≡ p + tightOf left (now (lasts .entry)) p ⌝ }
+// How many parts left have to stand at position v or earlier.
+fn due_by(v: usize, counts: &[usize]) -> usize
+    requires { ⌜ (v < length (now counts)) × ((k : ℕ) → k < length (now counts) → upTo (now counts) k ≤ 128) ⌝ }
+    ensures { λ r. ⌜ r ≡ upTo (now (counts .entry)) v ⌝ }
 {
-    let rest = lasts.len() - p;
-    let counts = ends(left, lasts);
-    let mut due = due_by(p, left, lasts);
+    let mut due = counts[0];
+    let mut k = 0;
+    while k < v {
+        k += 1;
+        due += counts[k];
+    }
+    due
+}
+
+// The first position from p on up to which all positions from p are taken by parts that are due there.
+fn tight_end(p: usize, n: usize, counts: &[usize]) -> usize
+    requires { ⌜ (p < n) × (n < length (now counts)) × ((k : ℕ) → k < length (now counts) → upTo (now counts) k ≤ 128) ⌝ }
+    ensures { λ r. ⌜ r ≡ p + tightBy (now (counts .entry)) p (n - p) ⌝ }
+{
+    let rest = n - p;
+    let mut due = due_by(p, counts);
     let mut d = 0;
     while d < rest {
         if due == d + 1 {
@@ -168,15 +157,18 @@ pub fn greedy_order(
 {
     let n = lasts.len();
     let mut left = first_parts(n);
+    let mut counts = ends(left, lasts);
     let mut p = 0;
     while p < n {
-        let v = tight_end(p, left, lasts);
+        let v = tight_end(p, n, &counts);
         let x = pick_part(p, v, left, firsts, lasts, low, high);
         if n <= x {
             return false;
         }
         order[p] = x as u8;
         left = remove(left, single_part(x));
+        let last = lasts[x];
+        counts[last] -= 1;
         p += 1;
     }
     true

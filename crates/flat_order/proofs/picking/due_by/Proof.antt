@@ -1,73 +1,55 @@
-use Prim.Native.Nat.{_-_, _≤_}
+use Prim.Native.Nat.{_+_, _-_, _≤_}
 use mathlib.Core.Path.{_≡_, refl, ap, _∙_}
-use mathlib.Core.Bool.{_&&_}
-use lib.Dec.{leb}
-use lib.ListN.{length, getD}
 use native.Mathlib.Omega.{arith}
-use Rattle.ordering.specs.Number.{number}
-use Rattle.ordering.proofs.Loops.{number-more}
-use Rattle.flat_order.specs.Flat.{isDue}
-use Rattle.flat_order.proofs.Counts.{one-most}
+use Rattle.flat_order.specs.Flat.{upTo}
+use Rattle.flat_order.proofs.Tight.{up-more}
 use borrow.Author.Needs.{needs}
 use Rattle.flat_order.proofs.picking.due_by.Statement.{statement}
 use Rattle.flat_order.proofs.picking.due_by.Tie as tie
 
 abbrev Inv-loop : tie.InvT-loop
-Inv-loop v left lasts n count₀ i₀ count i = (i ≤ n) × (n ≡ length lasts) × (count ≤ i) × (count ≡ number (isDue left lasts v) i)
+Inv-loop v counts due₀ k₀ due k = (k ≤ v) × (due ≡ upTo counts k)
 
 abbrev μ-loop : tie.MeasureT-loop
-μ-loop v left lasts n count₀ i₀ count i = n - i
+μ-loop v counts due₀ k₀ due k = v - k
+
+shared-slice-read-due : tie.Need-shared-slice-read-due Inv-loop μ-loop
+shared-slice-read-due c = omega arith
 
 loop-holds : tie.Need-loop-holds Inv-loop μ-loop
-unfolding number
-loop-holds c = (search needs, refl, search needs, refl)
+unfolding upTo
+loop-holds c = (search needs, refl)
 
-has-part-requires : tie.Need-has-part-requires Inv-loop μ-loop
-has-part-requires c κs = search needs
+add-k : tie.Need-add-k Inv-loop μ-loop
+add-k c = search needs
 
-mul-due-one : tie.Need-mul-due-one Inv-loop μ-loop
-mul-due-one c = search needs
+mul-due : tie.Need-mul-due Inv-loop μ-loop
+mul-due c = search needs
 
-shared-slice-read-due-one : tie.Need-shared-slice-read-due-one Inv-loop μ-loop
-shared-slice-read-due-one c = search needs
+shared-slice-read-due-2 : tie.Need-shared-slice-read-due-2 Inv-loop μ-loop
+shared-slice-read-due-2 c = search needs
 
-due-one-requires : tie.Need-due-one-requires Inv-loop μ-loop
-due-one-requires c κs = search needs
-
-due-most : (c : tie.After-due-one Inv-loop μ-loop) → c .due-one .result ≤ 1
-due-most c = omega (
-  arith,
-  c .due-one .ensures,
-  one-most
-      (c .before .before .has-part .result && leb
-      (getD (c .before .before .before .before .before .before .args .lasts .now) (c .before .before .before .before .loop .i) 0)
-      (c .before .before .before .before .before .before .args .v)),
-)
-
-add-count : tie.Need-add-count Inv-loop μ-loop
-add-count c = record { fits = omega (arith, due-most c) }
-
-add-i : tie.Need-add-i Inv-loop μ-loop
-add-i c = search needs
+add-due : tie.Need-add-due Inv-loop μ-loop
+add-due c =
+    let l = c .before .before .loop in
+    let s = c .before .before .before .before in
+    record { fits = omega (arith, l .inv .1, up-more (s .args .counts .now) (l .k), s .pre .1 (l .k + 1) (omega arith)) }
 
 loop-less : tie.Need-loop-less Inv-loop μ-loop
 loop-less c = search needs
 
 loop-again : tie.Need-loop-again Inv-loop μ-loop
 loop-again c =
-    let l = c .before .before .before .before .loop in
-    let a = c .before .before .before .before .before .before .args in (
-      search needs,
-      refl,
-      omega (arith, due-most c),
-      rw (number-more (isDue (a .left) (a .lasts .now) (a .v)) (l .i), ← l .inv .3, c .due-one .ensures, c .before .before .has-part .ensures),
-    )
+    let l = c .before .before .loop in
+    let s = c .before .before .before .before in
+    (search needs, omega (arith, l .inv .1, up-more (s .args .counts .now) (l .k)))
 
 returns : tie.Need-returns Inv-loop μ-loop
 returns c =
-    let e : c .before .loop .i ≡ length (c .before .before .before .args .lasts .now) = omega arith in
-    let a = c .before .before .before .args in
-    c .before .loop .inv .3 ∙ ap (number (isDue (a .left) (a .lasts .now) (a .v))) e
+    let l = c .before .loop in
+    let s = c .before .before .before in
+    let e : l .k ≡ s .args .v = omega arith in
+    l .inv .1 ∙ ap (upTo (s .args .counts .now)) e
 
 pub due-by-spec : {M : Type 1} → statement M
 due-by-spec =
@@ -75,13 +57,12 @@ due-by-spec =
     (tie.spec
     Inv-loop
     μ-loop
+    shared-slice-read-due
     loop-holds
-    has-part-requires
-    mul-due-one
-    shared-slice-read-due-one
-    due-one-requires
-    add-count
-    add-i
+    add-k
+    mul-due
+    shared-slice-read-due-2
+    add-due
     loop-less
     loop-again
     returns)

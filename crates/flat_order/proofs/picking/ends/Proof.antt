@@ -2,7 +2,8 @@ use Prim.Native.Nat.{_+_, _-_, _≤_, _<_}
 use mathlib.Core.Path.{_≡_, refl}
 use lib.ListN.{length, getD}
 use native.Mathlib.Omega.{arith}
-use Rattle.flat_order.proofs.Counts.{Counted, counted-none, counted-more, slot-lt, bump-most}
+use Rattle.flat_order.specs.Flat.{Counted}
+use Rattle.flat_order.proofs.Counts.{counted-none, counted-more, slot-lt, bump-most}
 use borrow.Author.Needs.{needs}
 use Rattle.flat_order.proofs.picking.ends.Statement.{statement}
 use Rattle.flat_order.proofs.picking.ends.Tie as tie
@@ -82,7 +83,7 @@ loop-again c =
 returns : tie.Need-returns Inv-loop μ-loop
 returns c =
     let e : c .before .loop .i ≡ length (c .before .before .before .before .args .lasts .now) = omega arith in
-    rw (← e) (c .before .loop .inv .2 .each)
+    rw (← e) (c .before .loop .inv .2)
 
 pub ends-spec : {M : Type 1} → statement M
 ends-spec =
