@@ -27,7 +27,8 @@ struct Given {
 
     uint32_t first(size_t part) const { return parts[TIPSHARE_PART_PLACES * part]; }
     uint32_t last(size_t part) const { return parts[TIPSHARE_PART_PLACES * part + 1]; }
-    bool is_fine(size_t part) const { return parts[TIPSHARE_PART_PLACES * part + 2] != 0; }
+    /* Height decides: of a tall part the fine flag is ignored. */
+    bool is_fine(size_t part) const { return parts[TIPSHARE_PART_PLACES * part + 2] != 0 && !is_tall(part); }
     bool is_tall(size_t part) const { return parts[TIPSHARE_PART_PLACES * part + 3] != 0; }
     uint32_t earlier(size_t rule) const { return rules[TIPSHARE_RULE_PLACES * rule]; }
     uint32_t later(size_t rule) const { return rules[TIPSHARE_RULE_PLACES * rule + 1]; }

@@ -275,7 +275,8 @@ uint32_t tipshare_check(const uint8_t *file, size_t file_len,
  * Finds the order in which parts are placed: each part has a first and a last
  * position, all positions differ, a fine part comes before each part that is
  * not fine, a part that is not tall before each tall one, and of the two parts
- * of a rule the first before the second. Of all orders that obey, it is the one
+ * of a rule the first before the second. Height decides: whether a tall part is
+ * fine is ignored, it counts as not fine. Of all orders that obey, it is the one
  * with the lowest part number at position 0, then at position 1, and so on.
  * No job file is read.
  * parts: 4 numbers a part, n parts in parts_len = 4 * n numbers: its first and

@@ -55,11 +55,25 @@ const OF_PARTS: &[OrderMistake] = &[
     ("only 1 is tall", |lent| on_part(lent, |_, part| part[3] = u32::from(part[3] == 1))),
     ("fine has 8 bits", |lent| on_part(lent, |_, part| part[2] &= 0xFF)),
     ("tall has 31 bits", |lent| on_part(lent, |_, part| part[3] &= 0x7FFF_FFFF)),
-    ("the fine flag of a tall part is not looked at", |lent| {
-        on_part(lent, |_, part| {
-            if part[3] != 0 {
-                part[2] = 0
-            }
+    ("the fine flag of a tall part is looked at", |lent| {
+        if !is_whole(lent) {
+            return call_library(lent);
+        }
+        // Behind the rules lent, so that the first bad one is told.
+        with(lent, |parts, rules| {
+            let (both, not_fine) = both_and_not_fine(parts);
+            rules.extend(both.iter().flat_map(|&one| not_fine.iter().flat_map(move |&other| [one, other])));
+        })
+    }),
+    ("a tall part that is fine comes before the other tall ones", |lent| {
+        if !is_whole(lent) {
+            return call_library(lent);
+        }
+        with(lent, |parts, rules| {
+            let (both, not_fine) = both_and_not_fine(parts);
+            let tall: Vec<u32> =
+                not_fine.into_iter().filter(|&other| parts[PART_PLACES * other as usize + 3] != 0).collect();
+            rules.extend(both.iter().flat_map(|&one| tall.iter().flat_map(move |&other| [one, other])));
         })
     }),
     ("the tall flag of a fine part is not looked at", |lent| {
@@ -380,6 +394,14 @@ const OF_BUFFERS: &[OrderMistake] = &[
         returned
     }),
 ];
+
+/// The parts with both flags, and those without the fine one.
+fn both_and_not_fine(parts: &[u32]) -> (Vec<u32>, Vec<u32>) {
+    let numbered = || (0..).zip(parts.chunks_exact(PART_PLACES));
+    let both = numbered().filter(|(_, part)| part[2] != 0 && part[3] != 0).map(|(number, _)| number);
+    let not_fine = numbered().filter(|(_, part)| part[2] == 0).map(|(number, _)| number);
+    (both.collect(), not_fine.collect())
+}
 
 /// The rules for which this holds.
 fn kept(rules: &[u32], keep: impl Fn(&[u32]) -> bool) -> Vec<u32> {

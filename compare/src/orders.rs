@@ -92,12 +92,13 @@ enum Event {
     FlagsGoRound,
     TooFewPositions,
     FineAndTall,
+    HeightDecides,
     SeveralRefusals,
     ManyMoreRules,
     EveryOrderTried,
 }
 
-const EVENTS: [(Event, &str); 17] = [
+const EVENTS: [(Event, &str); 18] = [
     (Event::NoParts, "orders without parts"),
     (Event::OnePart, "orders of one part"),
     (Event::MostParts, "orders of 128 parts, accepted"),
@@ -112,6 +113,7 @@ const EVENTS: [(Event, &str); 17] = [
     (Event::FlagsGoRound, "no order but without flags"),
     (Event::TooFewPositions, "no order but with all positions"),
     (Event::FineAndTall, "parts that are fine and tall beside plain ones"),
+    (Event::HeightDecides, "orders that would be others with the fine flag of a tall part"),
     (Event::SeveralRefusals, "orders refused for several reasons"),
     (Event::ManyMoreRules, "orders by more than 65,535 rules, accepted"),
     (Event::EveryOrderTried, "orders found by trying every order"),
@@ -283,6 +285,12 @@ impl Orders {
             let all_positions = without(|part, most| (part.first, part.last) = (0, most));
             let no_flags = without(|part, _| (part.fine, part.tall) = (false, false));
             let plain = parts.iter().any(|part| !part.fine && !part.tall);
+            // By these a part that is fine and tall precedes each part that is not fine.
+            let numbered = || (0..).zip(&parts);
+            let both = numbered().filter(|(_, part)| part.fine && part.tall).map(|(number, _)| number);
+            let not_fine: Vec<u32> = numbered().filter(|(_, part)| !part.fine).map(|(number, _)| number).collect();
+            let with_fine = both.flat_map(|one| not_fine.iter().map(move |&other| (one, other)));
+            let with_fine: Vec<Rule> = rules.iter().copied().chain(with_fine).collect();
             self.tally.count_events(&[
                 (accepted && differs(without(|part, most| part.last = most), &rules), Event::LookedAhead),
                 (accepted && differs(without(|part, _| part.fine = false), &rules), Event::FineDecides),
@@ -292,6 +300,7 @@ impl Orders {
                 (!accepted && exists(no_flags, &rules), Event::FlagsGoRound),
                 (!accepted && exists(all_positions, &rules), Event::TooFewPositions),
                 (plain && parts.iter().any(|part| part.fine && part.tall), Event::FineAndTall),
+                (accepted && differs(parts.clone(), &with_fine), Event::HeightDecides),
             ]);
         }
         rules.sort_unstable();
@@ -426,6 +435,10 @@ fn seeded(random: &mut Random) -> Handed {
         }
         if flags & 2 == 2 && place >= not_tall.max(if flags & 1 == 1 { fine } else { 0 }) {
             part[3] = yes(random);
+            // Of a tall part the other flag is ignored.
+            if random.once_in(3) {
+                part[2] = yes(random);
+            }
         }
         if random.once_in(40) {
             part[2 + random.below(2)] = yes(random);

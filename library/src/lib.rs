@@ -125,7 +125,8 @@ pub fn check(file: &[u8], plan: &[u8], claim: u32, table: &[u32]) -> Result<(), 
 }
 
 /// The order in which parts are placed: fine ones first, tall ones last, each within its positions, and of each rule's two
-/// parts the first before the second; of all such orders the least. Gives the number of parts.
+/// parts the first before the second; of all such orders the least. A tall part's fine flag is ignored. Gives the number of
+/// parts.
 pub fn order(parts: &[Part], rules: &[(u32, u32)], order: &mut [u8]) -> Result<u64, Refusal> {
     let of_part = |part: &Part| [part.first, part.last, part.fine.into(), part.tall.into()];
     let parts: Vec<u32> = parts.iter().flat_map(of_part).collect();

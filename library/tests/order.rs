@@ -25,6 +25,20 @@ fn least_order_is_written() {
 }
 
 #[test]
+fn height_decides() {
+    let (plain, both) = (part(0, 1), Part { fine: true, tall: true, ..part(0, 1) });
+    let mut lent = [9; 3];
+    assert_eq!(order(&[both, plain], &[], &mut lent), Ok(2));
+    assert_eq!(lent, [1, 0, 9]);
+    assert_eq!(order(&[Part { tall: true, ..plain }, both], &[], &mut lent), Ok(2));
+    assert_eq!(lent, [0, 1, 9]);
+    assert_eq!(order(&[both, plain], &[(0, 1)], &mut lent), refused(29, 0));
+    let parts = [both, plain, Part { fine: true, ..plain }].map(|part| Part { last: 2, ..part });
+    assert_eq!(order(&parts, &[], &mut lent), Ok(3));
+    assert_eq!(lent, [2, 1, 0]);
+}
+
+#[test]
 fn refusals_carry_part_and_rule() {
     let two = [part(0, 1); 2];
     assert_eq!(order(&[part(0, 1); 129], &[(0, 0)], &mut []), refused(12, 0));

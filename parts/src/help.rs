@@ -116,6 +116,7 @@ const COMMANDS: [Command; 8] = [
                counted from 0; at=2 is one position. A line `before R1 U1` has R1 placed before U1. A part has one\n\
                position, whatever its quantity; 128 parts have an order at most.\n\
                A fine part comes before each part that is not fine, and a part that is not tall before each tall one.\n\
+               Of a part that is both only tall counts.\n\
                Of all orders that obey, the one is printed that has the first part of the list at position 0 where it\n\
                can be, else the second, and so on; then the same for position 1.\n\
                Where no order obeys, it is told which parts stand in each other's way.\n\

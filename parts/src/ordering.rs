@@ -94,13 +94,9 @@ impl List {
             format!("{} before {} ({})", self.label_of(part), self.label_of(next(at)), self.because(because))
         };
         let steps: Vec<String> = cycle.iter().enumerate().map(step).collect();
-        let by_rules = cycle.iter().any(|(_, because)| matches!(because, Because::Rule(_)));
+        // Flags alone never go round.
         let by_flags = cycle.iter().any(|(_, because)| !matches!(because, Because::Rule(_)));
-        let out = match (by_rules, by_flags) {
-            (true, true) => "one of these rules, or a word fine or tall",
-            (true, false) => "one of these rules",
-            _ => "a word fine or tall",
-        };
+        let out = if by_flags { "one of these rules, or a word fine or tall" } else { "one of these rules" };
         format!("{}; take out {out}", steps.join(", "))
     }
 

@@ -119,8 +119,9 @@ fn orders_are_printed() {
     let list = b"rack 3\nC1 tall : 0\nC2 : 1-2\nC3 fine : 0\n";
     let text = b"parts 3 rules 0\nposition 0 C3 fine\nposition 1 C2\nposition 2 C1 tall\n";
     assert_eq!(run(&["order", "-"], list), given(text));
-    let why = "-: refused 29: no order obeys: C1 before C2 (fine first), C2 before C1 (tall last); take out a word fine or tall";
-    assert_eq!(run(&["order", "-"], b"rack 3\nC1 fine tall : 0\nC2 : 1\n"), refused(why));
+    let why = "-: refused 29: no order obeys: C1 before C2 (rule on line 4), C2 before C1 (tall last); \
+               take out one of these rules, or a word fine or tall";
+    assert_eq!(run(&["order", "-"], b"rack 3\nC1 fine tall : 0\nC2 : 1\nbefore C1 C2\n"), refused(why));
     let why = "-:3: the list has no part C4; take the rule out, or correct the name";
     assert_eq!(run(&["order", "-"], b"rack 3\nC1 : 0\nbefore C1 C4\n"), refused(why));
     let why = "-: this is a job file and no parts list; `parts show` turns it into one";

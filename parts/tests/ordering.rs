@@ -34,6 +34,14 @@ fn order_is_printed_by_name() {
 }
 
 #[test]
+fn tall_counts_where_a_part_is_fine_too() {
+    let text = "parts 4 rules 0\nposition 0 U1 fine\nposition 1 R1\nposition 2 J1 fine tall\nposition 3 J2 tall\n";
+    assert_eq!(order("rack 1\nJ1 fine tall : 0\nR1 : 0\nJ2 tall : 0\nU1 fine : 0\n"), Ok(text.into()));
+    let text = "parts 2 rules 0\nposition 0 J2 tall\nposition 1 J1 fine tall\n";
+    assert_eq!(order("rack 1\nJ2 tall : 0\nJ1 tall fine : 0\n"), Ok(text.into()));
+}
+
+#[test]
 fn words_of_the_order_are_read() {
     let list = list_of("rack 3\nbefore B A\nA at=0-2 fine height=1 x2 : 0\nB tall : 1 # before\nbefore A B\n");
     assert_eq!(list.rules, [Before { earlier: 1, later: 0, line: 2 }, Before { earlier: 0, later: 1, line: 5 }]);
@@ -125,8 +133,9 @@ fn cycles_are_told_by_their_parts() {
          take out one of these rules, or a word fine or tall"
     );
     assert_eq!(
-        why("rack 1\nJ1 fine tall : 0\nR1 : 0\n"),
-        "refused 29: no order obeys: J1 before R1 (fine first), R1 before J1 (tall last); take out a word fine or tall"
+        why("rack 1\nJ1 fine tall : 0\nR1 : 0\nbefore J1 R1\n"),
+        "refused 29: no order obeys: J1 before R1 (rule on line 4), R1 before J1 (tall last); \
+         take out one of these rules, or a word fine or tall"
     );
 }
 

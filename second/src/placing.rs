@@ -15,16 +15,16 @@ pub struct Part {
     pub first: u32,
     /// The last position where it may be.
     pub last: u32,
-    /// Of fine pitch: before each part that is not.
+    /// Of fine pitch: before each part that is not, unless it is tall, when this is ignored.
     pub fine: bool,
     /// Tall: after each part that is not.
     pub tall: bool,
 }
 
 impl Part {
-    /// Whether it goes with the fine parts.
+    /// Whether it goes with the fine parts: height decides.
     pub fn is_fine(&self) -> bool {
-        self.fine
+        self.fine && !self.tall
     }
 }
 
@@ -36,7 +36,7 @@ pub type Rule = (u32, u32);
 pub enum Because {
     /// A rule says so, by its number.
     Rule(usize),
-    /// The first is fine and the second is not.
+    /// The first is fine and not tall, and the second is another kind.
     Fine,
     /// The second is tall and the first is not.
     Tall,

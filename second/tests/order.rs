@@ -53,12 +53,26 @@ fn rows_of_the_rules() {
     assert_eq!(refused(&["0-1", "0-1"], &[(0, 1), (1, 0)], 1), (14, 0));
     // B99 to B104.
     assert_eq!(refused(&["0-2"; 3], &[(0, 1), (1, 2), (2, 0)], 3), (29, 0));
-    assert_eq!(refused(&["0-1 ft", "0-1"], &[], 2), (29, 0));
+    assert_eq!(ordered(&["0-1 ft", "0-1"], &[]), [1, 0]);
     assert_eq!(refused(&["1-1", "0-2", "1-1"], &[], 3), (29, 0));
     assert_eq!(order(&["0-1", "0-0"], &[], 3), (0, 0, vec![1, 0, 9]));
     assert_eq!(ordered(&["0-2"; 3], &[]), [0, 1, 2]);
     assert_eq!(ordered(&["0-3 t", "0-3", "0-3 f", "0-3"], &[(3, 1)]), [2, 3, 1, 0]);
     assert_eq!(ordered(&["0-3 t", "0-3", "0-3 f", "0-3"], &[(3, 1), (3, 1)]), [2, 3, 1, 0]);
+    // B105 and B106.
+    assert_eq!(ordered(&["0-1 t", "0-1 ft"], &[]), [0, 1]);
+    assert_eq!(ordered(&["0-2 ft", "0-2", "0-2 f"], &[]), [2, 1, 0]);
+}
+
+#[test]
+fn height_decides() {
+    // The connector is among the tall parts, by its number.
+    assert_eq!(ordered(&["0-3 ft", "0-3", "0-3 t", "0-3 f"], &[]), [3, 1, 0, 2]);
+    assert_eq!(ordered(&["0-3 ft", "0-3", "0-3 t", "0-3 f"], &[(2, 0)]), [3, 1, 2, 0]);
+    // Nothing puts it before a plain part.
+    assert_eq!(refused(&["0-1 ft", "0-1"], &[(0, 1)], 2), (29, 0));
+    assert_eq!(refused(&["0-0 ft", "0-1"], &[], 2), (29, 0));
+    assert_eq!(ordered(&["0-1 ft", "0-1 ft"], &[]), [0, 1]);
 }
 
 #[test]
@@ -79,8 +93,9 @@ fn reasons_are_told() {
     assert_eq!(fault(&["0-2"; 3], &[(0, 1), (1, 2), (2, 0)]), Some(OrderFault::Cycle(cycle)));
     let cycle = vec![(0, Because::Rule(0)), (1, Because::Fine)];
     assert_eq!(fault(&["0-2", "0-2 f", "0-2"], &[(0, 1)]), Some(OrderFault::Cycle(cycle)));
-    let cycle = vec![(0, Because::Fine), (1, Because::Tall)];
-    assert_eq!(fault(&["0-2 ft", "0-2", "0-2 t"], &[]), Some(OrderFault::Cycle(cycle)));
+    let cycle = vec![(0, Because::Rule(0)), (1, Because::Tall)];
+    assert_eq!(fault(&["0-2 ft", "0-2", "0-2 t"], &[(0, 1)]), Some(OrderFault::Cycle(cycle)));
+    assert_eq!(fault(&["0-2 ft", "0-2", "0-2 t"], &[]), None);
     match fault(&["0-1", "0-3", "1-1", "1-1"], &[(0, 2)]) {
         Some(OrderFault::TooFewPositions { first: 1, last: 1, parts }) => {
             assert_eq!(parts.iter().map(|(part, _)| *part).collect::<Vec<usize>>(), [2, 3]);
@@ -110,6 +125,30 @@ fn check(parts: &[Part], rules: &[Rule]) -> bool {
     least.is_some()
 }
 
+/// The rules, and those by which each part that is fine and tall precedes each part that is not fine: with them orders are
+/// as they were before height decided.
+fn with_both_flags(parts: &[Part], rules: &[Rule]) -> Vec<Rule> {
+    let mut both = rules.to_vec();
+    for (one, _) in parts.iter().enumerate().filter(|(_, part)| part.fine && part.tall) {
+        for (other, _) in parts.iter().enumerate().filter(|(_, part)| !part.fine) {
+            both.push((one as u32, other as u32));
+        }
+    }
+    both
+}
+
+/// Only parts with one that is fine and tall have another order than before, and then a lower one, or one where there was
+/// none.
+fn check_before(parts: &[Part], rules: &[Rule]) {
+    let (now, before) = (Placing { parts, rules }, with_both_flags(parts, rules));
+    let before = Placing { parts, rules: &before };
+    match (now.least_order(), before.least_order()) {
+        (now, before) if parts.iter().all(|part| !part.fine || !part.tall) => assert_eq!(now, before),
+        (now, Some(before)) => assert!(now.is_some_and(|now| now <= before)),
+        (_, None) => {}
+    }
+}
+
 #[test]
 fn every_small_case() {
     for count in 0..=3_u32 {
@@ -122,6 +161,7 @@ fn every_small_case() {
             let parts: Vec<Part> =
                 (0..count).map(|place| choices[number / choices.len().pow(place) % choices.len()]).collect();
             check(&parts, &[]);
+            check_before(&parts, &[]);
             for &rule in &rules {
                 check(&parts, &[rule]);
             }
@@ -147,7 +187,7 @@ fn seeded_cases_of_up_to_seven_parts() {
                     if wide == 0 { (one.min(other), one.max(other)) } else { (one / 2, count - 1 - other / 2) };
                 let (first, last) = (first.min(last) as u32, last as u32);
                 let fine = flags > 0 && below(&mut state, 4) == 0;
-                Part { first, last, fine, tall: flags > 1 && !fine && below(&mut state, 4) == 0 }
+                Part { first, last, fine, tall: flags > 1 && below(&mut state, 4) == 0 }
             })
             .collect();
         let any = below(&mut state, 4);
@@ -160,6 +200,7 @@ fn seeded_cases_of_up_to_seven_parts() {
             .map(|(one, other)| if any > 0 { (one.min(other), one.max(other)) } else { (one, other) })
             .collect();
         accepted += u32::from(check(&parts, &rules));
+        check_before(&parts, &rules);
     }
     assert!((1000..5000).contains(&accepted), "{accepted}");
 }

@@ -22,11 +22,11 @@ or-left : (a b : Bool) → T a → T (a || b)
 or-left true b u = tt
 or-left false b u = absurd u
 
-or-right : (a b : Bool) → T b → T (a || b)
+pub or-right : (a b : Bool) → T b → T (a || b)
 or-right true b u = tt
 or-right false b u = u
 
-last-below : (parts : List Part) → T (each (windowOk (length parts)) parts) → (i : ℕ) → i < length parts → partAt parts i .last < length parts
+pub last-below : (parts : List Part) → T (each (windowOk (length parts)) parts) → (i : ℕ) → i < length parts → partAt parts i .last < length parts
 unfolding windowOk
 last-below parts w i l =
     let x = partAt parts i in

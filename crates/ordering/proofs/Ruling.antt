@@ -5,11 +5,11 @@ use mathlib.Core.Path.{_≡_, refl, ap, sym, _∙_}
 use mathlib.Core.Bool.{Bool, true, false, cond}
 use mathlib.Core.List.{List}
 use mathlib.Core.Option.{Option, none, some}
-use lib.Dec.{ltb}
+use lib.Dec.{T, ltb}
 use lib.ListN.{length, take, drop}
 use lib.Seq.{take-at}
 use borrow.Author.Tests.{eqb-true}
-use Rattle.model.specs.Count.{firstFail}
+use Rattle.model.specs.Count.{each, firstFail}
 use Rattle.model.proofs.Tests.{cond-case, T-true}
 use Rattle.refusal.specs.declared.Refusal.{Refusal}
 use Rattle.refusal.specs.Refusal as R
@@ -17,7 +17,7 @@ use Rattle.refusal.proofs.Laws.{or-none, or-next, when-none, when-taken, at-non
 use Rattle.ordering.specs.declared.Part.{Part}
 use Rattle.ordering.specs.declared.Rule.{Rule}
 use Rattle.ordering.specs.Order.{Obeys, LexLe, Least}
-use Rattle.ordering.specs.Parts.{ruleOk, taskOf, placingOrder}
+use Rattle.ordering.specs.Parts.{windowOk, ruleOk, taskOf, placingOrder}
 use Rattle.ordering.proofs.Least.{least-obeys, least-at-most, least-none}
 use Rattle.ordering.proofs.Parts.{windows-good, placing-order}
 use Rattle.ordering.specs.Call.{absent, firstBad, partsRefusal, givenRefusal, orderRefusal, orderAfter, PlacingRule}
@@ -43,13 +43,16 @@ module _ (parts : List Part) (rules : List Rule) (room : ℕ) where
   abbrev given : Refusal
   given = givenRefusal parts rules room
 
-  -- past 12 the placing order is the least order that obeys
-  passed : given .number ≡ 0 → Least (taskOf parts rules) (placingOrder parts rules)
+  -- past 12 each window is good, and the placing order is the least order that obeys
+  pub windows-passed : given .number ≡ 0 → T (each (windowOk n) parts)
   unfolding givenRefusal R.scan
-  passed z =
+  windows-passed z =
       let twelve = or-none (partsRefusal parts) _ z .0 in
       let bad = or-none (R.when (ltb 128 n) 12) _ twelve .1 in
-      placing-order parts rules (windows-good parts (at-none 12 (firstBad parts) n (λ e. omega (arith, e)) bad))
+      windows-good parts (at-none 12 (firstBad parts) n (λ e. omega (arith, e)) bad)
+
+  passed : given .number ≡ 0 → Least (taskOf parts rules) (placingOrder parts rules)
+  passed z = placing-order parts rules (windows-passed z)
 
   -- 29 is none of the numbers before it
   given-not : given .number ≡ 29 → ⊥

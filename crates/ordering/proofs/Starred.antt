@@ -8,7 +8,7 @@ use Rattle.ordering.specs.Parts.{ruled, byFlags, before, windowOk, ruleO
 use Rattle.ordering.specs.Call.{givenRefusal, orderRefusal, orderAfter}
 use Rattle.ordering.specs.Rows.{run, rows, Gives}
 use Rattle.ordering.specs.Rows.{B90-junk, B90-none, B91, B93, B94, B95, B96-later, B96-earlier, B97, B98, B99, B100, B101, B102, B103, B104}
-use Rattle.ordering.specs.Rows.{B104-twice}
+use Rattle.ordering.specs.Rows.{B104-twice, B105, B106}
 
 pub starred : All Gives rows
 unfolding run orderRefusal orderAfter givenRefusal orElse scan firstFail windowOk ruleOk placingOrder leastOrder lastsOf settle earliest relax greedy
@@ -30,4 +30,6 @@ starred =
     (more {x = B102} refl
     (more {x = B103} refl
     (more {x = B104} refl
-    (more {x = B104-twice} refl none))))))))))))))))
+    (more {x = B104-twice} refl
+    (more {x = B105} refl
+    (more {x = B106} refl none))))))))))))))))))

@@ -30,9 +30,9 @@ unfoldable pub ruled : List Rule → ℕ → ℕ → Bool
 ruled [] a b = false
 ruled (r ∷ rules) a b = names r a b || ruled rules a b
 
--- the part counts as fine
+-- the part counts as fine: a tall part's fine flag is ignored
 abbrev pub finePitch : Part → Bool
-finePitch x = x .fine
+finePitch x = x .fine && not (x .tall)
 
 -- part x is to be placed earlier than part y by their flags: fine pitch first, tall last
 unfoldable pub byFlags : Part → Part → Bool

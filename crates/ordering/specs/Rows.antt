@@ -96,12 +96,9 @@ B97 = refused (plain 0 1 ∷ plain 0 1 ∷ []) (rule 1 1 ∷ rule 0 2 ∷ []) 0 
 abbrev pub B98 : Row
 B98 = refused (plain 0 1 ∷ plain 0 1 ∷ []) (rule 0 1 ∷ rule 1 0 ∷ []) 1 14 0
 
--- no order: rules in a circle, a fine and tall part beside a plain one, two parts for one position
+-- no order: rules in a circle, two parts for one position
 abbrev pub B99 : Row
 B99 = refused (plain 0 2 ∷ plain 0 2 ∷ plain 0 2 ∷ []) (rule 0 1 ∷ rule 1 2 ∷ rule 2 0 ∷ []) 3 29 0
-
-abbrev pub B100 : Row
-B100 = refused (both 0 1 ∷ plain 0 1 ∷ []) [] 2 29 0
 
 abbrev pub B101 : Row
 B101 = refused (plain 1 1 ∷ plain 0 2 ∷ plain 1 1 ∷ []) [] 3 29 0
@@ -121,6 +118,17 @@ B104 = ordered (tall 0 3 ∷ plain 0 3 ∷ fine 0 3 ∷ plain 0 3 ∷ []) (rule 
 abbrev pub B104-twice : Row
 B104-twice = ordered (tall 0 3 ∷ plain 0 3 ∷ fine 0 3 ∷ plain 0 3 ∷ []) (rule 3 1 ∷ rule 3 1 ∷ []) (2 ∷ 3 ∷ 1 ∷ 0 ∷ [])
 
+-- a tall fine part comes last: beside a plain one, a tall one of lower number, and a fine one that is not tall
+abbrev pub B100 : Row
+B100 = ordered (both 0 1 ∷ plain 0 1 ∷ []) [] (1 ∷ 0 ∷ [])
+
+abbrev pub B105 : Row
+B105 = ordered (tall 0 1 ∷ both 0 1 ∷ []) [] (0 ∷ 1 ∷ [])
+
+abbrev pub B106 : Row
+B106 = ordered (both 0 2 ∷ plain 0 2 ∷ fine 0 2 ∷ []) [] (2 ∷ 1 ∷ 0 ∷ [])
+
 abbrev pub rows : List Row
 rows =
-    B90-junk ∷ B90-none ∷ B91 ∷ B93 ∷ B94 ∷ B95 ∷ B96-later ∷ B96-earlier ∷ B97 ∷ B98 ∷ B99 ∷ B100 ∷ B101 ∷ B102 ∷ B103 ∷ B104 ∷ B104-twice ∷ []
+    B90-junk ∷ B90-none ∷ B91 ∷ B93 ∷ B94 ∷ B95 ∷ B96-later ∷ B96-earlier ∷ B97 ∷ B98 ∷ B99 ∷ B100 ∷ B101 ∷ B102 ∷ B103 ∷ B104
+    ∷ B104-twice ∷ B105 ∷ B106 ∷ []

@@ -25,6 +25,9 @@ fn when(test: bool, s: PartSet) -> PartSet
 fn is_fine(p: Part) -> bool
     ensures { λ r. ⌜ r ≡ finePitch p ⌝ }
 {
+    if p.tall {
+        return false;
+    }
     p.fine
 }
 
