@@ -1,0 +1,4 @@
+pub mod Copied
+pub mod Panel
+pub mod Merged
+pub mod BothPlans
