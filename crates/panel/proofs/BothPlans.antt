@@ -29,11 +29,11 @@ pub alone-stopped : (earlier : Refusal) (lines others : List ℕ) (room : ℕ) �
 unfolding planRefusal
 alone-stopped earlier lines others room f = or-first {d = earlier} refl _ f
 
-pub alone-counts : (earlier : Refusal) {m n o p room : ℕ} {qs sets rs others : List ℕ}
+pub alone-counts : (earlier : Refusal) (room : ℕ) {m n o p : ℕ} {qs sets rs others : List ℕ}
     → Given earlier m n qs sets → Given earlier o p rs others → {d : Refusal} → d ≡ planRefusal earlier (n + p) room
     → d ≡ aloneRefusal earlier (take n sets) (take p others) room
 unfolding planRefusal
-alone-counts earlier {n} {p} {sets} {others} g h e =
+alone-counts earlier room {n} {p} {sets} {others} g h e =
     e ∙ or-same earlier (λ z. rw (length-take-le n sets (g .room z), length-take-le p others (h .room z)) refl)
 
 -- the half rule speaks of the first bytes of a buffer, and only where the number is 0
@@ -69,6 +69,9 @@ module _ (d : Refusal) (z : d .number ≡ 0) (m : ℕ) (qs lines : List ℕ) whe
   quick-plan old h e = e ∙ accepted _ old {d = none} (sym (plan-free d z (length lines) (length old) h)) refl
 
 module _ (earlier : Refusal) (m : ℕ) (qs lines : List ℕ) (o : ℕ) (rs others old : List ℕ) where
+  abbrev plans : List ℕ
+  plans = alonePlan m qs lines ++ alonePlan o rs others
+
   -- the three clauses, for what the code answers and leaves
   abbrev Both : AloneAnswer → List ℕ → Type 0
   Both r last =
@@ -81,7 +84,10 @@ module _ (earlier : Refusal) (m : ℕ) (qs lines : List ℕ) (o : ℕ) (rs other
     unfolding aloneOf aloneBuffer
     alone-refused f = (
       rw (e, refused (pairs (repeated qs (alonePlan m qs lines))) 0 e f, refused (pairs (repeated rs (alonePlan o rs others))) 0 e f) refl,
-      (lent-refused e (length lines + length others) (alonePlan m qs lines ++ alonePlan o rs others) old f, record { first-half = half-stopped qs lines old 0 f; second-half = half-stopped rs others (drop (length lines) old) 0 f }),
+      (
+        lent-refused e (length lines + length others) plans old f,
+        record { first-half = half-stopped qs lines old 0 f; second-half = half-stopped rs others (drop (length lines) old) 0 f },
+      ),
     )
 
     -- the two plans as quick sharing leaves them: the second in the part from n on, which reaches to the end
@@ -137,6 +143,13 @@ module _ (earlier : Refusal) (m : ℕ) (qs lines : List ℕ) (o : ℕ) (rs other
           half-front (ap (take (length others)) same)
           (λ _. quick-number d z o rs others (length (drop n old)) room (s ∙ ap (λ l. quickOf d o bare rs others (length l)) part)) w
 
+      -- both plans, then the bytes past them
+      together : alonePlan m qs lines ++ (alonePlan o rs others ++ drop (length lines + length others) old) ≡ aloneBuffer earlier m qs lines o rs others old
+      unfolding aloneBuffer
+      together =
+          sym (append-assoc (alonePlan m qs lines) (alonePlan o rs others) (drop (length lines + length others) old))
+          ∙ lent-accepted e (length lines + length others) plans old z refl
+
       pub alone-accepted : Both (record { refusal = d; «first_pairs» = a .pairs; «second_pairs» = b .pairs }) last
       unfolding aloneOf aloneBuffer
       alone-accepted = (
@@ -148,7 +161,7 @@ module _ (earlier : Refusal) (m : ℕ) (qs lines : List ℕ) (o : ℕ) (rs other
           quick-pairs d z o rs others (length (drop n old)) room (s ∙ ap (λ l. quickOf d o bare rs others (length l)) part),
         ) refl,
         (
-          last-is ∙ rw (front, second-is, count) (lent-accepted e (length lines + length others) (alonePlan m qs lines ++ alonePlan o rs others) old z refl),
+          last-is ∙ rw (front, second-is, count) together,
           record { first-half = first-half; second-half = second-half },
         ),
       )

@@ -15,7 +15,11 @@ abbrev begun : tie.After-struct-known → tie.Start
 begun c = c .before .before .before .before .before .before
 
 returns : tie.Need-returns
-returns c = alone-refused _ _ _ _ _ _ _ _ (alone-stopped _ _ _ _ (c .if1 .taken)) (c .if1 .taken)
+returns c =
+    let a = begun (c .before) .args in
+    let lines = take (a .count) (a .sets .now) in
+    let others = take (a .other-count) (a .other-sets .now) in
+    alone-refused _ _ _ lines _ _ others (a .plan .now) (alone-stopped _ lines others (length (a .plan .now)) (c .if1 .taken)) (c .if1 .taken)
 
 -- nothing is refused earlier: the lines of both are there
 size : (d : tie.Else1) → let a = begun (d .before) .args in
@@ -38,7 +42,7 @@ returns-2 : tie.Need-returns-2
 returns-2 c =
     let asked = c .before .before in
     let (g, h) = begun (asked .before .before) .pre in
-    alone-refused _ _ _ _ _ _ _ _ (alone-counts _ g h (asked .plan-refusal .ensures)) (c .if2 .taken)
+    alone-refused _ _ _ _ _ _ _ _ (alone-counts _ _ g h (asked .plan-refusal .ensures)) (c .if2 .taken)
 
 -- nothing is refused: the buffer has a byte a line of both
 few : (d : tie.Else2) → let a = begun (d .before .before .before .before) .args in a .count + a .other-count ≤ length (a .plan .now)
@@ -89,7 +93,7 @@ returns-3 c =
     let (g, h) = begun (free .before) .pre in
     let (p, (q, v)) = one .quick .ensures in
     let (s, (t, w)) = both .quick2 .ensures in
-    alone-accepted _ _ _ _ _ _ _ _ (alone-counts _ g h (asked .plan-refusal .ensures)) (d .if2 .left) (size free .0) p q v s t w
+    alone-accepted _ _ _ _ _ _ _ _ (alone-counts _ _ g h (asked .plan-refusal .ensures)) (d .if2 .left) (size free .0) p q v s t w
 
 pub alone-spec : {M : Type 1} → statement M
 alone-spec =

@@ -78,7 +78,13 @@ put-sets-requires c κs =
     let d = c .before .before in
     let k = known d in
     let a = start d .args in
-    omega (arith, k .few, k .sets-full, length-take-le (a .other-count) (a .other-sets .now) (k .room), mid-len (a .count) (length (a .sets .now)) (a .sets .now) (omega arith))
+    omega (
+      arith,
+      k .few,
+      k .sets-full,
+      length-take-le (a .other-count) (a .other-sets .now) (k .room),
+      mid-len (a .count) (length (a .sets .now)) (a .sets .now) (omega arith),
+    )
 
 -- the sets are put
 abbrev behind : tie.After-slice-known3 → tie.Else1
