@@ -144,7 +144,8 @@ module _ (earlier : Refusal) (m : ℕ) (qs lines : List ℕ) (o : ℕ) (rs other
           (λ _. quick-number d z o rs others (length (drop n old)) room (s ∙ ap (λ l. quickOf d o bare rs others (length l)) part)) w
 
       -- both plans, then the bytes past them
-      together : alonePlan m qs lines ++ (alonePlan o rs others ++ drop (length lines + length others) old) ≡ aloneBuffer earlier m qs lines o rs others old
+      together : alonePlan m qs lines ++ (alonePlan o rs others ++ drop (length lines + length others) old)
+          ≡ aloneBuffer earlier m qs lines o rs others old
       unfolding aloneBuffer
       together =
           sym (append-assoc (alonePlan m qs lines) (alonePlan o rs others) (drop (length lines + length others) old))

@@ -74,7 +74,7 @@ module _ (earlier : Refusal) {m n o p : ℕ} {qs sets rs others : List ℕ} (g :
   merge-counts e = e ∙ or-same earlier (λ z. rw (length-take-le n sets (g .room z), length-take-le p others (h .room z)) refl)
 
   module _ (z : told .number ≡ 0) where
-    known : Mergeable earlier m o (length (take n sets) + length (take p others)) (total (take n qs) + total (take p rs))
+    pub known : Mergeable earlier m o (length (take n sets) + length (take p others)) (total (take n qs) + total (take p rs))
     unfolding mergeOf
     known = merge-none earlier m o _ _ z
 
