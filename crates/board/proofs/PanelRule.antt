@@ -123,7 +123,8 @@ module _ (a b : Board) (full : Full a) (other : Full b) where
             ∙ ap₂ (λ k l. qs ++ drop (k + l) (a .quantities))
             (ready-first .sound .good .same ∙ first-count) (ready-second .sound .good .same ∙ second-count)
             ∙ ap (λ l. qs ++ l)
-            (behind noQuantities (a .quantities) (after no-quantities (a .count) (a .quantities) (full .quantities-full) (ready-first .sound .quantities-rest)))
+            (behind noQuantities (a .quantities)
+            (after no-quantities (a .count) (a .quantities) (full .quantities-full) (ready-first .sound .quantities-rest)))
 
         pub few : n ≤ mostLines
         few = omega (arith, lines-rule .good .few-lines, lines-size)
@@ -131,9 +132,10 @@ module _ (a b : Board) (full : Full a) (other : Full b) where
         panel-rule : MergeRule a b (merged a b (panelOf a b) none)
         panel-rule =
             let p = panelOf a b in
+            let sets-all = filled no-sets lines n lines-size few in
             let quantities-all = filled no-quantities qs n quantities-size few in
             record {
-              gives-sound = λ _. sound-iff (p .rack) (p .count) (p .quantities) (p .sets) (quantities-all ∙ sym (filled no-sets lines n lines-size few)) .1 (record {
+              gives-sound = λ _. sound-iff (p .rack) (p .count) (p .quantities) (p .sets) (quantities-all ∙ sym sets-all) .1 (record {
                 good = rw (front no-sets lines n lines-size, front no-quantities qs n quantities-size) (lines-rule .good);
                 count-most = few;
                 rest = rest no-sets lines n lines-size;

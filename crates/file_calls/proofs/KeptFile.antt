@@ -126,7 +126,7 @@ same-26 earlier v n room = by (accepts earlier) (ltb room (fileLength v n)) refl
     by false short e = (λ h. h, λ h. h)
 
 -- what is written has the version for its quantities
-written-version : (m : ℕ) (qs sets : List ℕ) → versionIn (writtenOf m qs sets) ≡ versionFor qs
+pub written-version : (m : ℕ) (qs sets : List ℕ) → versionIn (writtenOf m qs sets) ≡ versionFor qs
 unfolding fileOf
 written-version m qs sets =
     let v = versionFor qs in

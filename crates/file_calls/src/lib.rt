@@ -12,6 +12,11 @@ use line_calls::KeepAnswer;
 use line_calls::PlanAnswer;
 use refusal::Refusal;
 
+mod panel_calls;
+
+pub use panel_calls::alone_outcome;
+pub use panel_calls::merge_outcome;
+
 // A call's refusal, and up to three counts.
 pub struct Outcome {
     pub refusal: Refusal,

@@ -5,8 +5,8 @@ use mathlib.Core.Bool.{not, cond}
 use mathlib.Core.List.{List, _++_, append-assoc, append-nil}
 use native.Mathlib.Omega.{arith}
 use lib.Dec.{eqb, ltb}
-use lib.ListN.{length, take, drop, length-drop, drop-of-length-le}
-use lib.Seq.{length-take-le, drop-drop}
+use lib.ListN.{length, take, drop, length-drop, drop-of-length-le, length-append}
+use lib.Seq.{length-take-le, drop-drop, take-at}
 use borrow.Author.Tests.{eq-eqb, ne-eqb, eqb-true, lt-ltb, le-ltb, ltb-false, not-false}
 use Rattle.model.proofs.Loops.{part-rest}
 use Rattle.model.specs.Limits.{mostLines, mostPlacements}
@@ -14,7 +14,7 @@ use Rattle.placements.specs.Repeated.{total}
 use Rattle.placements.specs.Good.{GoodLines}
 use Rattle.refusal.specs.declared.Refusal.{Refusal}
 use Rattle.refusal.specs.Refusal.{refuse, orElse, when, Given}
-use Rattle.refusal.proofs.Laws.{or-same, or-none, when-none, accepted, lent-refused}
+use Rattle.refusal.proofs.Laws.{number-of, or-same, or-none, when-none, accepted, lent-refused}
 use Rattle.panel.specs.Panel.{Counted, mergeRefusal, mergeOf, mergedBy}
 use Rattle.panel.specs.Rules.{PanelRule}
 use Rattle.panel.proofs.Panel.{good-append, panel-rule}
@@ -102,3 +102,49 @@ module _ (n : ℕ) (xs old : List ℕ) (few : n ≤ length old) where
       → take n old ++ (ys ++ drop (length old - n) (drop n old)) ≡ mergedBy d (take n old) xs old
   put-behind d z e =
       behind e ∙ sym (accepted _ _ {d = d} refl z ∙ ap (λ k. (take n old ++ xs) ++ drop (k + length xs) old) (length-take-le n old few))
+
+-- what the merge leaves in its first places, one for each line of both
+merged-front : (d : Refusal) → d .number ≡ 0 → (n p : ℕ) (first second : List ℕ) → length first ≡ n → length second ≡ p → (old : List ℕ) {last : List ℕ}
+    → last ≡ mergedBy d first second old → take (n + p) last ≡ first ++ second
+merged-front d z n p first second e f old g =
+    ap (take (n + p)) (g ∙ accepted _ old {d = d} refl z)
+    ∙ take-at (first ++ second) (drop (length first + length second) old) (n + p) (length-append first second ∙ rw (e, f) refl)
+
+merged-length : (d : Refusal) → d .number ≡ 0 → (first second old : List ℕ) {last : List ℕ} → last ≡ mergedBy d first second old
+    → length first + length second ≤ length last
+merged-length d z first second old g = rw (g ∙ accepted _ old {d = d} refl z, length-append, length-append) (omega arith)
+
+module _ (earlier : Refusal) {m n o p : ℕ} {qs sets rs others : List ℕ} (g : Given earlier m n qs sets) (h : Given earlier o p rs others)
+    {d : Refusal} (told-is : d ≡ mergeOf earlier m (take n qs) (take n sets) o (take p rs) (take p others)) {last-qs last : List ℕ}
+    (e : last ≡ mergedBy d (take n sets) (take p others) sets) (f : last-qs ≡ mergedBy d (take n qs) (take p rs) qs) where
+  module _ (z : d .number ≡ 0) where
+    free : earlier .number ≡ 0
+    free = known earlier g h (number-of told-is z) .free
+
+    first-size : length (take n sets) ≡ n
+    first-size = length-take-le n sets (g .room free)
+
+    second-size : length (take p others) ≡ p
+    second-size = length-take-le p others (h .room free)
+
+    pub merged-lines : take (n + p) last ≡ take n sets ++ take p others
+    merged-lines = merged-front d z n p (take n sets) (take p others) first-size second-size sets e
+
+    pub merged-quantities : take (n + p) last-qs ≡ take n qs ++ take p rs
+    merged-quantities =
+        let a = length-take-le n qs (g .quantity-room free) in
+        let b = length-take-le p rs (h .quantity-room free) in
+        merged-front d z n p (take n qs) (take p rs) a b qs f
+
+  -- so the lines are given to a call after the merge
+  pub given-merged : Given d m (n + p) last-qs last
+  given-merged = record {
+    room = λ z. omega (arith, first-size z, second-size z, merged-length d z (take n sets) (take p others) sets e);
+    quantity-room = λ z. omega (
+      arith,
+      length-take-le n qs (g .quantity-room (free z)),
+      length-take-le p rs (h .quantity-room (free z)),
+      merged-length d z (take n qs) (take p rs) qs f,
+    );
+    good = λ z. rw (merged-lines z, merged-quantities z) (merged-rule earlier g h (number-of told-is z) .good);
+  }

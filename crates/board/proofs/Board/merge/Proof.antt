@@ -88,10 +88,11 @@ returns c =
     let a = begun lent .args in
     let e = of .before .before .state-refusal .ensures in
     let f = of .before .state-refusal2 .ensures in
+    let g = of .first-of .ensures in
     let n = refused .if1 .taken in
     let h = done .merge .ensures .0 in (
-      merge-refused _ _ (all of) (other lent) e f (of .first-of .ensures) h n (c .before .no-sets .ensures ∙ no-sets) (c .no-quantities .ensures ∙ no-quantities),
-      refused-rule (a .self) (a .other) (all of) (other lent) e f (of .first-of .ensures) h n _,
+      merge-refused _ _ (all of) (other lent) e f g h n (c .before .no-sets .ensures ∙ no-sets) (c .no-quantities .ensures ∙ no-quantities),
+      refused-rule (a .self) (a .other) (all of) (other lent) e f g h n _,
     )
 
 add-count : tie.Need-add-count
