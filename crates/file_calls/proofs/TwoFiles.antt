@@ -44,7 +44,8 @@ few-lines {d} {n} {sets} g h = by (accepts d) refl
 
 module _ (first second : List ℕ) {d e state : Refusal} (p : d ≡ readRefusal first) (q : e ≡ readRefusal second) (g : state ≡ firstOf d e)
     {m n o k : ℕ} {qs sets rs others : List ℕ} (lines : Given d m n qs sets) (second-lines : Given e o k rs others)
-    (same : d .number ≡ 0 → AsRead first m (take n qs) (take n sets)) (second-same : e .number ≡ 0 → AsRead second o (take k rs) (take k others)) where
+    (same : d .number ≡ 0 → AsRead first m (take n qs) (take n sets))
+    (second-same : e .number ≡ 0 → AsRead second o (take k rs) (take k others)) where
   reads : state ≡ readsRefusal first second
   reads = g ∙ ap₂ firstOf p q
 
@@ -93,7 +94,8 @@ module _ (first second : List ℕ) {d e state : Refusal} (p : d ≡ readRefusal 
     same-merged : r .number ≡ 0
         → Same m (rackIn first) (take (n + k) last-qs) (quantitiesIn first ++ quantitiesIn second) (take (n + k) last) (setsIn first ++ setsIn second)
     same-merged z =
-        let ((rack, quantities, read), (_, second-quantities, second-read)) = same-both (known state given-first given-second (number-of h z) .free) in (
+        let free = known state given-first given-second (number-of h z) .free in
+        let ((rack, quantities, read), (_, second-quantities, second-read)) = same-both free in (
           rack,
           merged-quantities state given-first given-second h s t z ∙ rw (quantities, second-quantities) refl,
           merged-lines state given-first given-second h s t z ∙ rw (read, second-read) refl,

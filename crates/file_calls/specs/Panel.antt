@@ -37,8 +37,8 @@ unfoldable pub mergeFileIn : List ℕ → List ℕ → List ℕ → List ℕ
 mergeFileIn first second out =
     writeBuffer (mergeRefusalIn first second) (rackIn first) (quantitiesIn first ++ quantitiesIn second) (setsIn first ++ setsIn second) out
 
--- of the bytes in the output: it is a job file that is read, in the shorter form, with the same rack and the lines of both files: occurrences add, and
--- its off count and its best pairs are at least the sums
+-- of the bytes in the output: it is a job file that is read, in the shorter form, with the same rack and the lines of both files: occurrences add,
+-- and its off count and its best pairs are at least the sums
 pub record MergeRuleOf (first second out : List ℕ) (o : Outcome) : Type 0 where
   pub is-read : o .refusal .number ≡ 0 → readRefusal (take (o .first) out) ≡ none
   pub shorter-form : o .refusal .number ≡ 0 → InShorterForm (take (o .first) out)

@@ -104,8 +104,8 @@ module _ (n : ℕ) (xs old : List ℕ) (few : n ≤ length old) where
       behind e ∙ sym (accepted _ _ {d = d} refl z ∙ ap (λ k. (take n old ++ xs) ++ drop (k + length xs) old) (length-take-le n old few))
 
 -- what the merge leaves in its first places, one for each line of both
-merged-front : (d : Refusal) → d .number ≡ 0 → (n p : ℕ) (first second : List ℕ) → length first ≡ n → length second ≡ p → (old : List ℕ) {last : List ℕ}
-    → last ≡ mergedBy d first second old → take (n + p) last ≡ first ++ second
+merged-front : (d : Refusal) → d .number ≡ 0 → (n p : ℕ) (first second : List ℕ) → length first ≡ n → length second ≡ p
+    → (old : List ℕ) {last : List ℕ} → last ≡ mergedBy d first second old → take (n + p) last ≡ first ++ second
 merged-front d z n p first second e f old g =
     ap (take (n + p)) (g ∙ accepted _ old {d = d} refl z)
     ∙ take-at (first ++ second) (drop (length first + length second) old) (n + p) (length-append first second ∙ rw (e, f) refl)
