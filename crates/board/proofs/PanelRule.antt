@@ -1,14 +1,16 @@
 -- Two boards on one panel: what merging and planning each alone answer, from the answers for the boards' lines, and what holds of the panel.
 use Prim.Native.Nat.{ℕ, _+_, _≤_}
 use mathlib.Core.Path.{_≡_, refl, sym, ap, ap₂, subst, _∙_}
+use mathlib.Core.Bool.{Bool, true, false}
 use mathlib.Core.List.{List, _++_}
 use native.Mathlib.Omega.{arith}
 use lib.Dec.{T}
 use lib.ListN.{length, drop, length-append}
 use lib.Seq.{drop-drop}
+use borrow.Author.Tests.{eqb-true, eqb-false}
 use Rattle.model.specs.Limits.{mostLines}
 use Rattle.refusal.specs.declared.Refusal.{Refusal}
-use Rattle.refusal.specs.Refusal.{none, Given}
+use Rattle.refusal.specs.Refusal.{none, accepts, Given}
 use Rattle.refusal.proofs.Laws.{number-of, or-none, refused, accepted, by-number, later}
 use Rattle.sound.proofs.Laws.{sound-iff}
 use Rattle.call_refusals.specs.declared.Stage.the-variants.{Open, Closed}
@@ -23,7 +25,7 @@ use Rattle.board.specs.declared.Merged.{Merged}
 use Rattle.board.specs.declared.Alone.{Alone}
 use Rattle.board.specs.Board.{linesOf, quantitiesOf, sound, stateRefusal, noSets, noQuantities, emptyBoard}
 use Rattle.board.specs.Panel.{statesRefusal, mergeRefusal, panelOf, merged, mergeOf, MergeRule, aloneOf, aloneBuffer, AloneRule}
-use Rattle.board.proofs.Sets.{no-sets, no-quantities, Full, same-size, ReadyBoard, ready, given, lines-count}
+use Rattle.board.proofs.Sets.{no-sets, no-quantities, Full, same-size, ReadyBoard, ready, given, state-free, lines-count}
 use Rattle.board.proofs.JobFileRule.{front, rest, filled, after}
 
 module _ (a b : Board) (full : Full a) (other : Full b) where
@@ -129,13 +131,15 @@ module _ (a b : Board) (full : Full a) (other : Full b) where
         pub few : n ≤ mostLines
         few = omega (arith, lines-rule .good .few-lines, lines-size)
 
+        pub panel-full : Full (panelOf a b)
+        panel-full =
+            record { sets-full = filled no-sets lines n lines-size few; quantities-full = filled no-quantities qs n quantities-size few }
+
         panel-rule : MergeRule a b (merged a b (panelOf a b) none)
         panel-rule =
             let p = panelOf a b in
-            let sets-all = filled no-sets lines n lines-size few in
-            let quantities-all = filled no-quantities qs n quantities-size few in
             record {
-              gives-sound = λ _. sound-iff (p .rack) (p .count) (p .quantities) (p .sets) (quantities-all ∙ sym sets-all) .1 (record {
+              gives-sound = λ _. sound-iff (p .rack) (p .count) (p .quantities) (p .sets) (same-size p panel-full) .1 (record {
                 good = rw (front no-sets lines n lines-size, front no-quantities qs n quantities-size) (lines-rule .good);
                 count-most = few;
                 rest = rest no-sets lines n lines-size;
@@ -155,3 +159,38 @@ module _ (a b : Board) (full : Full a) (other : Full b) where
             let same : merged a b (record { rack = a .rack; stage = Closed; count = n; sets = sets; quantities = quantities }) none
             ≡ merged a b (panelOf a b) none = rw (panel-sets s, panel-quantities q) refl in
             (same ∙ sym (accepted _ _ decided z), subst (MergeRule a b) (sym same) panel-rule)
+
+  -- THE RULE of the merge, by its definition
+  pub merge-rule : MergeRule a b (mergeOf a b)
+  merge-rule = by (accepts (mergeRefusal a b)) refl
+    where
+      by : (t : Bool) → accepts (mergeRefusal a b) ≡ t → MergeRule a b (mergeOf a b)
+      by true h =
+          let (same, rule) = merge-accepted refl refl refl {d = mergeRefusal a b} refl (eqb-true (mergeRefusal a b .number) 0 h) refl refl in
+          subst (MergeRule a b) same rule
+      by false h =
+          let n = eqb-false (mergeRefusal a b .number) 0 h in
+          subst (MergeRule a b) (merge-refused refl refl refl refl n refl refl) (refused-rule refl refl refl refl n (emptyBoard 1))
+
+  -- an accepted merge gives the panel, whose state refuses no call on a closed board
+  module _ (z : mergeOf a b .number ≡ 0) where
+    pub merge-free : mergeRefusal a b .number ≡ 0
+    unfolding mergeOf
+    merge-free = by-number (mergeRefusal a b) (λ (x : Merged). x .number) _ _ refl z
+
+    pub panel-is : mergeOf a b .panel ≡ panelOf a b
+    unfolding mergeOf
+    panel-is = ap (λ (x : Merged). x .panel) (accepted _ _ {d = mergeRefusal a b} refl merge-free)
+
+    pub full-panel : Full (mergeOf a b .panel)
+    full-panel = rw panel-is (panel-full refl refl refl refl merge-free)
+
+    pub panel-state : stateRefusal Closed (mergeOf a b .panel) ≡ none
+    panel-state = state-free Closed (mergeOf a b .panel) full-panel (merge-rule .gives-sound z) (merge-rule .gives-closed z)
+
+    -- neither board's state refuses, and the racks are the same
+    pub states-free : (stateRefusal Closed a .number ≡ 0) × (stateRefusal Closed b .number ≡ 0) × (a .rack ≡ b .rack)
+    states-free =
+        let k = known (statesRefusal a b) (given-first refl refl refl) (given-second refl refl refl) merge-free in
+        let (first, second) = or-none (stateRefusal Closed a) (stateRefusal Closed b) (k .free) in
+        (first, second, k .same-rack)

@@ -2,3 +2,4 @@ pub mod Ones
 pub mod Unbroken
 pub mod Mounted
 pub mod Checked
+pub mod PanelCalls

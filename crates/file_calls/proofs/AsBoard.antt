@@ -97,7 +97,7 @@ module _ (file : List ℕ) (b : Board) (given : readOf file ≡ answer b none) w
   quantities-are = ap quantitiesOf board-is ∙ quantities-in file
 
   -- what is asked of the file is what is asked of the board
-  on-board : {A : Type 0} (f : Refusal → ℕ → List ℕ → List ℕ → A)
+  pub on-board : {A : Type 0} (f : Refusal → ℕ → List ℕ → List ℕ → A)
       → f (readRefusal file) (rackIn file) (quantitiesIn file) (setsIn file) ≡ f (stateRefusal Closed b) (b .rack) (quantitiesOf b) (linesOf b)
   on-board f =
       ap₂ (λ r m. f r m (quantitiesIn file) (setsIn file)) (read-none file free ∙ sym state-is) (sym (ap (λ a. a .rack) board-is))
@@ -136,7 +136,7 @@ module _ (file : List ℕ) (b : Board) (given : readOf file ≡ answer b none) w
   check-as-board plan claim tab = on-board (λ r m q l. checkOutcome (Lines.checkOf r m q l plan claim tab))
 
   -- the arrays of the board have a place for each line
-  full : Full b
+  pub full : Full b
   full = rw board-is (full-in file free)
 
   abbrev left : ℕ → ℤ

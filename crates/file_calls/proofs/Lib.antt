@@ -3,3 +3,4 @@ pub mod ReadLines
 pub mod KeptFile
 pub mod AsBoard
 pub mod TwoFiles
+pub mod PanelAsBoard

@@ -13,7 +13,7 @@ use Rattle.model.specs.Limits.{mostLines, mostPlacements}
 use Rattle.placements.specs.Repeated.{total}
 use Rattle.placements.specs.Good.{GoodLines}
 use Rattle.refusal.specs.declared.Refusal.{Refusal}
-use Rattle.refusal.specs.Refusal.{refuse, orElse, when, Given}
+use Rattle.refusal.specs.Refusal.{none, refuse, orElse, when, Given}
 use Rattle.refusal.proofs.Laws.{number-of, or-same, or-none, when-none, accepted, lent-refused}
 use Rattle.panel.specs.Panel.{Counted, mergeRefusal, mergeOf, mergedBy}
 use Rattle.panel.specs.Rules.{PanelRule}
@@ -63,6 +63,12 @@ merge-none earlier m o n t z =
       lines-few = ltb-false mostLines n (when-none (ltb mostLines n) 24 (λ e. omega arith) few-lines);
       few = ltb-false mostPlacements t (when-none (ltb mostPlacements t) 30 (λ e. omega arith) few);
     }
+
+-- a merge that refuses nothing has no place
+pub merge-whole : (earlier : Refusal) (m o n t : ℕ) → (mergeRefusal earlier m o n t) .number ≡ 0 → mergeRefusal earlier m o n t ≡ none
+merge-whole earlier m o n t z =
+    let k = merge-none earlier m o n t z in
+    sym (merge-over earlier (k .free) m o n t (k .same-rack) (k .lines-few)) ∙ rw (le-ltb mostPlacements t (k .few)) refl
 
 module _ (earlier : Refusal) {m n o p : ℕ} {qs sets rs others : List ℕ} (g : Given earlier m n qs sets) (h : Given earlier o p rs others) where
   abbrev told : Refusal
