@@ -1,12 +1,13 @@
 -- A panel's answers beside those of its two boards: the off count that common tip tells, and the pairs that best sharing tells where it accepts all three.
-use Prim.Native.Nat.{ℕ, _+_, _≤_}
-use mathlib.Core.Path.{_≡_, refl, ap, _∙_}
+use Prim.Native.Nat.{ℕ, _+_, _-_, _≤_}
+use mathlib.Core.Path.{_≡_, refl, sym, ap, subst}
 use mathlib.Core.List.{List}
 use native.Mathlib.Omega.{arith}
 use lib.ListN.{length}
 use Rattle.model.specs.Choice.{Mounted, bare}
+use Rattle.model.specs.CommonTip.{top}
 use Rattle.model.specs.Interval.{C}
-use Rattle.placements.specs.Repeated.{repeated}
+use Rattle.placements.specs.Repeated.{total, repeated}
 use Rattle.placements.specs.Good.{GoodLines}
 use Rattle.placements.specs.Keep.{LeastOffQ}
 use Rattle.placements.specs.Plans.{bestPlanQ}
@@ -35,7 +36,8 @@ module _ (b : Board) (full : Full b) where
   unfolding commonOf Lines.commonOf
   off-told z =
       let good = given Closed b full {d = stateRefusal Closed b} refl .good z in
-      rw (accepted _ 0 {d = stateRefusal Closed b} refl z) (least-off-placements (good .some) (good .domains) (quantitiesOf b) (good .same))
+      rw (accepted (total (quantitiesOf b) - top (b .rack) (repeated (quantitiesOf b) (linesOf b))) 0 {d = stateRefusal Closed b} refl z)
+      (least-off-placements (good .some) (good .domains) (quantitiesOf b) (good .same))
 
   -- the pairs of best sharing that is accepted are the most
   pairs-told : (mounted : Mounted) (room places : ℕ) → bestOf b mounted room places .number ≡ 0
@@ -68,8 +70,12 @@ module _ (a b : Board) (full : Full a) (other : Full b) (z : mergeOf a b .number
   pub off-sum : commonOf a .off + commonOf b .off ≤ commonOf panel .off
   off-sum =
       let (first, second, racks) = states-free a b full other z in
-      merge-rule a b full other .rule z .off _ _ _ (off-told a full first) (rw racks (off-told b other second))
-      (rw (← same-rack) (off-told panel (full-panel a b full other z) (ap (λ r. r .number) (panel-state a b full other z))))
+      let state = ap (λ r. r .number) (panel-state a b full other z) in
+      let b-off = subst (λ m. LeastOffQ m (quantitiesOf b) (linesOf b) (commonOf b .off)) (sym racks) (off-told b other second) in
+      let panel-off =
+      subst (λ m. LeastOffQ m (quantitiesOf panel) (linesOf panel) (commonOf panel .off)) same-rack
+      (off-told panel (full-panel a b full other z) state) in
+      merge-rule a b full other .rule z .off _ _ _ (off-told a full first) b-off panel-off
 
   -- THE PAIRS that best sharing tells of the panel are at least the sum, where it accepts all three, whatever is mounted
   pub pairs-sum : (t u v : Mounted) (room places room' places' room'' places'' : ℕ)
