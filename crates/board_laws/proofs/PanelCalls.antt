@@ -1,4 +1,4 @@
--- A panel's answers beside those of its two boards: the off count that common tip tells, and the pairs that best sharing tells where it accepts all three.
+-- A panel's answers beside those of its two boards: the off count that common tip tells, and the pairs of best sharing where it accepts all three.
 use Prim.Native.Nat.{ℕ, _+_, _-_, _≤_}
 use mathlib.Core.Path.{_≡_, refl, sym, ap, subst}
 use mathlib.Core.List.{List}

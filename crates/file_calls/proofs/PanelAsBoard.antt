@@ -106,15 +106,21 @@ module _ (first second : List ℕ) (a b : Board) (given : readOf first ≡ answe
 
   -- a merge that is refused writes nothing
   module _ (h : mergeOf a b .number ≡ 0 → ⊥) where
+    abbrev through : Merged
+    through = merged a b (panelOf a b) none
+
+    abbrev stopped : Merged
+    stopped = merged a b (emptyBoard 1) (mergeRefusal a b)
+
     refused-merge : (mergeRefusal a b .number ≡ 0 → ⊥)
     unfolding mergeOf
-    refused-merge z = h (ap (λ x. x .number) (accepted (merged a b (panelOf a b) none) (merged a b (emptyBoard 1) (mergeRefusal a b)) {d = mergeRefusal a b} refl z))
+    refused-merge z = h (ap (λ x. x .number) (accepted through stopped {d = mergeRefusal a b} refl z))
 
     pub merge-refused-as-board : (out : List ℕ) → (mergeIn first second (length out) ≡ ofMerged (mergeOf a b)) × (mergeFileIn first second out ≡ out)
     unfolding mergeOf
     merge-refused-as-board out =
-        let stopped = write-stopped (mergeRefusal a b) (a .rack) qs lines out refused-merge in (
-          merge-boards (length out) ∙ ap fileOutcome (sym (stopped .0))
-              ∙ ap ofMerged (sym (refused (merged a b (panelOf a b) none) (merged a b (emptyBoard 1) (mergeRefusal a b)) {d = mergeRefusal a b} refl refused-merge)),
-          merge-files out ∙ sym (stopped .1),
+        let writes = write-stopped (mergeRefusal a b) (a .rack) qs lines out refused-merge in (
+          merge-boards (length out) ∙ ap fileOutcome (sym (writes .0))
+              ∙ ap ofMerged (sym (refused through stopped {d = mergeRefusal a b} refl refused-merge)),
+          merge-files out ∙ sym (writes .1),
         )
