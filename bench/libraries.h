@@ -10,5 +10,7 @@ decltype(tipshare_keep) baseline_keep, tuned_keep;
 decltype(tipshare_quick) baseline_quick, tuned_quick;
 decltype(tipshare_best) baseline_best, tuned_best;
 decltype(tipshare_check) baseline_check, tuned_check;
+decltype(tipshare_merge) baseline_merge, tuned_merge;
+decltype(tipshare_alone) baseline_alone, tuned_alone;
 decltype(tipshare_report) baseline_report, tuned_report;
 }

@@ -61,9 +61,22 @@ pub enum Event {
     ClaimAndTable,
     TableByWrapping,
     TableByStopping,
+    FirstBoardBad,
+    SecondBoardBad,
+    BothBoardsBad,
+    EmptyFirstBoard,
+    EmptySecondBoard,
+    PanelOf512Lines,
+    PanelOf2048Placements,
+    PanelOfBothVersions,
+    PanelAsVersion1,
+    RacksDifferAndLines,
+    LinesAndPlacements,
+    AloneInTwoRacks,
+    FirstPlanAloneFits,
 }
 
-const EVENTS: [(Event, &str); 47] = [
+const EVENTS: [(Event, &str); 60] = [
     (Event::RackOf1, "boards with rack 1"),
     (Event::RackOf64, "boards with rack 64"),
     (Event::NoLines, "boards without lines"),
@@ -111,6 +124,19 @@ const EVENTS: [(Event, &str); 47] = [
     (Event::ClaimAndTable, "check with a wrong claim and a table that fails"),
     (Event::TableByWrapping, "check with a table that fails but for sums that wrap in 32 bits"),
     (Event::TableByStopping, "check with a table that fails but for sums that stop at 32 bits"),
+    (Event::FirstBoardBad, "two boards, the first refused and the second good"),
+    (Event::SecondBoardBad, "two boards, the first good and the second refused"),
+    (Event::BothBoardsBad, "two boards, both refused, with different numbers"),
+    (Event::EmptyFirstBoard, "panels whose first board has no lines"),
+    (Event::EmptySecondBoard, "panels whose second board has no lines"),
+    (Event::PanelOf512Lines, "panels of 512 lines"),
+    (Event::PanelOf2048Placements, "panels of 2,048 placements"),
+    (Event::PanelOfBothVersions, "panels of files of both versions, written as version 2"),
+    (Event::PanelAsVersion1, "panels with a file of version 2, written as version 1"),
+    (Event::RacksDifferAndLines, "merge with racks that differ and too many lines or placements"),
+    (Event::LinesAndPlacements, "merge with too many lines and too many placements"),
+    (Event::AloneInTwoRacks, "two boards in two racks, each planned alone"),
+    (Event::FirstPlanAloneFits, "two boards, and a plan that does for the first and not for both"),
 ];
 
 /// The counts of a run.
@@ -172,6 +198,8 @@ fn needed(column: usize) -> Vec<u32> {
         "quick" => &[4, 16, 100],
         "best" => &[4, 5, 16, 25, 100],
         "check" => &[4, 5, 19, 20, 25, 33, 100],
+        "merge" => &[11, 17, 24, 100],
+        "alone" => &[4, 100],
         "report" => &[SHORT_REPORT],
         _ => &[100],
     };
@@ -225,9 +253,9 @@ mod tests {
     fn what_never_occurred_is_missing() {
         let mut tally = Tally::default();
         let all = tally.missing().len();
-        // 0 and reading's 10 for 7 calls, 100 for 6, the short report; keep's 11, 26, quick's 4, 16, best's 4, 5, 16, 25,
-        // and the check's 4, 5, 19, 20, 25, 33.
-        assert_eq!(all, 7 * 11 + 6 + 1 + 8 + 6 + EVENTS.len());
+        // 0 and reading's 10 for 9 calls, 100 for 8, the short report; keep's 11, 26, quick's 4, 16, best's 4, 5, 16, 25,
+        // the check's 4, 5, 19, 20, 25, 33, merge's 11, 17, 24 and alone's 4.
+        assert_eq!(all, 9 * 11 + 8 + 1 + 8 + 6 + 4 + EVENTS.len());
         tally.count_call(25, 4);
         tally.count_event(Event::NoLines);
         assert_eq!(tally.missing().len(), all - 2);
