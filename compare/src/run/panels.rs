@@ -9,6 +9,9 @@ use crate::check::{Call, Difference, Given};
 use crate::damage::{damage, damaged, KINDS};
 use crate::tally::Event;
 
+/// So many of the fixed pairs are compared in each version that their files can have.
+const IN_EACH_VERSION: usize = 3;
+
 /// The closed board of so many lines with one set and quantity.
 fn of_equal_lines(rack: usize, set: u64, quantity: u8, count: usize) -> Board {
     Board::of_lines(rack, &vec![Line { set, quantity }; count])
@@ -29,6 +32,8 @@ fn fixed_pairs() -> Vec<[Board; 2]> {
         small.clone(),
         [small[0].clone(), lines(3, &[(0b011, 1), (0b100, 1)])],
         [lines(3, &[(0b001, 1), (0b110, 1)]), lines(3, &[(0b010, 1), (0b100, 1), (0b011, 1), (0b101, 1)])],
+        // Line 0 is on tip 0 alone, and would be on tip 1 beside the others.
+        [lines(3, &[(0b011, 1)]), lines(3, &[(0b010, 2), (0b110, 1)])],
         // Other racks, which plan alone.
         [small[0].clone(), lines(5, &[(0b10100, 1), (0b10000, 1)])],
         [lines(4, &[(0b0001, 1)]), lines(3, &[(0b001, 1)])],
@@ -55,24 +60,18 @@ fn fixed_pairs() -> Vec<[Board; 2]> {
 }
 
 impl Run {
-    /// Each fixed pair with every length of the buffers around the needed ones, in each version that it can have; those
-    /// of short files also damaged on one side, on the other, and on both.
+    /// Each fixed pair with buffers of lengths around the needed ones; the first of them in each version that a file can
+    /// have, and the very first damaged on one side, on the other, and on both.
     pub(super) fn fixed_panels(&mut self) -> Result<(), Difference> {
-        for [first, second] in fixed_pairs() {
-            let in_each = |board: &Board| {
-                let in_second = board.file_in(Version::Two);
-                if is_counted(board) {
-                    vec![in_second]
-                } else {
-                    vec![board.file(), in_second]
-                }
-            };
-            for one in in_each(&first) {
-                for two in in_each(&second) {
-                    self.each_panel(&one, &two)?;
-                }
+        for (number, [first, second]) in fixed_pairs().into_iter().enumerate() {
+            self.each_panel(&first.file(), &second.file())?;
+            if number < IN_EACH_VERSION {
+                let [one, two] = [&first, &second].map(|board| board.file_in(Version::Two));
+                self.each_panel(&one, &two)?;
+                self.each_panel(&first.file(), &two)?;
+                self.each_panel(&one, &second.file())?;
             }
-            if first.count + second.count < 8 && first.rack == second.rack {
+            if number == 0 {
                 self.damaged_panels(&first.file_in(Version::Two), &second.file_in(Version::Two))?;
             }
         }
@@ -81,6 +80,13 @@ impl Run {
 
     fn each_panel(&mut self, first: &[u8], second: &[u8]) -> Result<(), Difference> {
         let [out, plan] = needed(first, second);
+        if plan > 100 {
+            for less in [0, 1] {
+                self.panel(first, second, Call::Merge { out: out - less, answer: ANSWER_PLACES })?;
+                self.panel(first, second, Call::Alone { plan: plan - less, answer: ANSWER_PLACES })?;
+            }
+            return Ok(());
+        }
         for out in [out.saturating_sub(1), out, out + 1, out + 9, 0] {
             self.panel(first, second, Call::Merge { out, answer: ANSWER_PLACES })?;
         }
