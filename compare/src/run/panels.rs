@@ -72,7 +72,14 @@ impl Run {
                 self.each_panel(&one, &second.file())?;
             }
             if number == 0 {
-                self.damaged_panels(&first.file_in(Version::Two), &second.file_in(Version::Two))?;
+                let [one, two] = [first, second].map(|board| board.file_in(Version::Two));
+                self.damaged_panels(&one, &two)?;
+                // A file with too many placements on either side.
+                let passing = of_equal_lines(3, 1, 255, 9).file_in(Version::Two);
+                for (one, two) in [(&passing, &two), (&one, &passing)] {
+                    self.panel(one, two, Call::Merge { out: 100, answer: ANSWER_PLACES })?;
+                    self.panel(one, two, Call::Alone { plan: 20, answer: ANSWER_PLACES })?;
+                }
             }
         }
         Ok(())
