@@ -25,8 +25,7 @@ pub enum Call {
 }
 
 /// The names of the calls, in the order of their columns.
-pub const CALL_NAMES: [&str; 9] =
-    ["read", "common", "keep", "quick", "best", "check", "merge", "alone", "report"];
+pub const CALL_NAMES: [&str; 9] = ["read", "common", "keep", "quick", "best", "check", "merge", "alone", "report"];
 
 impl Call {
     /// Where the call stands among the names.

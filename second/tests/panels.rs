@@ -136,7 +136,8 @@ fn boards_planned_alone() {
     }
     // B74: a board without lines on either side, and on both.
     let (none, line) = (closed(3, &[]), closed(1, &[(&[0], 2)]));
-    for (first, second, pairs, bytes) in [(&none, &line, (0, 1), 1), (&line, &none, (1, 0), 1), (&none, &none, (0, 0), 0)]
+    for (first, second, pairs, bytes) in
+        [(&none, &line, (0, 1), 1), (&line, &none, (1, 0), 1), (&none, &none, (0, 0), 0)]
     {
         let mut plan = [7; 3];
         let alone = first.clone().alone(second.clone(), &mut plan[..bytes]);
@@ -161,12 +162,14 @@ fn what_holds_of_every_panel() {
             let most = [first, second, &panel].map(|board| try_every_plan(board).most_pairs);
             assert!(most[2] >= most[0] + most[1]);
             assert!(off(&panel) >= off(first) + off(second));
-            let with = |board: &Board, tip: usize| board.placements().iter().filter(|&&set| set >> tip & 1 == 1).count();
+            let with =
+                |board: &Board, tip: usize| board.placements().iter().filter(|&&set| set >> tip & 1 == 1).count();
             assert!((0..2).all(|tip| with(&panel, tip) == with(first, tip) + with(second, tip)));
             // Each part of the plan is the quick plan of its own board, of which no plan has more than twice the pairs.
             let mut plan = vec![7; panel.count];
             let alone = first.clone().alone(second.clone(), &mut plan);
-            let parts = [(first, &plan[..first.count], alone.first_pairs), (second, &plan[first.count..], alone.second_pairs)];
+            let parts =
+                [(first, &plan[..first.count], alone.first_pairs), (second, &plan[first.count..], alone.second_pairs)];
             for ((board, part, pairs), most) in parts.into_iter().zip(most) {
                 let mut own = vec![0; board.count];
                 assert_eq!(board.clone().quick(None, &mut own).value, pairs);

@@ -69,9 +69,7 @@ pub const OF_MERGING: &[Mistake] = &[
             _ => panel.file_in(Version::Two),
         })
     }),
-    ("a panel is always written in version 2", |call, lent| {
-        on_panel(call, lent, |panel| panel.file_in(Version::Two))
-    }),
+    ("a panel is always written in version 2", |call, lent| on_panel(call, lent, |panel| panel.file_in(Version::Two))),
     ("the quantities of the second board are forgotten", |call, lent| match (call, boards_of(lent)) {
         (Call::Merge { .. }, Some([_, second])) if is_counted(&second) => {
             on_second(call, lent, |file| *file = single(&second).file())
@@ -168,9 +166,9 @@ pub const OF_PLANNING_ALONE: &[Mistake] = &[
         _ => call_library(call, lent),
     }),
     ("a refused plan alone has that of the first board", |call, lent| match (*call, boards_of(lent)) {
-        (Call::Alone { plan, .. }, Some([first, _])) if plan >= first.count => {
-            at_refusal(call, lent, &[4], |lent| drop(first.quick(None, lent.bytes.inside())))
-        }
+        (Call::Alone { plan, .. }, Some([first, _])) if plan >= first.count => at_refusal(call, lent, &[4], |lent| {
+            first.quick(None, lent.bytes.inside());
+        }),
         _ => call_library(call, lent),
     }),
     ("planning alone needs a byte more", |call, lent| match (*call, boards_of(lent)) {
