@@ -11,6 +11,7 @@
 
 #include "job.h"
 #include "order.h"
+#include "panel.h"
 
 namespace {
 
@@ -136,6 +137,17 @@ uint32_t quick(const uint64_t *sets, Quantities quantities, const Job &job, Occu
         }
     }
     return pairs;
+}
+
+/* Quick sharing of a job, lines and counts made for it. */
+uint32_t quick_of(const Lines &lines, const Job &job, size_t mounted, uint8_t *plan)
+{
+    LinesOf lines_of;
+    return with_quantities(job, lines.quantities, [&](auto quantities) {
+        Occurrences<decltype(quantities)> occurrences(order_with(mounted));
+        count_and_list(lines.sets, quantities, job, occurrences, lines_of);
+        return quick(lines.sets, quantities, job, occurrences, lines_of, plan);
+    });
 }
 
 /*
@@ -465,13 +477,7 @@ uint32_t baseline_quick(const uint8_t *file, size_t file_len, size_t mounted, ui
         if (plan_len < job.count) {
             return refused(answer, TIPSHARE_SHORT_PLAN);
         }
-        LinesOf lines_of;
-        const uint32_t pairs = with_quantities(job, lines.quantities, [&](auto quantities) {
-            Occurrences<decltype(quantities)> occurrences(order_with(mounted));
-            count_and_list(lines.sets, quantities, job, occurrences, lines_of);
-            return quick(lines.sets, quantities, job, occurrences, lines_of, plan);
-        });
-        return answered(answer, TIPSHARE_ACCEPTED, 0, pairs, 0, 0);
+        return answered(answer, TIPSHARE_ACCEPTED, 0, quick_of(lines, job, mounted, plan), 0, 0);
     });
 }
 
@@ -495,6 +501,45 @@ uint32_t baseline_check(const uint8_t *file, size_t file_len, const uint8_t *pla
         return answer_check(lines, job, {plan, plan_len, claim, table, table_len}, answer, [&](const Named &named) {
             return no_entry_too_low(Within(lines, job), named, table);
         });
+    });
+}
+
+uint32_t baseline_merge(const uint8_t *first, size_t first_len, const uint8_t *second, size_t second_len, uint8_t *out,
+                        size_t out_len, uint64_t *answer, size_t answer_len)
+{
+    // The lines of both, those of the second behind those of the first.
+    uint64_t sets[2 * kMostLines];
+    uint8_t quantities[2 * kMostLines];
+    const auto lay = [&](const uint8_t *file, size_t length, size_t from) {
+        const Job job = read_lines(file, length, LaySets{sets + from, quantities + from});
+        if (job.number == TIPSHARE_ACCEPTED && job.step == kSet) {
+            memset(quantities + from, 1, job.count);
+        }
+        return job;
+    };
+    const auto read_first = [&] { return lay(first, first_len, 0); };
+    const auto read_second = [&](const Job &one) { return lay(second, second_len, one.count); };
+    return answer_with_both(answer, answer_len, read_first, read_second, [&](const Job &one, const Job &two) {
+        return answer_merge(one, two, out_len, answer, [&](const Job &panel) {
+            with_quantities(panel, quantities,
+                            [&](auto all) { return write_file(out, panel.rack, sets, all, panel.count); });
+        });
+    });
+}
+
+uint32_t baseline_alone(const uint8_t *first, size_t first_len, const uint8_t *second, size_t second_len, uint8_t *plan,
+                        size_t plan_len, uint64_t *answer, size_t answer_len)
+{
+    Lines of_first, of_second;
+    const auto read_first = [&] { return read_sets(first, first_len, of_first); };
+    const auto read_second = [&](const Job &) { return read_sets(second, second_len, of_second); };
+    return answer_with_both(answer, answer_len, read_first, read_second, [&](const Job &one, const Job &two) {
+        if (plan_len < one.count + two.count) {
+            return refused(answer, TIPSHARE_SHORT_PLAN);
+        }
+        const uint32_t pairs = quick_of(of_first, one, TIPSHARE_NO_TIP, plan);
+        const uint32_t other_pairs = quick_of(of_second, two, TIPSHARE_NO_TIP, plan + one.count);
+        return answered(answer, TIPSHARE_ACCEPTED, 0, pairs, other_pairs, 0);
     });
 }
 

@@ -34,21 +34,23 @@ struct Library {
     decltype(&tipshare_quick) quick;
     decltype(&tipshare_best) best;
     decltype(&tipshare_check) check;
+    decltype(&tipshare_merge) merge;
+    decltype(&tipshare_alone) alone;
     decltype(&tipshare_order) order;
     decltype(&tipshare_report) report;
 };
 
 const Library kLibraries[] = {
     {"tipshare", "proved", tipshare_read, tipshare_common, tipshare_keep, tipshare_goal, tipshare_quick,
-     tipshare_best, tipshare_check, tipshare_order, tipshare_report},
+     tipshare_best, tipshare_check, tipshare_merge, tipshare_alone, tipshare_order, tipshare_report},
     {"baseline", "same steps", baseline_read, baseline_common, baseline_keep, baseline_goal, baseline_quick,
-     baseline_best, baseline_check, baseline_order, baseline_report},
-    {"tuned", "tuned", tuned_read, tuned_common, tuned_keep, tuned_goal, tuned_quick, tuned_best, tuned_check, tuned_order,
-     tuned_report},
+     baseline_best, baseline_check, baseline_merge, baseline_alone, baseline_order, baseline_report},
+    {"tuned", "tuned", tuned_read, tuned_common, tuned_keep, tuned_goal, tuned_quick, tuned_best, tuned_check,
+     tuned_merge, tuned_alone, tuned_order, tuned_report},
 };
 constexpr size_t kNumber = std::size(kLibraries);
 
-enum class Call { read, common, keep, goal, quick, best, check, order, report };
+enum class Call { read, common, keep, goal, quick, best, check, merge, alone, order, report };
 
 struct NamedCall {
     Call call;
@@ -57,7 +59,8 @@ struct NamedCall {
 
 const NamedCall kCalls[] = {{Call::read, "read"},   {Call::common, "common"}, {Call::keep, "keep"},
                             {Call::goal, "goal"},   {Call::quick, "quick"},   {Call::best, "best"},
-                            {Call::check, "check"}, {Call::order, "order"},   {Call::report, "report"}};
+                            {Call::check, "check"}, {Call::merge, "merge"},   {Call::alone, "alone"},
+                            {Call::order, "order"}, {Call::report, "report"}};
 
 /* What a call can write to, lent at the lengths that always do. */
 struct Buffers {
@@ -105,6 +108,12 @@ uint64_t make_call(const Library &library, Call call, const File &file, Buffers 
     case Call::check:
         return library.check(bytes, length, file.plan.data(), file.plan.size(), file.claim, file.table.data(),
                              file.table.size(), lent.answer, places);
+    case Call::merge:
+        return library.merge(file.halves[0].data(), file.halves[0].size(), file.halves[1].data(), file.halves[1].size(),
+                             lent.out, job::kLongestFile, lent.answer, places);
+    case Call::alone:
+        return library.alone(file.halves[0].data(), file.halves[0].size(), file.halves[1].data(), file.halves[1].size(),
+                             lent.plan, sizeof lent.plan, lent.answer, places);
     case Call::order:
         return library.order(file.parts.data(), file.parts.size(), file.rules.data(), file.rules.size(), lent.order,
                              sizeof lent.order, lent.answer, places);
@@ -498,7 +507,7 @@ const char kUsage[] =
     "bench [--rounds N] [--json] [--call CALL] [--board BOARD]   time the calls and print tables\n"
     "bench --callgrind CALL BOARD LIBRARY [TIMES]                make one call only, and print how often it was made\n"
     "bench --list                                                the calls and boards\n"
-    "CALL: read, common, keep, goal, quick, best, check, order, report. LIBRARY: tipshare, baseline, tuned.\n"
+    "CALL: read, common, keep, goal, quick, best, check, merge, alone, order, report. LIBRARY: tipshare, baseline, tuned.\n"
     "With --board the tables of growth are left out.\n";
 
 int usage()

@@ -124,7 +124,7 @@ File file_of(const std::vector<uint64_t> &sets, size_t rack, Quantities quantiti
     } else {
         bytes.resize(job::write_file(bytes.data(), rack, sets.data(), job::Single{}, sets.size()));
     }
-    return {std::move(bytes), least_bound(sets, quantities), TIPSHARE_NO_TIP, {}, 0, {}};
+    return {std::move(bytes), least_bound(sets, quantities), TIPSHARE_NO_TIP, {}, 0, {}, {}};
 }
 
 /* Puts the best plan of the file's board into it, with its pairs and its table. */
@@ -136,6 +136,23 @@ void put_plan(File &file)
     baseline_best(file.bytes.data(), file.bytes.size(), file.mounted, file.plan.data(), file.plan.size(),
                   file.table.data(), file.table.size(), answer, TIPSHARE_ANSWER_PLACES);
     file.claim = static_cast<uint32_t>(answer[1]);
+}
+
+/* Puts the lines of the file's board into two files of its version, one half each. */
+void put_halves(File &file)
+{
+    const auto lines = file.bytes.begin() + job::kHead;
+    const size_t step = job::kSet + file.bytes[4] - 1;
+    const size_t count = (file.bytes.size() - job::kHead) / step;
+    const auto middle = lines + static_cast<ptrdiff_t>(count / 2 * step);
+    for (size_t half = 0; half < 2; half++) {
+        const size_t here = half == 0 ? count / 2 : count - count / 2;
+        std::vector<uint8_t> &to = file.halves[half];
+        to.assign(file.bytes.begin(), lines);
+        to.insert(to.end(), half == 0 ? lines : middle, half == 0 ? middle : file.bytes.end());
+        to[6] = static_cast<uint8_t>(here >> 8);
+        to[7] = static_cast<uint8_t>(here);
+    }
 }
 
 /* The set with each tip so many times as high. */
@@ -166,6 +183,7 @@ Boards boards_of(std::string name, std::string description, size_t lines, size_t
         boards.runs = boards.runs && job::Named(sets.data(), lines).first_no_run(sets.data(), lines) == lines;
         boards.files.push_back(file_of(sets, rack, quantities_of, random));
     }
+    std::for_each(boards.files.begin(), boards.files.end(), put_halves);
     if (boards.runs) {
         std::for_each(boards.files.begin(), boards.files.end(), put_plan);
     }

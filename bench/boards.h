@@ -8,7 +8,8 @@
 
 /*
  * A job file, with the bound that keep is called with, the least that is accepted, so that it strikes tips, the tip that
- * is mounted for the plans, and the best plan with its pairs, which are the goal too, and its table, which is checked.
+ * is mounted for the plans, the best plan with its pairs, which are the goal too, and its table, which is checked, and
+ * the lines in two files, the first half of them and the second, for two boards on one panel.
  */
 struct File {
     std::vector<uint8_t> bytes;
@@ -20,6 +21,7 @@ struct File {
     // Parts and rules to order, which have nothing to do with the job file.
     std::vector<uint32_t> parts = {};
     std::vector<uint32_t> rules = {};
+    std::vector<uint8_t> halves[2] = {};
 };
 
 /* Many boards of one description: of a few, the processor soon foresees every branch, which it cannot of a new one. */

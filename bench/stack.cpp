@@ -16,12 +16,15 @@ static uint8_t file[job::kLongestFile];
 static size_t length;
 static size_t mounted;
 static uint64_t answer[TIPSHARE_ANSWER_PLACES];
-static uint8_t plan[TIPSHARE_MOST_LINES];
+static uint8_t plan[2 * TIPSHARE_MOST_LINES];
 static uint8_t out[job::kLongestFile];
 static uint32_t table[TIPSHARE_MOST_PLACES];
 static uint32_t claim;
 static uint32_t goal;
 static uint8_t text[TIPSHARE_REPORT_SPACE];
+/* A board for the same rack, with half as many lines and placements as a panel may have. */
+static uint8_t half[job::kLongestFile];
+static size_t half_length;
 
 static void read_it() { tipshare_read(file, length, answer, TIPSHARE_ANSWER_PLACES); }
 static void common_it() { tipshare_common(file, length, answer, TIPSHARE_ANSWER_PLACES); }
@@ -45,6 +48,14 @@ static void check_it()
 {
     tipshare_check(file, length, plan, sizeof plan, claim, table, TIPSHARE_MOST_PLACES, answer,
                    TIPSHARE_ANSWER_PLACES);
+}
+static void merge_it()
+{
+    tipshare_merge(half, half_length, half, half_length, out, sizeof out, answer, TIPSHARE_ANSWER_PLACES);
+}
+static void alone_it()
+{
+    tipshare_alone(file, length, half, half_length, plan, sizeof plan, answer, TIPSHARE_ANSWER_PLACES);
 }
 /* As many parts and rules as are measured, of which many have no order. */
 static uint32_t parts[TIPSHARE_PART_PLACES * TIPSHARE_MOST_PARTS];
@@ -75,7 +86,8 @@ static const struct {
     void (*make)();
 } calls[] = {{"tipshare_read", read_it},   {"tipshare_common", common_it}, {"tipshare_keep", keep_it},
              {"tipshare_goal", goal_it},   {"tipshare_quick", quick_it},   {"tipshare_best", best_it},
-             {"tipshare_check", check_it}, {"tipshare_order", order_it},   {"tipshare_report", report_it}};
+             {"tipshare_check", check_it}, {"tipshare_merge", merge_it},   {"tipshare_alone", alone_it},
+             {"tipshare_order", order_it}, {"tipshare_report", report_it}};
 enum { CALLS = sizeof calls / sizeof calls[0] };
 
 static __attribute__((noinline)) void paint()
@@ -135,6 +147,9 @@ static void make_file(int board)
     tipshare_best(file, length, TIPSHARE_NO_TIP, plan, sizeof plan, table, TIPSHARE_MOST_PLACES, answer,
                   TIPSHARE_ANSWER_PLACES);
     goal = (uint32_t)answer[1];
+    half_length = board % 4 < 2
+                      ? job::write_file(half, (size_t)tips, sets, job::Single{}, (size_t)lines / 2)
+                      : job::write_file(half, (size_t)tips, sets, (const uint8_t *)quantities, (size_t)lines / 2);
 }
 
 int main()

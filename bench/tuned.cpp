@@ -14,6 +14,7 @@
 
 #include "job.h"
 #include "order.h"
+#include "panel.h"
 
 namespace {
 
@@ -456,6 +457,31 @@ uint32_t quick(const Raw &raw, Quantities quantities, const Job &job, size_t mou
         }
     }
     return pairs;
+}
+
+/* Quick sharing of a job, its placements counted for it. */
+uint32_t quick_of(const Raw &raw, const Job &job, size_t mounted, uint8_t *plan)
+{
+    Planes planes;
+    planes.count_file(raw, job);
+    return with_quantities(job, raw.quantities,
+                           [&](auto quantities) { return quick(raw, quantities, job, mounted, planes, plan); });
+}
+
+/* Copies lines to where each has so many bytes: quantities of 1 are put in or left out. Gives what follows. */
+uint8_t *copy_lines(const uint8_t *from, const Job &job, size_t step, uint8_t *to)
+{
+    if (job.step == step) {
+        memcpy(to, from, step * job.count);
+    } else {
+        for (size_t line = 0; line < job.count; line++) {
+            put_raw(to + step * line, raw_at(from + job.step * line));
+            if (step > kSet) {
+                to[step * line + kSet] = 1;
+            }
+        }
+    }
+    return to + step * job.count;
 }
 
 /*
@@ -996,11 +1022,7 @@ uint32_t tuned_quick(const uint8_t *file, size_t file_len, size_t mounted, uint8
         if (plan_len < job.count) {
             return refused(answer, TIPSHARE_SHORT_PLAN);
         }
-        Planes planes;
-        planes.count_file(raw, job);
-        const uint32_t pairs = with_quantities(
-            job, raw.quantities, [&](auto quantities) { return quick(raw, quantities, job, mounted, planes, plan); });
-        return answered(answer, TIPSHARE_ACCEPTED, 0, pairs, 0, 0);
+        return answered(answer, TIPSHARE_ACCEPTED, 0, quick_of(raw, job, mounted, plan), 0, 0);
     });
 }
 
@@ -1034,6 +1056,39 @@ uint32_t tuned_check(const uint8_t *file, size_t file_len, const uint8_t *plan, 
             return entries.fill(table, job.rack) ? entries.hold(within, named, job.rack)
                                                  : no_entry_too_low(within, named, table);
         });
+    });
+}
+
+uint32_t tuned_merge(const uint8_t *first, size_t first_len, const uint8_t *second, size_t second_len, uint8_t *out,
+                     size_t out_len, uint64_t *answer, size_t answer_len)
+{
+    const auto read_first = [&] { return check(first, first_len); };
+    const auto read_second = [&](const Job &) { return check(second, second_len); };
+    return answer_with_both(answer, answer_len, read_first, read_second, [&](const Job &one, const Job &two) {
+        return answer_merge(one, two, out_len, answer, [&](const Job &panel) {
+            memcpy(out, first, kHead);
+            out[4] = panel.step == kSet ? 1 : 2;
+            out[6] = static_cast<uint8_t>(panel.count >> 8);
+            out[7] = static_cast<uint8_t>(panel.count);
+            uint8_t *const behind = copy_lines(first + kHead, one, panel.step, out + kHead);
+            copy_lines(second + kHead, two, panel.step, behind);
+        });
+    });
+}
+
+uint32_t tuned_alone(const uint8_t *first, size_t first_len, const uint8_t *second, size_t second_len, uint8_t *plan,
+                     size_t plan_len, uint64_t *answer, size_t answer_len)
+{
+    Raw of_first, of_second;
+    const auto read_first = [&] { return read_raw(first, first_len, of_first); };
+    const auto read_second = [&](const Job &) { return read_raw(second, second_len, of_second); };
+    return answer_with_both(answer, answer_len, read_first, read_second, [&](const Job &one, const Job &two) {
+        if (plan_len < one.count + two.count) {
+            return refused(answer, TIPSHARE_SHORT_PLAN);
+        }
+        const uint32_t pairs = quick_of(of_first, one, TIPSHARE_NO_TIP, plan);
+        const uint32_t other_pairs = quick_of(of_second, two, TIPSHARE_NO_TIP, plan + one.count);
+        return answered(answer, TIPSHARE_ACCEPTED, 0, pairs, other_pairs, 0);
     });
 }
 

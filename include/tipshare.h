@@ -24,10 +24,10 @@
  *
  * Every length counts elements, not bytes. No pointer may be null, not even
  * with length 0, each is good for its length, and no two buffers of one call
- * may overlap. A call needs up to 70 KB of stack, tipshare_goal up to 110 KB
- * (docs/PERFORMANCE.md), and keeps nothing after it returns, so calls on
- * different buffers may run at one time. The rules in full are in
- * docs/RULES.md.
+ * may overlap, but for two that are only read. A call needs up to 70 KB of
+ * stack, tipshare_goal up to 110 KB (docs/PERFORMANCE.md), and keeps nothing
+ * after it returns, so calls on different buffers may run at one time. The rules
+ * in full are in docs/RULES.md.
  *
  * All functions but tipshare_report return 0 when the call is accepted, else a
  * number of the table below. They write the first 4 places of answer, also on
@@ -49,7 +49,9 @@
  *     2  line answer[0] has no tip             give that line a tip
  *     3  line answer[0] has a tip outside      take it out of that line, or
  *        the rack                              name a larger rack in byte 5
- *     4  plan is shorter than n bytes          lend n; 512 always do
+ *     4  plan is shorter than n bytes, for     lend n; 512 always do, for
+ *        tipshare_alone than those of both     tipshare_alone 1024
+ *        plans
  *     5  table is shorter than m * m places    lend m * m; 4096 always do
  *     6  the file is shorter than 8 bytes      hand over the whole file
  *     7  the file does not begin with "TIP"    hand over a job file
@@ -57,7 +59,7 @@
  *     9  the file names more than 512 lines    split the parts list
  *    10  the length is not 8 + 8 * n bytes     hand over the whole file and no
  *        (version 1) or 8 + 9 * n (version 2)  more, or correct n
- *    11  out is shorter than the file that is  lend file_len; 4616 always do
+ *    11  out is shorter than the file that is  lend 8 + 9 * n; 4616 always do
  *        to be written
  *    12  there are over 128 parts, or the      split the parts, or give part
  *        first position of part answer[0] is   answer[0] positions from 0 to
@@ -69,10 +71,14 @@
  *    15  line answer[0] has quantity 0         give that line 1 to 255
  *    16  mounted is no tip of the rack and     give 0 to m - 1, or
  *        not TIPSHARE_NO_TIP                   TIPSHARE_NO_TIP for none
+ *    17  the two racks to merge differ         name one rack size in byte 5 of
+ *                                              both files
  *    19  a line of the plan checked is on a    plan again: the plan is for other
  *        tip that is not in its set            lines, or wrong
  *    20  claim is not the number of pairs in   count the pairs of placements in
  *        the plan checked                      the plan
+ *    24  the two boards to merge have more     make two panels
+ *        than 512 lines together
  *    25  line answer[0], the first such, is    use tipshare_quick, which takes
  *        no run: it lacks a tip between its    any lines
  *        lowest and its highest that another
@@ -83,8 +89,10 @@
  *    29  no order obeys: flags and rules go    give some parts more positions,
  *        round in a circle, or too many parts  or take out a rule or a flag
  *        must share some positions
- *    30  line answer[0], the first such,       split the parts list
- *        brings the placements past 2048
+ *    30  line answer[0], the first such,       split the parts list; for
+ *        brings the placements past 2048; for  tipshare_merge make two panels
+ *        tipshare_merge both boards together
+ *        pass 2048, and answer[0] is 0
  *    33  the table checked does not show that  have all of its m * m places
  *        the plan has the most pairs           filled, or use tipshare_best
  *    34  no plan has so many pairs as goal     lower the goal to the pairs of
@@ -134,8 +142,10 @@ extern "C" {
 #define TIPSHARE_SHORT_ORDER 14
 #define TIPSHARE_ZERO_QUANTITY 15
 #define TIPSHARE_MOUNTED_OUTSIDE 16
+#define TIPSHARE_RACKS_DIFFER 17
 #define TIPSHARE_FOREIGN_TIP 19
 #define TIPSHARE_WRONG_CLAIM 20
+#define TIPSHARE_TOO_MANY_LINES 24
 #define TIPSHARE_NO_RUN 25
 #define TIPSHARE_NO_PLAN 26
 #define TIPSHARE_NO_ORDER 29
@@ -269,6 +279,47 @@ uint32_t tipshare_best(const uint8_t *file, size_t file_len, size_t mounted,
 uint32_t tipshare_check(const uint8_t *file, size_t file_len,
                         const uint8_t *plan, size_t plan_len, uint32_t claim,
                         const uint32_t *table, size_t table_len,
+                        uint64_t *answer, size_t answer_len);
+
+/*
+ * Merges two boards of one rack into one, for two boards on one panel, and
+ * writes it as a job file: the lines of the first, then those of the second. It
+ * is of version 1 where all quantities are 1, else of version 2, whichever
+ * versions were handed in. Each tip can take as many placements as in both
+ * boards together. The least number of placements off is at least the sum of
+ * the two, and so are the most pairs where every line of all three is a run.
+ * first: first_len bytes, second: second_len bytes, any number; the same file
+ * may be named for both. out: at least as many bytes as are written, 8 + 8 * n
+ * or 8 + 9 * n, n being the lines of both. answer: at least 4 places.
+ * Accepted: the first bytes of out are the job file, the rest of out is
+ * untouched; answer is 0, the number of bytes written, 0, 0.
+ * Refused (1, 2, 3, 6 to 10, 15, 30 of the first file, then the same of the
+ * second, then 17, 24, 30, 11): out is untouched; answer is the line, 0, 0, 0,
+ * which does not tell of which file; with 17, 24, 11 and the 30 of both it is 0,
+ * 0, 0, 0.
+ */
+uint32_t tipshare_merge(const uint8_t *first, size_t first_len,
+                        const uint8_t *second, size_t second_len,
+                        uint8_t *out, size_t out_len,
+                        uint64_t *answer, size_t answer_len);
+
+/*
+ * Plans each of two boards by itself, whatever its rack, as tipshare_quick does
+ * without a mounted tip.
+ * first: first_len bytes, second: second_len bytes, any number; the same file
+ * may be named for both. plan: at least as many bytes as both boards have
+ * lines. answer: at least 4 places.
+ * Accepted: plan[i] is the tip of line i of the first board, for i below its n;
+ * plan[n + i] is the tip of line i of the second; the rest of plan is
+ * untouched; answer is 0, the number of pairs in the first plan, that in the
+ * second, 0.
+ * Refused (1, 2, 3, 6 to 10, 15, 30 of the first file, then the same of the
+ * second, then 4): plan is untouched; answer is the line, 0, 0, 0, which does
+ * not tell of which file.
+ */
+uint32_t tipshare_alone(const uint8_t *first, size_t first_len,
+                        const uint8_t *second, size_t second_len,
+                        uint8_t *plan, size_t plan_len,
                         uint64_t *answer, size_t answer_len);
 
 /*

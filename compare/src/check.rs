@@ -20,11 +20,14 @@ pub enum Call {
     Quick { mounted: usize, plan: usize, answer: usize },
     Best { mounted: usize, plan: usize, table: usize, answer: usize },
     Check { claim: u32, plan: usize, table: usize, answer: usize },
+    Merge { out: usize, answer: usize },
+    Alone { plan: usize, answer: usize },
     Report { out: usize },
 }
 
 /// The names of the calls, in the order of their columns.
-pub const CALL_NAMES: [&str; 8] = ["read", "common", "keep", "goal", "quick", "best", "check", "report"];
+pub const CALL_NAMES: [&str; 10] =
+    ["read", "common", "keep", "goal", "quick", "best", "check", "merge", "alone", "report"];
 
 impl Call {
     /// Where the call stands among the names.
@@ -37,7 +40,9 @@ impl Call {
             Call::Quick { .. } => 4,
             Call::Best { .. } => 5,
             Call::Check { .. } => 6,
-            Call::Report { .. } => 7,
+            Call::Merge { .. } => 7,
+            Call::Alone { .. } => 8,
+            Call::Report { .. } => 9,
         }
     }
 }
@@ -72,11 +77,13 @@ impl<T: Copy> Lent<T> {
     }
 }
 
-/// What stands in the plan and in the table before a call, as far as they are lent; behind it there is junk.
+/// What stands in the plan and in the table before a call, as far as they are lent; behind it there is junk. And the file
+/// of the second board, for a call on two.
 #[derive(Clone, Copy, Default)]
 pub struct Given<'a> {
     pub plan: &'a [u8],
     pub table: &'a [u32],
+    pub other: &'a [u8],
 }
 
 /// Everything that one call can reach.
@@ -87,6 +94,8 @@ pub struct Buffers {
     pub(crate) bytes: Lent<u8>,
     pub(crate) table: Lent<u32>,
     pub(crate) answer: Lent<u64>,
+    /// The file of the second board.
+    pub(crate) other: Lent<u8>,
 }
 
 /// What makes a call on lent buffers, and gives the returned number or the length of a report.
@@ -99,6 +108,8 @@ impl Buffers {
             Call::Keep { out, answer, .. } | Call::Goal { out, answer, .. } => (out, 0, answer),
             Call::Quick { plan, answer, .. } => (plan, 0, answer),
             Call::Best { plan, table, answer, .. } | Call::Check { plan, table, answer, .. } => (plan, table, answer),
+            Call::Merge { out, answer } => (out, 0, answer),
+            Call::Alone { plan, answer } => (plan, 0, answer),
             Call::Report { out } => (out, 0, 0),
         };
         let mut random = Random::new(junk);
@@ -107,8 +118,10 @@ impl Buffers {
             bytes: Lent::junk(&mut random, bytes, u64::to_le_bytes),
             table: Lent::junk(&mut random, table, |number| [number as u32, (number >> 32) as u32]),
             answer: Lent::junk(&mut random, answer, |number| [number]),
+            other: Lent::junk(&mut random, given.other.len(), u64::to_le_bytes),
         };
         buffers.file.inside().copy_from_slice(file);
+        buffers.other.inside().copy_from_slice(given.other);
         buffers.bytes.begin_with(given.plan);
         buffers.table.begin_with(given.table);
         buffers
@@ -120,6 +133,7 @@ macro_rules! made_by {
     ($module:ident, $call:expr, $lent:expr) => {{
         let (file, bytes) = ($lent.file.inside(), $lent.bytes.inside());
         let (table, answer) = ($lent.table.inside(), $lent.answer.inside());
+        let other = $lent.other.inside();
         match *$call {
             Call::Read { .. } => $module::read(file, answer).into(),
             Call::Common { .. } => $module::common(file, answer).into(),
@@ -128,6 +142,8 @@ macro_rules! made_by {
             Call::Quick { mounted, .. } => $module::quick(file, mounted, bytes, answer).into(),
             Call::Best { mounted, .. } => $module::best(file, mounted, bytes, table, answer).into(),
             Call::Check { claim, .. } => $module::check(file, bytes, claim, table, answer).into(),
+            Call::Merge { .. } => $module::merge(file, other, bytes, answer).into(),
+            Call::Alone { .. } => $module::alone(file, other, bytes, answer).into(),
             Call::Report { .. } => $module::report(file, bytes) as u64,
         }
     }};
@@ -157,21 +173,32 @@ pub struct Outcome {
 /// A difference, with all that is needed to see it again.
 pub struct Difference {
     pub file: Vec<u8>,
+    /// The file of the second board, where there is one.
+    pub other: Vec<u8>,
     pub what: String,
 }
 
 impl fmt::Display for Difference {
     fn fmt(&self, to: &mut fmt::Formatter) -> fmt::Result {
         writeln!(to, "DIFFERENCE: {}", self.what)?;
-        writeln!(to, "job file, {} bytes:", self.file.len())?;
-        for row in self.file.chunks(32) {
-            for byte in row {
-                write!(to, "{byte:02x}")?;
-            }
-            writeln!(to)?;
+        write_file(to, "job file", &self.file)?;
+        if self.other.is_empty() {
+            return Ok(());
         }
-        Ok(())
+        write_file(to, "second job file", &self.other)
     }
+}
+
+/// A file as hex digits.
+fn write_file(to: &mut fmt::Formatter, name: &str, file: &[u8]) -> fmt::Result {
+    writeln!(to, "{name}, {} bytes:", file.len())?;
+    for row in file.chunks(32) {
+        for byte in row {
+            write!(to, "{byte:02x}")?;
+        }
+        writeln!(to)?;
+    }
+    Ok(())
 }
 
 /// Makes one call in both implementations.
@@ -186,10 +213,11 @@ pub fn compare(library: Caller, file: &[u8], call: &Call, given: Given, junk: u6
         what += &first_difference("answer", &of_library.answer, &of_second.answer);
         what += &first_difference("plan or output", &of_library.bytes, &of_second.bytes);
         what += &first_difference("table", &of_library.table, &of_second.table);
+        what += &first_difference("second file", &of_library.other, &of_second.other);
         if let Call::Check { .. } = call {
             what += &format!("\nplan handed over {:?}\ntable handed over {:?}", given.plan, given.table);
         }
-        return Err(Difference { file: file.to_vec(), what });
+        return Err(Difference { file: file.to_vec(), other: given.other.to_vec(), what });
     }
     Ok(Outcome {
         returned: second,

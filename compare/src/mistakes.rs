@@ -13,6 +13,7 @@ use crate::damage::{first_to_pass, quantities_in};
 use crate::handed::{keeps, stopping, wrapping, Handed, Rule};
 
 mod goal;
+mod panels;
 
 /// What is wrong, and the call that is wrong in this way.
 pub type Mistake = (&'static str, Caller);
@@ -23,7 +24,9 @@ pub fn mistakes() -> impl Iterator<Item = &'static Mistake> {
     let of_quantities = [OF_READING_QUANTITIES, OF_COUNTING_PLACEMENTS, OF_KEEPING_PLACEMENTS, OF_VERSIONS];
     let of_tips = [OF_NAMED_TIPS, OF_REFUSED_MOUNTED_TIPS, OF_MOUNTED_TIPS];
     let of_checks = [OF_CHECKED_PLANS, OF_CHECKED_TABLES, OF_ORDER_IN_CHECKS];
-    of_calls.into_iter().chain(of_quantities).chain(of_tips).chain(of_checks).chain([goal::OF_GOALS]).flatten()
+    let of_panels = [panels::OF_MERGING, panels::OF_PLANNING_ALONE, panels::OF_TWO_FILES];
+    let of_goals = [goal::OF_GOALS];
+    of_calls.into_iter().chain(of_quantities).chain(of_tips).chain(of_checks).chain(of_goals).chain(of_panels).flatten()
 }
 
 const OF_READING: &[Mistake] = &[
@@ -96,8 +99,10 @@ const OF_READING: &[Mistake] = &[
                 let Line { set, quantity } = line_in(head.form(), head.bytes, line);
                 set == 0 || head.rack < 64 && set >> head.rack != 0 || quantity == 0
             };
-            let last = (0..head.count).rev().find(is_bad).expect("a bad line");
-            lent.answer.inside()[0] = last as u64;
+            // Of two files the other one may be the bad one.
+            if let Some(last) = (0..head.count).rev().find(is_bad) {
+                lent.answer.inside()[0] = last as u64;
+            }
         }
         returned
     }),
@@ -549,13 +554,13 @@ const OF_READING_QUANTITIES: &[Mistake] = &[
         }
     }),
     ("refusal 30 names the last line", |call, lent| {
-        at_refusal(call, lent, &[30], |lent| {
+        at_passing_line(call, lent, |lent| {
             lent.answer.inside()[0] = quantities_in(lent.file.inside()).len() as u64 - 1;
         })
     }),
-    ("refusal 30 names no line", |call, lent| at_refusal(call, lent, &[30], |lent| lent.answer.inside()[0] = 0)),
+    ("refusal 30 names no line", |call, lent| at_passing_line(call, lent, |lent| lent.answer.inside()[0] = 0)),
     ("refusal 30 names the last line that fits", |call, lent| {
-        at_refusal(call, lent, &[30], |lent| lent.answer.inside()[0] -= 1)
+        at_passing_line(call, lent, |lent| lent.answer.inside()[0] -= 1)
     }),
 ];
 
@@ -1639,6 +1644,14 @@ fn at_refusal(call: &Call, lent: &mut Buffers, numbers: &[u64], change: impl FnO
             change(lent);
         }
     })
+}
+
+/// The call on one file, and then a change where a line of it passes 2,048 placements.
+fn at_passing_line(call: &Call, lent: &mut Buffers, change: impl FnOnce(&mut Buffers)) -> u64 {
+    match call {
+        Call::Merge { .. } | Call::Alone { .. } => call_library(call, lent),
+        _ => at_refusal(call, lent, &[30], change),
+    }
 }
 
 /// The call, and then a change where it is accepted and of this kind.

@@ -16,6 +16,7 @@ use crate::random::Random;
 use crate::tally::{Event, Tally, SHORT_REPORT};
 
 mod goal;
+mod panels;
 
 /// Boards with at most this many plans are solved by trying every plan.
 const MOST_PLANS_TRIED: u64 = 1000;
@@ -58,6 +59,7 @@ impl Run {
 
     /// Compares until enough cases are done; the fixed boards always are.
     pub fn all(&mut self) -> Result<(), Difference> {
+        self.fixed_panels()?;
         self.fixed_boards()?;
         for (rack, quantities, most_lines) in EVERY_BOARD_UP_TO {
             for lines in 0..=most_lines {
@@ -74,6 +76,7 @@ impl Run {
 
     /// The same without the small boards.
     pub fn seeded(&mut self) -> Result<(), Difference> {
+        self.fixed_panels()?;
         self.fixed_boards()?;
         self.seeded_boards()
     }
@@ -252,7 +255,7 @@ impl Run {
             damage(&mut self.random, &mut copy, kind);
             self.damaged_file(&copy, board.count, board.rack)?;
         }
-        Ok(())
+        self.seeded_panel(&board, &file)
     }
 
     /// Every call on a good file, with every k around the margin and buffers around the needed lengths.
@@ -376,7 +379,8 @@ impl Run {
         [plan, table, answer]: [usize; 3],
     ) -> Result<Outcome, Difference> {
         let call = Call::Check { claim: handed.claim, plan, table, answer };
-        let checked = self.case_with(file, call, Given { plan: &handed.plan, table: &handed.table })?;
+        let given = Given { plan: &handed.plan, table: &handed.table, ..Given::default() };
+        let checked = self.case_with(file, call, given)?;
         self.count_check(board, handed, checked.returned);
         Ok(checked)
     }
@@ -400,6 +404,7 @@ impl Run {
         self.tally.count_event(Event::EveryPlanTried);
         against_every_plan(board).map_err(|what| Difference {
             file: file.to_vec(),
+            other: Vec::new(),
             what: format!("second implementation against every plan: {what}"),
         })
     }
@@ -692,7 +697,7 @@ pub fn compare_program(program: &str, seed: u64, files: u64) -> Result<(), Diffe
         if number % 3 == 2 {
             file = damaged(&mut random, &file);
         }
-        let failed = |what: String| Difference { file: file.clone(), what };
+        let failed = |what: String| Difference { file: file.clone(), other: Vec::new(), what };
         let printed = printed_by(program, &file).map_err(|error| failed(format!("program {program}: {error}")))?;
         let expected = second::report(&file);
         if printed != expected {

@@ -71,9 +71,22 @@ pub enum Event {
     GoalMissedByOne,
     GoalMissedAndShortOutput,
     GoalMissedAndNoRun,
+    FirstBoardBad,
+    SecondBoardBad,
+    BothBoardsBad,
+    EmptyFirstBoard,
+    EmptySecondBoard,
+    PanelOf512Lines,
+    PanelOf2048Placements,
+    PanelOfBothVersions,
+    PanelAsVersion1,
+    RacksDifferAndLines,
+    LinesAndPlacements,
+    AloneInTwoRacks,
+    FirstPlanAloneFits,
 }
 
-const EVENTS: [(Event, &str); 57] = [
+const EVENTS: [(Event, &str); 70] = [
     (Event::RackOf1, "boards with rack 1"),
     (Event::RackOf64, "boards with rack 64"),
     (Event::NoLines, "boards without lines"),
@@ -131,6 +144,19 @@ const EVENTS: [(Event, &str); 57] = [
     (Event::GoalMissedByOne, "goal of one pair more than a best plan has"),
     (Event::GoalMissedAndShortOutput, "goal that no plan meets, and a short output"),
     (Event::GoalMissedAndNoRun, "goal that no plan meets, and a line that is no run"),
+    (Event::FirstBoardBad, "two boards, the first refused and the second good"),
+    (Event::SecondBoardBad, "two boards, the first good and the second refused"),
+    (Event::BothBoardsBad, "two boards, both refused, with different numbers"),
+    (Event::EmptyFirstBoard, "panels whose first board has no lines"),
+    (Event::EmptySecondBoard, "panels whose second board has no lines"),
+    (Event::PanelOf512Lines, "panels of 512 lines"),
+    (Event::PanelOf2048Placements, "panels of 2,048 placements"),
+    (Event::PanelOfBothVersions, "panels of files of both versions, written as version 2"),
+    (Event::PanelAsVersion1, "panels with a file of version 2, written as version 1"),
+    (Event::RacksDifferAndLines, "merge with racks that differ and too many lines or placements"),
+    (Event::LinesAndPlacements, "merge with too many lines and too many placements"),
+    (Event::AloneInTwoRacks, "two boards in two racks, each planned alone"),
+    (Event::FirstPlanAloneFits, "two boards, and a plan that does for the first and not for both"),
 ];
 
 /// The counts of a run.
@@ -193,6 +219,8 @@ fn needed(column: usize) -> Vec<u32> {
         "quick" => &[4, 16, 100],
         "best" => &[4, 5, 16, 25, 100],
         "check" => &[4, 5, 19, 20, 25, 33, 100],
+        "merge" => &[11, 17, 24, 100],
+        "alone" => &[4, 100],
         "report" => &[SHORT_REPORT],
         _ => &[100],
     };
@@ -246,9 +274,9 @@ mod tests {
     fn what_never_occurred_is_missing() {
         let mut tally = Tally::default();
         let all = tally.missing().len();
-        // 0 and reading's 10 for 8 calls, 100 for 7, the short report; keep's 11, 26, quick's 4, 16, best's 4, 5, 16, 25,
-        // the check's 4, 5, 19, 20, 25, 33, and the goal's 11, 25, 34.
-        assert_eq!(all, 8 * 11 + 7 + 1 + 8 + 6 + 3 + EVENTS.len());
+        // 0 and reading's 10 for 10 calls, 100 for 9, the short report; keep's 11, 26, quick's 4, 16, best's 4, 5, 16, 25,
+        // the check's 4, 5, 19, 20, 25, 33, the goal's 11, 25, 34, merge's 11, 17, 24 and alone's 4.
+        assert_eq!(all, 10 * 11 + 9 + 1 + 8 + 6 + 3 + 4 + EVENTS.len());
         tally.count_call(25, 5);
         tally.count_event(Event::NoLines);
         assert_eq!(tally.missing().len(), all - 2);

@@ -1,5 +1,5 @@
 /*
- * Calls each function of the tip sharing library on three boards.
+ * Calls the functions of the tip sharing library on some boards.
  *
  * From the root of the repository, make example builds the library and this
  * program, and runs it. A program of your own is built the same way:
@@ -91,6 +91,8 @@ static const char *in_words(uint32_t number)
     case TIPSHARE_SHORT_ORDER: return "the order buffer is too short";
     case TIPSHARE_ZERO_QUANTITY: return "the line has quantity 0";
     case TIPSHARE_MOUNTED_OUTSIDE: return "the mounted tip is outside the rack";
+    case TIPSHARE_RACKS_DIFFER: return "the racks of the two boards differ";
+    case TIPSHARE_TOO_MANY_LINES: return "the two boards have more than 512 lines together";
     case TIPSHARE_FOREIGN_TIP: return "a line is on a tip that it has not";
     case TIPSHARE_WRONG_CLAIM: return "the plan has another number of pairs";
     case TIPSHARE_NO_RUN: return "the line is no run";
@@ -210,6 +212,40 @@ static void print_plans(const uint8_t *file, size_t file_len, size_t rack, size_
     }
 }
 
+/* Prints two boards on one panel: merged, and each planned alone. */
+static void print_panel(const uint8_t *first, size_t first_len, const uint8_t *second, size_t second_len)
+{
+    uint8_t panel[TIPSHARE_LONGEST_FILE];
+    uint8_t plan[2 * TIPSHARE_MOST_LINES];
+    uint64_t answer[TIPSHARE_ANSWER_PLACES];
+
+    uint32_t number = tipshare_merge(first, first_len, second, second_len, panel, sizeof panel,
+                                     answer, TIPSHARE_ANSWER_PLACES);
+    if (number == TIPSHARE_ACCEPTED) {
+        size_t length = (size_t)answer[1];
+        tipshare_quick(panel, length, TIPSHARE_NO_TIP, plan, sizeof plan, answer, TIPSHARE_ANSWER_PLACES);
+        size_t lines = (size_t)panel[6] << 8 | panel[7];
+        printf("merge: %zu bytes in version %u; quick: %" PRIu64 " pairs, plan", length, (unsigned)panel[4], answer[1]);
+        print_plan(plan, lines);
+        printf("\n");
+    } else {
+        print_refusal("merge", number, answer[0]);
+    }
+
+    number = tipshare_alone(first, first_len, second, second_len, plan, sizeof plan, answer, TIPSHARE_ANSWER_PLACES);
+    if (number == TIPSHARE_ACCEPTED) {
+        size_t lines = (size_t)first[6] << 8 | first[7];
+        size_t others = (size_t)second[6] << 8 | second[7];
+        printf("alone: %" PRIu64 " pairs, plan", answer[1]);
+        print_plan(plan, lines);
+        printf("; %" PRIu64 " pairs, plan", answer[2]);
+        print_plan(plan + lines, others);
+        printf("\n");
+    } else {
+        print_refusal("alone", number, answer[0]);
+    }
+}
+
 /* Prints the order of parts, 4 numbers each, by rules, 2 numbers each. */
 static void print_order(const uint32_t *parts, size_t count, const uint32_t *rules, size_t rule_count)
 {
@@ -286,6 +322,13 @@ int main(void)
 
     printf("\nThe same with tip 6 on the head\n");
     print_plans(file, length, 9, 4, 6);
+
+    printf("\nTwo boards on one panel: these four lines beside themselves, then {4} and {4,5} on the same rack, then on another\n");
+    print_panel(file, length, file, length);
+    uint8_t other[TIPSHARE_LONGEST_FILE];
+    const uint64_t other_lines[2] = {0x010, 0x030};
+    print_panel(file, length, other, job_file(other, 9, 2, other_lines, NULL));
+    print_panel(file, length, other, job_file(other, 6, 2, other_lines, NULL));
 
     printf("\nRefused calls on these\n");
     uint8_t short_plan[3];

@@ -6,7 +6,7 @@ use std::fmt;
 pub const ANSWER_PLACES: usize = 4;
 /// The bytes that a report needs lent.
 pub const REPORT_SPACE: usize = 16_384;
-/// The longest good job file: an output of keep and of goal that always does.
+/// The longest good job file: an output of keep, of goal or of merge that always does.
 pub const LONGEST_FILE: usize = 4_616;
 /// The mounted tip of the functions of the header where there is none.
 pub const NO_TIP: usize = usize::MAX;
@@ -17,7 +17,8 @@ pub const MOST_PARTS: usize = 128;
 #[derive(Clone, Copy, PartialEq, Eq, Debug)]
 pub struct Refusal {
     pub number: u32,
-    /// The line that it is about, for 2, 3, 15, 25 and 30, the part for 12 and the rule for 13.
+    /// The line that it is about, for 2, 3, 15, 25 and 30, the part for 12 and the rule for 13. Of two files it does not
+    /// tell which; 0 for the 30 of a panel.
     pub line: u64,
     /// How far the bound is missed, for 26.
     pub margin: i64,
@@ -26,6 +27,8 @@ pub struct Refusal {
 impl fmt::Display for Refusal {
     fn fmt(&self, to: &mut fmt::Formatter) -> fmt::Result {
         match self.number {
+            // Of one file no first line passes 2,048 placements.
+            30 if self.line == 0 => write!(to, "refused 30"),
             2 | 3 | 15 | 25 | 30 => write!(to, "refused {} at line {}", self.number, self.line),
             12 => write!(to, "refused 12 at part {}", self.line),
             13 => write!(to, "refused 13 at rule {}", self.line),
@@ -122,6 +125,19 @@ pub fn best(file: &[u8], mounted: Option<usize>, plan: &mut [u8], table: &mut [u
 pub fn check(file: &[u8], plan: &[u8], claim: u32, table: &[u32]) -> Result<(), Refusal> {
     answer_of(|answer| on_slices::check(file, plan, claim, table, answer))?;
     Ok(())
+}
+
+/// Merges two boards of one rack and writes the panel to out, the lines of the first and then those of the second, as
+/// version 1 where every quantity is 1; gives the number of bytes.
+pub fn merge(first: &[u8], second: &[u8], out: &mut [u8]) -> Result<u64, Refusal> {
+    Ok(answer_of(|answer| on_slices::merge(first, second, out, answer))?[1])
+}
+
+/// Plans each of two boards alone by rounds; gives the pairs of placements in both plans, the second of which stands in
+/// the buffer behind the first.
+pub fn alone(first: &[u8], second: &[u8], plan: &mut [u8]) -> Result<(u64, u64), Refusal> {
+    let answer = answer_of(|answer| on_slices::alone(first, second, plan, answer))?;
+    Ok((answer[1], answer[2]))
 }
 
 /// The order in which parts are placed: fine ones first, tall ones last, each within its positions, and of each rule's two
@@ -230,6 +246,36 @@ pub mod on_slices {
         }
     }
 
+    pub fn merge(first: &[u8], second: &[u8], out: &mut [u8], answer: &mut [u64]) -> u32 {
+        unsafe {
+            declared::tipshare_merge(
+                first.as_ptr(),
+                first.len(),
+                second.as_ptr(),
+                second.len(),
+                out.as_mut_ptr(),
+                out.len(),
+                answer.as_mut_ptr(),
+                answer.len(),
+            )
+        }
+    }
+
+    pub fn alone(first: &[u8], second: &[u8], plan: &mut [u8], answer: &mut [u64]) -> u32 {
+        unsafe {
+            declared::tipshare_alone(
+                first.as_ptr(),
+                first.len(),
+                second.as_ptr(),
+                second.len(),
+                plan.as_mut_ptr(),
+                plan.len(),
+                answer.as_mut_ptr(),
+                answer.len(),
+            )
+        }
+    }
+
     pub fn order(parts: &[u32], rules: &[u32], order: &mut [u8], answer: &mut [u64]) -> u32 {
         unsafe {
             declared::tipshare_order(
@@ -301,6 +347,26 @@ mod declared {
             claim: u32,
             table: *const u32,
             table_len: usize,
+            answer: *mut u64,
+            answer_len: usize,
+        ) -> u32;
+        pub fn tipshare_merge(
+            first: *const u8,
+            first_len: usize,
+            second: *const u8,
+            second_len: usize,
+            out: *mut u8,
+            out_len: usize,
+            answer: *mut u64,
+            answer_len: usize,
+        ) -> u32;
+        pub fn tipshare_alone(
+            first: *const u8,
+            first_len: usize,
+            second: *const u8,
+            second_len: usize,
+            plan: *mut u8,
+            plan_len: usize,
             answer: *mut u64,
             answer_len: usize,
         ) -> u32;

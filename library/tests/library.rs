@@ -1,6 +1,8 @@
 //! The linked library through its safe form.
 
-use library::{best, check, common, goal, keep, quick, read, report, CommonTip, Job, Kept, Refusal, LONGEST_FILE};
+use library::{
+    alone, best, check, common, goal, keep, merge, quick, read, report, CommonTip, Job, Kept, Refusal, LONGEST_FILE,
+};
 
 /// The example of the rules: rack 3, lines {0} and {1,2}.
 const EXAMPLE: [u8; 24] = *b"TIP\x00\x01\x03\x00\x02\x00\x00\x00\x00\x00\x00\x00\x01\x00\x00\x00\x00\x00\x00\x00\x06";
@@ -129,6 +131,33 @@ fn plans_from_other_software_are_checked() {
     assert_eq!(check(&file, &[9, 9], 9, &[9; 9]), Err(refused(25, 1, 0)));
     assert_eq!(check(&file[..7], &[], 9, &[]), Err(refused(6, 0, 0)));
     assert_eq!(refused(33, 0, 0).to_string(), "refused 33");
+}
+
+#[test]
+fn two_boards_on_one_panel() {
+    // The example and the same lines of 2 and 3 placements.
+    let mut out = [7; LONGEST_FILE];
+    assert_eq!(merge(&EXAMPLE, &COUNTED, &mut out), Ok(44));
+    assert_eq!(out[..8], *b"TIP\x00\x02\x03\x00\x04");
+    assert_eq!([16, 25, 34, 43].map(|at| out[at]), [1, 1, 2, 3]);
+    assert_eq!(out[44..46], [7; 2]);
+    assert_eq!(merge(&EXAMPLE, &EXAMPLE, &mut out), Ok(40));
+    assert_eq!(out[..24], [&b"TIP\x00\x01\x03\x00\x04"[..], &EXAMPLE[8..]].concat());
+    assert_eq!(out[24..40], EXAMPLE[8..]);
+    assert_eq!(merge(&EXAMPLE, &COUNTED, &mut out[..43]), Err(refused(11, 0, 0)));
+    let mut plan = [7; 5];
+    assert_eq!(alone(&COUNTED, &EXAMPLE, &mut plan), Ok((4, 0)));
+    assert_eq!(plan, [0, 1, 0, 1, 7]);
+    assert_eq!(alone(&COUNTED, &EXAMPLE, &mut plan[..3]), Err(refused(4, 0, 0)));
+    let mut other = EXAMPLE;
+    other[5] = 4;
+    assert_eq!(merge(&EXAMPLE, &other, &mut out), Err(refused(17, 0, 0)));
+    assert_eq!(alone(&EXAMPLE, &other, &mut plan), Ok((0, 0)));
+    other[23] = 0;
+    assert_eq!(merge(&EXAMPLE, &other, &mut out), Err(refused(2, 1, 0)));
+    assert_eq!(alone(&EXAMPLE[..7], &other, &mut plan), Err(refused(6, 0, 0)));
+    assert_eq!(refused(30, 0, 0).to_string(), "refused 30");
+    assert_eq!(refused(30, 8, 0).to_string(), "refused 30 at line 8");
 }
 
 #[test]

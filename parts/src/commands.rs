@@ -9,6 +9,7 @@ use parts::files::{of_standard_output, Input, Output};
 use parts::handed::Handed;
 use parts::job::{has_mark, Job};
 use parts::list::{Fault, List};
+use parts::panel::Panel;
 use parts::planning::{Kept, Named};
 use parts::MOST_TIPS;
 
@@ -113,6 +114,40 @@ pub fn check(arguments: &[&str]) -> Result<(), Failure> {
     print(checked.as_bytes())
 }
 
+pub fn panel(arguments: &[&str]) -> Result<(), Failure> {
+    let (paths, job) = match *arguments {
+        [first, second] => ([first, second], None),
+        [first, second, job] => ([first, second], Some(job)),
+        _ => return Err(Failure::Arguments),
+    };
+    if paths == ["-", "-"] {
+        return Err(Failure::Argument("-: this is both boards; name a file for one of them".into()));
+    }
+    let inputs = [input_of(paths[0])?, input_of(paths[1])?];
+    let output = match job {
+        Some(out) => Some(output_beside(out, &inputs)?),
+        None => None,
+    };
+    let [first, second] = inputs.map(|input| input.bytes);
+    let [first, second] = [named(paths[0], first)?, named(paths[1], second)?];
+    for (path, board) in paths.iter().zip([&first, &second]) {
+        Job::read(&board.file).map_err(|refusal| about(path, refusal.in_words(&board.file)))?;
+    }
+    let panel = Panel::of(&first, &second).map_err(Failure::Refused)?;
+    let (text, file) = match panel.merged {
+        Ok(merged) => merged,
+        Err(why) => {
+            print(panel.alone.as_bytes())?;
+            return Err(Failure::Refused(format!("{} and {}: {why}", paths[0], paths[1])));
+        }
+    };
+    if let Some((out, output)) = output {
+        let written = output.write(&file).map_err(|error| about(out, error))?;
+        written.put().map_err(|error| about(out, error))?;
+    }
+    print((panel.alone + &text).as_bytes())
+}
+
 pub fn order(arguments: &[&str]) -> Result<(), Failure> {
     let [path] = arguments else { return Err(Failure::Arguments) };
     let list = list_of(path, &input_of(path)?.bytes)?;
@@ -153,11 +188,16 @@ fn tip_of(word: &str) -> Result<usize, Failure> {
 
 /// Where to write, which is never the file that was read.
 fn output_of<'a>(path: &'a str, input: &Input) -> Result<(&'a str, Output), Failure> {
+    output_beside(path, std::slice::from_ref(input))
+}
+
+/// Where to write, which is none of the files that were read.
+fn output_beside<'a>(path: &'a str, inputs: &[Input]) -> Result<(&'a str, Output), Failure> {
     if path == "-" {
         return Err(Failure::Argument(format!("{path}: this is standard input; name a file to write")));
     }
     let output = Output::at(path).map_err(|error| about(path, error))?;
-    if output.is(input) {
+    if inputs.iter().any(|input| output.is(input)) {
         return Err(about(path, "this is the file that was read; name another one to write"));
     }
     Ok((path, output))

@@ -16,7 +16,7 @@ pub struct Command {
     run: fn(&[&str]) -> Result<(), Failure>,
 }
 
-const COMMANDS: [Command; 8] = [
+const COMMANDS: [Command; 10] = [
     Command {
         name: "make",
         arguments: "LIST",
@@ -106,6 +106,21 @@ const COMMANDS: [Command; 8] = [
                Example: parts check board.txt plan.txt\n",
         options: &[],
         run: commands::check,
+    },
+    Command {
+        name: "panel",
+        arguments: "FILE FILE [JOB]",
+        does: "put two boards on one panel: plan each alone and both together, part by part,\n\
+               and write the panel as the job file JOB",
+        more: "The panel has the parts of the first board and then those of the second, which both have one rack. A\n\
+               board alone is planned by the quick rule, whatever its rack. Behind each part stand its tip alone and\n\
+               its tips in the quick and the best plan of the panel. The same file may be named for both boards.\n\
+               Where the racks differ, or both boards are too many lines or placements, each board is planned alone,\n\
+               and the panel is refused.\n\
+               JOB replaces a file of its name, but never a FILE.\n\
+               Example: parts panel left.txt right.txt panel.job\n",
+        options: &[],
+        run: commands::panel,
     },
     Command {
         name: "order",

@@ -7,6 +7,7 @@ pub mod handed;
 pub mod job;
 pub mod list;
 pub mod ordering;
+pub mod panel;
 pub mod picture;
 pub mod planning;
 pub mod refusal;

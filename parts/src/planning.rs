@@ -72,7 +72,7 @@ impl Named {
             _ => self.refused(refusal),
         })?;
         file.truncate(kept.bytes as usize);
-        let text = in_words(common) + &format!("k {k} margin {}\n", kept.margin);
+        let text = common_in_words(common) + &format!("k {k} margin {}\n", kept.margin);
         self.kept(text, file)
     }
 
@@ -122,10 +122,7 @@ impl Named {
 
     /// That a line is no run, what it lacks, and who has it.
     pub fn no_run(&self, job: &Job, line: usize) -> String {
-        let missing = job
-            .missed_tip(line)
-            .map_or(String::new(), |(tip, other)| format!(": it lacks tip {tip}, which {} has", self.label(other)));
-        format!("{} is no run{missing}", self.label(line))
+        no_run_in_words(job, line, |line| self.label(line))
     }
 
     /// The line that stands where there is no best plan.
@@ -137,7 +134,7 @@ impl Named {
     pub fn plan(&self, mounted: Option<usize>) -> Result<String, String> {
         let plans = self.plans(mounted)?;
         let lines = plans.job.lines.len();
-        let mut text = format!("lines {lines} rack {}\n{}", plans.job.rack, in_words(plans.common));
+        let mut text = format!("lines {lines} rack {}\n{}", plans.job.rack, common_in_words(plans.common));
         text += &format!("quick {}\n", plans.quick.pairs);
         text += &match &plans.best {
             Ok(best) => format!("best {}\n", best.pairs),
@@ -164,7 +161,7 @@ impl Plan {
 
 impl Plans {
     /// What each plan has, `-` where there is no best plan.
-    fn each<T: Display>(&self, of: impl Fn(&Plan) -> T) -> String {
+    pub(crate) fn each<T: Display>(&self, of: impl Fn(&Plan) -> T) -> String {
         let best = self.best.as_ref().map_or("-".into(), |best| of(best).to_string());
         format!("quick {} best {best}", of(&self.quick))
     }
@@ -176,7 +173,7 @@ impl Plans {
     }
 
     /// Tips used, parts and placements on each, pairs and tip changes; without quantities they are the same.
-    fn summary(&self) -> String {
+    pub(crate) fn summary(&self) -> String {
         let rack = self.job.rack;
         let is_single = self.job.is_single();
         let mut text = String::new();
@@ -217,8 +214,16 @@ impl Plans {
     }
 }
 
+/// That a line is no run, what it lacks, and who has it, by these names.
+pub(crate) fn no_run_in_words(job: &Job, line: usize, label: impl Fn(usize) -> String) -> String {
+    let missing = job
+        .missed_tip(line)
+        .map_or(String::new(), |(tip, other)| format!(": it lacks tip {tip}, which {} has", label(other)));
+    format!("{} is no run{missing}", label(line))
+}
+
 /// The line that the program tipshare prints for the common tip.
-fn in_words(common: CommonTip) -> String {
+pub(crate) fn common_in_words(common: CommonTip) -> String {
     let tips: String = (0..64).filter(|tip| common.tips >> tip & 1 == 1).map(|tip| format!(" {tip}")).collect();
     format!("off {} tips{tips}\n", common.off)
 }

@@ -103,6 +103,37 @@ pub fn check(file: &[u8], plan: &[u8], claim: u32, table: &[u32], answer: &mut [
     on_board(file, answer, |board, answer| refused(answer, &board.check(plan, claim, table)))
 }
 
+/// Answers by the call on the boards of both files, unless the answer is short or one of them is refused, the first first.
+fn on_boards(
+    first: &[u8],
+    second: &[u8],
+    answer: &mut [u64],
+    call: impl FnOnce(Board, Board, &mut [u64]) -> u32,
+) -> u32 {
+    on_board(first, answer, |first, answer| on_board(second, answer, |second, answer| call(first, second, answer)))
+}
+
+/// Merges two boards and writes the panel to out: place, bytes, 0, 0.
+pub fn merge(first: &[u8], second: &[u8], out: &mut [u8], answer: &mut [u64]) -> u32 {
+    on_boards(first, second, answer, |first, second, answer| {
+        let merged = first.merge(second);
+        if merged.number != refusal::NONE {
+            return answered(answer, merged.number, [merged.place as u64, 0, 0, 0]);
+        }
+        let written = merged.panel.write(out);
+        answered(answer, written.number, [written.place as u64, written.value as u64, 0, 0])
+    })
+}
+
+/// Quick sharing of each of two boards alone: place, pairs of the first, pairs of the second, 0.
+pub fn alone(first: &[u8], second: &[u8], plan: &mut [u8], answer: &mut [u64]) -> u32 {
+    on_boards(first, second, answer, |first, second, answer| {
+        let alone = first.alone(second, plan);
+        let pairs = [alone.first_pairs, alone.second_pairs].map(u64::from);
+        answered(answer, alone.number, [alone.place as u64, pairs[0], pairs[1], 0])
+    })
+}
+
 /// The numbers of a part and of a rule.
 pub const PART_PLACES: usize = 4;
 pub const RULE_PLACES: usize = 2;

@@ -9,7 +9,7 @@ pub const RACK_SIZE: u32 = 1;
 pub const EMPTY_LINE: u32 = 2;
 /// A line's set has a tip outside the rack.
 pub const TIP_OUTSIDE: u32 = 3;
-/// The plan buffer is shorter than the number of lines.
+/// The plan buffer is shorter than the number of lines, of both boards where each is planned alone.
 pub const SHORT_PLAN: u32 = 4;
 /// The table is shorter than the square of the rack size.
 pub const SHORT_TABLE: u32 = 5;
@@ -35,6 +35,8 @@ pub const SHORT_ORDER: u32 = 14;
 pub const ZERO_QUANTITY: u32 = 15;
 /// The mounted tip is outside the rack.
 pub const MOUNTED_OUTSIDE: u32 = 16;
+/// Merging, and the racks differ.
+pub const RACKS_DIFFER: u32 = 17;
 /// A checked plan has a line on a tip that is not its own.
 pub const FOREIGN_TIP: u32 = 19;
 /// The claim is not the number of pairs of the checked plan.
@@ -46,7 +48,7 @@ pub const OUT_OF_RANGE: u32 = 21;
 pub const CLOSED: u32 = 22;
 /// Common tip, keep, a plan or write on an open board.
 pub const OPEN: u32 = 23;
-/// Add on a board of 512 lines.
+/// Add on a board of 512 lines, or merging with more than 512 together.
 pub const FULL: u32 = 24;
 /// Best sharing, a goal or a check, and some line misses a named tip between its lowest and its highest.
 pub const NO_RUN: u32 = 25;
@@ -58,7 +60,7 @@ pub const BAD_LINE: u32 = 27;
 pub const LEFT_OVER: u32 = 28;
 /// No order of the parts obeys.
 pub const NO_ORDER: u32 = 29;
-/// The lines stand for more than 2,048 placements.
+/// The lines stand for more than 2,048 placements, those of both boards where they are merged.
 pub const TOO_MANY_PLACEMENTS: u32 = 30;
 /// The table does not show that the checked plan has the most pairs.
 pub const TABLE_FAILS: u32 = 33;

@@ -3,3 +3,4 @@ pub mod Unbroken
 pub mod Mounted
 pub mod Checked
 pub mod GoalOfNone
+pub mod PanelCalls

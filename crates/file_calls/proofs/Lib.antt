@@ -5,3 +5,5 @@ pub mod KeptFile
 pub mod GoalFile
 pub mod AsBoard
 pub mod GoalAsBoard
+pub mod TwoFiles
+pub mod PanelAsBoard

@@ -60,7 +60,7 @@ same-number earlier v n room x some other = by (accepts earlier) (ltb room (file
     by false short e = (λ h. h, λ h. h)
 
 -- what is written has the version for its quantities
-written-version : (m : ℕ) (qs sets : List ℕ) → versionIn (writtenOf m qs sets) ≡ versionFor qs
+pub written-version : (m : ℕ) (qs sets : List ℕ) → versionIn (writtenOf m qs sets) ≡ versionFor qs
 unfolding fileOf
 written-version m qs sets =
     let v = versionFor qs in

@@ -2,8 +2,6 @@
 
 use second::{Answer, Board, Line};
 
-use crate::every_plan::single;
-
 /// The board that open and add for each line give.
 pub fn open_board(rack: usize, lines: &[Line]) -> Board {
     let mut board = Board::open(rack).board;
@@ -15,11 +13,6 @@ pub fn open_board(rack: usize, lines: &[Line]) -> Board {
 
 pub fn placed_board(rack: usize, lines: &[Line]) -> Board {
     open_board(rack, lines).close().board
-}
-
-/// The closed board of lines of quantity 1.
-pub fn closed_board(rack: usize, sets: &[u64]) -> Board {
-    placed_board(rack, &single(sets))
 }
 
 /// How many of rack, stage, count, the 512 sets and the 512 quantities differ between two boards.

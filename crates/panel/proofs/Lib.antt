@@ -1,0 +1,5 @@
+pub mod Copied
+pub mod Panel
+pub mod Merged
+pub mod BothPlans
+pub mod Refused
