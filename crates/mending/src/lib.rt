@@ -1,0 +1,1 @@
+// Mending a job file: definitions and laws are in specs/ and proofs/.
