@@ -13,7 +13,7 @@ pub const PLAIN: u64 = 1;
 
 pub const COUNTED: u64 = 2;
 // The bytes of the header, and of a line's set; a quantity has one byte.
-const HEADER: usize = 8;
+pub const HEADER: usize = 8;
 
 pub const SET: usize = 8;
 

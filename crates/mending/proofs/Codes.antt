@@ -15,7 +15,7 @@ use Rattle.model.specs.Plan.{inRack}
 use Rattle.model.proofs.Tests.{le-or-lt, and-left, and-right, and-in}
 use Rattle.model.specs.Limits.{mostPlacements}
 use Rattle.job.specs.Job.{JobLine}
-use Rattle.mending.specs.Mending.{mendedLine, leftEmpty, over, after, noted, codes}
+use Rattle.mending.specs.Mending.{mendedLine, leftEmpty, over, after, noted, isCleared, isEmptied, isRaised, isDropped, codes}
 use Rattle.mending.specs.Rules.{Rising, end, first}
 use Rattle.mending.proofs.Lines.{GoodLine}
 use Rattle.mending.proofs.Kept.{Fate, late, bare, passing, fitting, fate, good-fate}
@@ -49,48 +49,48 @@ unlike a b n x e = absurd (T-not (eqb a b) n (rw e (eqb-refl b)))
 -- ---- the codes of a line
 
 module _ (m t : ℕ) (l : JobLine) where
-  abbrev isCleared : Bool
-  isCleared = not (over t) && not (inRack m (l .tips))
+  abbrev cleared : Bool
+  cleared = isCleared m t (l .tips)
 
-  abbrev isEmptied : Bool
-  isEmptied = not (over t) && leftEmpty m l
+  abbrev emptied : Bool
+  emptied = isEmptied m t l
 
-  abbrev isRaised : Bool
-  isRaised = not (over t) && not (leftEmpty m l) && eqb (l .quantity) 0
+  abbrev raised : Bool
+  raised = isRaised m t l
 
-  abbrev isDropped : Bool
-  isDropped = over (after m t l)
+  abbrev dropped : Bool
+  dropped = isDropped m t l
 
   -- what holds of each code where its test passes holds of all codes
-  pub codes-all : {P : ℕ → Type 0} → (T isCleared → P 1) → (T isEmptied → P 2) → (T isRaised → P 3) → (T isDropped → P 4) → All P (codes m t l)
+  pub codes-all : {P : ℕ → Type 0} → (T cleared → P 1) → (T emptied → P 2) → (T raised → P 3) → (T dropped → P 4) → All P (codes m t l)
   unfolding codes
-  codes-all p q r s = noted-all isCleared 1 p (noted-all isEmptied 2 q (noted-all isRaised 3 r (noted-all isDropped 4 s none)))
+  codes-all p q r s = noted-all cleared 1 p (noted-all emptied 2 q (noted-all raised 3 r (noted-all dropped 4 s none)))
 
   -- a code that is listed passed its test
-  code-out : (k : ℕ) {Q : Type 0} → (T isCleared → 1 ≡ k → Q) → (T isEmptied → 2 ≡ k → Q) → (T isRaised → 3 ≡ k → Q) → (T isDropped → 4 ≡ k → Q)
+  code-out : (k : ℕ) {Q : Type 0} → (T cleared → 1 ≡ k → Q) → (T emptied → 2 ≡ k → Q) → (T raised → 3 ≡ k → Q) → (T dropped → 4 ≡ k → Q)
       → List·Memᴰ k (codes m t l) → Q
   code-out k {Q} p q r s h = all-mem (codes-all {P = λ c. c ≡ k → Q} p q r s) h refl
 
-  one-iff : List·Memᴰ 1 (codes m t l) ↔ T isCleared
+  one-iff : List·Memᴰ 1 (codes m t l) ↔ T cleared
   unfolding codes
-  one-iff = (code-out 1 (λ x _. x) (unlike 2 1 tt) (unlike 3 1 tt) (unlike 4 1 tt), noted-here isCleared 1 _)
+  one-iff = (code-out 1 (λ x _. x) (unlike 2 1 tt) (unlike 3 1 tt) (unlike 4 1 tt), noted-here cleared 1 _)
 
-  two-iff : List·Memᴰ 2 (codes m t l) ↔ T isEmptied
+  two-iff : List·Memᴰ 2 (codes m t l) ↔ T emptied
   unfolding codes
-  two-iff = (code-out 2 (unlike 1 2 tt) (λ x _. x) (unlike 3 2 tt) (unlike 4 2 tt), λ x. noted-later isCleared 1 2 _ (noted-here isEmptied 2 _ x))
+  two-iff = (code-out 2 (unlike 1 2 tt) (λ x _. x) (unlike 3 2 tt) (unlike 4 2 tt), λ x. noted-later cleared 1 2 _ (noted-here emptied 2 _ x))
 
-  three-iff : List·Memᴰ 3 (codes m t l) ↔ T isRaised
+  three-iff : List·Memᴰ 3 (codes m t l) ↔ T raised
   unfolding codes
   three-iff = (
     code-out 3 (unlike 1 3 tt) (unlike 2 3 tt) (λ x _. x) (unlike 4 3 tt),
-    λ x. noted-later isCleared 1 3 _ (noted-later isEmptied 2 3 _ (noted-here isRaised 3 _ x)),
+    λ x. noted-later cleared 1 3 _ (noted-later emptied 2 3 _ (noted-here raised 3 _ x)),
   )
 
-  four-iff : List·Memᴰ 4 (codes m t l) ↔ T isDropped
+  four-iff : List·Memᴰ 4 (codes m t l) ↔ T dropped
   unfolding codes
   four-iff = (
     code-out 4 (unlike 1 4 tt) (unlike 2 4 tt) (unlike 3 4 tt) (λ x _. x),
-    λ x. noted-later isCleared 1 4 _ (noted-later isEmptied 2 4 _ (noted-later isRaised 3 4 _ (noted-here isDropped 4 _ x))),
+    λ x. noted-later cleared 1 4 _ (noted-later emptied 2 4 _ (noted-later raised 3 4 _ (noted-here dropped 4 _ x))),
   )
 
   -- ---- what the tests say
@@ -98,7 +98,7 @@ module _ (m t : ℕ) (l : JobLine) where
   still : (t ≤ mostPlacements) ↔ T (not (over t))
   still = (λ k. not-T (over t) (λ x. omega (arith, ltb→lt mostPlacements t x)), nltb→le mostPlacements t)
 
-  cleared-iff : T isCleared ↔ ((t ≤ mostPlacements) × (mendedLine m l .tips ≡ l .tips → ⊥))
+  cleared-iff : T cleared ↔ ((t ≤ mostPlacements) × (mendedLine m l .tips ≡ l .tips → ⊥))
   unfolding mendedLine inRack
   cleared-iff =
       let s = l .tips in
@@ -108,14 +108,14 @@ module _ (m t : ℕ) (l : JobLine) where
         λ (k, n). and-in a (not b) (still .0 k) (not-T b (λ x. n (mod-eq-of-lt (ltb→lt s (2 ^ m) x)))),
       )
 
-  emptied-iff : T isEmptied ↔ ((t ≤ mostPlacements) × (mendedLine m l .tips ≡ 0))
+  emptied-iff : T emptied ↔ ((t ≤ mostPlacements) × (mendedLine m l .tips ≡ 0))
   unfolding leftEmpty
   emptied-iff =
       let a = not (over t) in
       let b = leftEmpty m l in
       (λ x. (still .1 (and-left a b x), eqb→eq _ _ (and-right a b x)), λ (k, e). and-in a b (still .0 k) (rw e tt))
 
-  raised-iff : T isRaised ↔ ((t ≤ mostPlacements) × (mendedLine m l .tips ≡ 0 → ⊥) × (mendedLine m l .quantity ≡ l .quantity → ⊥))
+  raised-iff : T raised ↔ ((t ≤ mostPlacements) × (mendedLine m l .tips ≡ 0 → ⊥) × (mendedLine m l .quantity ≡ l .quantity → ⊥))
   unfolding mendedLine leftEmpty
   raised-iff =
       let a = not (over t) in
@@ -162,7 +162,7 @@ module _ (m t : ℕ) (l : JobLine) where
   -- the codes rise
   pub codes-rising : Rising (codes m t l)
   unfolding codes
-  codes-rising = by isCleared isEmptied isRaised isDropped
+  codes-rising = by cleared emptied raised dropped
     where
       step : (b : Bool) (x : ℕ) {xs : List ℕ} → All (λ y. x < y) xs → Rising xs → Rising (noted b x xs)
       step true x h r = first h r

@@ -51,13 +51,22 @@ stays m t l = not (leftEmpty m l) && not (over (after m t l))
 abbrev pub noted : {A : Type 0} → Bool → A → List A → List A
 noted test x xs = cond test (x ∷ xs) xs
 
--- the codes of the changes made to the line: 1 tips cleared, 2 dropped as empty, 3 quantity raised, 4 dropped for the total
+-- tips of the set are cleared, the line is dropped as empty, its quantity is raised, it is dropped for the total
+abbrev pub isCleared : ℕ → ℕ → ℕ → Bool
+isCleared m t s = not (over t) && not (inRack m s)
+
+abbrev pub isEmptied : ℕ → ℕ → JobLine → Bool
+isEmptied m t l = not (over t) && leftEmpty m l
+
+abbrev pub isRaised : ℕ → ℕ → JobLine → Bool
+isRaised m t l = not (over t) && not (leftEmpty m l) && eqb (l .quantity) 0
+
+abbrev pub isDropped : ℕ → ℕ → JobLine → Bool
+isDropped m t l = over (after m t l)
+
+-- the codes of the changes made to the line
 unfoldable pub codes : ℕ → ℕ → JobLine → List ℕ
-codes m t l =
-    noted (not (over t) && not (inRack m (l .tips))) 1
-    (noted (not (over t) && leftEmpty m l) 2
-    (noted (not (over t) && not (leftEmpty m l) && eqb (l .quantity) 0) 3
-    (noted (over (after m t l)) 4 [])))
+codes m t l = noted (isCleared m t (l .tips)) 1 (noted (isEmptied m t l) 2 (noted (isRaised m t l) 3 (noted (isDropped m t l) 4 [])))
 
 -- ---- all lines
 
