@@ -2,7 +2,7 @@
 use Prim.Native.Nat.{ℕ, _+_, _*_, _-_, _/_, _≤_, _<_}
 use native.Mathlib.Omega.{arith}
 use native.Mathlib.Nat.{mul-div-cancel-left}
-use mathlib.Core.Path.{_≡_, refl, sym, ap, _∙_}
+use mathlib.Core.Path.{_≡_, ap, _∙_}
 use mathlib.Core.Bool.{Bool, true, false, not, cond}
 use mathlib.Core.Logic.{_⊎_, inl, inr}
 use mathlib.Core.List.{List, [], append-nil}
@@ -13,7 +13,7 @@ use Rattle.model.specs.Limits.{mostLines, mostPlacements}
 use Rattle.model.proofs.Lists.{all-mapped}
 use Rattle.placements.specs.Repeated.{total}
 use Rattle.placements.specs.Good.{GoodLines}
-use Rattle.job.specs.Job.{Bytes, headerLength, setLength, counted, lineLength, fileLength, paired, fileOf, versionIn, rackIn, countIn}
+use Rattle.job.specs.Job.{Bytes, headerLength, setLength, counted, lineLength, fileLength, fileOf, versionIn, rackIn, countIn}
 use Rattle.job.specs.Job.{setsIn, quantitiesIn, readRefusal, GoodStart, GoodHeader, ReadsAs}
 use Rattle.job.proofs.Header.{version-back}
 use Rattle.job.proofs.Lines.{paired-again, paired-quantities, Held}

@@ -1,4 +1,4 @@
-use mathlib.Core.Path.{_≡_, ap, _∙_}
+use mathlib.Core.Path.{ap, _∙_}
 use Rattle.job.specs.Job.{setFrom}
 use Rattle.mend.proofs.There.{start-long, line-there}
 use Rattle.mend.proofs.read.set_in.Statement.{statement}

@@ -1,11 +1,9 @@
 use Prim.Native.Nat.{_+_, _-_, _≤_}
 use native.Mathlib.Omega.{arith}
-use native.Mathlib.Nat.{zero-add}
-use mathlib.Core.Path.{_≡_, refl, ap, _∙_}
+use mathlib.Core.Path.{_≡_}
 use mathlib.Core.List.{_++_}
 use lib.ListN.{length}
 use borrow.Author.Needs.{needs}
-use Rattle.job.specs.Job.{rackIn}
 use Rattle.mending.specs.Mending.{codes, onLine, changes, reportOf}
 use Rattle.mend.specs.Mend.{lineWith}
 use Rattle.mend.proofs.There.{start-long}

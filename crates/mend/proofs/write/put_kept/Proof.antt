@@ -1,6 +1,4 @@
-use native.Mathlib.Omega.{arith}
-use mathlib.Core.Path.{_≡_, sym, ap, _∙_}
-use lib.ListN.{length}
+use mathlib.Core.Path.{sym, _∙_}
 use borrow.Author.Needs.{needs}
 use Rattle.text.proofs.Buffer.{start}
 use Rattle.mending.specs.Mending.{mendedLine}

@@ -1,6 +1,6 @@
 use Prim.Native.Nat.{_+_, _≤_}
 use native.Mathlib.Omega.{arith}
-use mathlib.Core.Path.{_≡_, ap, sym, _∙_}
+use mathlib.Core.Path.{ap, sym, _∙_}
 use mathlib.Core.List.{_++_}
 use lib.ListN.{length, take, drop}
 use borrow.Author.Needs.{needs}
