@@ -28,8 +28,9 @@ pub extern "C" fn tipshare_mend(
         return 100;
     }
     let mended = mend::mend(file, out, report);
+    let refusal = mended.refusal;
     let outcome = Outcome {
-        refusal: mended.refusal,
+        refusal,
         first: mended.bytes as u64,
         second: mended.report_bytes as u64,
         third: 0,
