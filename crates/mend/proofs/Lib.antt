@@ -4,3 +4,4 @@ pub mod Filled
 pub mod Pass
 pub mod Room
 pub mod Answer
+pub mod Starred
