@@ -34,7 +34,7 @@ codes-count m t l =
     )
 
 -- the report of a change behind its test, and of the changes after it
-pub report-noted : (b : Bool) (i k : ℕ) (cs : List ℕ) → reportOf (onLine i (noted b k cs)) ≡ change b i k ++ reportOf (onLine i cs)
+report-noted : (b : Bool) (i k : ℕ) (cs : List ℕ) → reportOf (onLine i (noted b k cs)) ≡ change b i k ++ reportOf (onLine i cs)
 unfolding reportOf bytesOf
 report-noted true i k cs = refl
 report-noted false i k cs = refl

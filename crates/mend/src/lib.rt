@@ -32,7 +32,8 @@ pub fn mend(file: &[u8], out: &mut [u8], report: &mut [u8]) -> Mended
     ensures answer { λ r. ⌜ r ≡ mendOf (now (file .entry)) (length (now (out .entry))) (length (now (report .entry))) ⌝ }
     ensures out { λ _. ⌜ now (out .exit) ≡ outAfter (now (file .entry)) (now (out .entry)) (length (now (report .entry))) ⌝ }
     ensures report { λ _. ⌜ now (report .exit) ≡ reportAfter (now (file .entry)) (length (now (out .entry))) (now (report .entry)) ⌝ }
-    ensures rule { λ r. ⌜ MendRuleOf (now (file .entry)) (now (out .exit)) (now (report .exit)) (r .refusal .number) (r .bytes) (r .«report_bytes») ⌝ }
+    ensures rule { λ r. ⌜ MendRuleOf (now (file .entry)) (now (out .exit)) (now (report .exit))
+        (r .refusal .number) (r .bytes) (r .«report_bytes») ⌝ }
 {
     let number = job::start_number(file);
     if number != 0 {

@@ -77,7 +77,8 @@ fn put_changes(file: &[u8], report: &mut [u8]) -> usize
 pub fn write_report(file: &[u8], kept: usize, report: &mut [u8])
     requires { ⌜ (startNumber (now file) ≡ 0) × (kept ≡ length (keptIn (now file))) ⌝ }
     requires { ⌜ length (mendedReport (now file)) ≤ length (now report) ⌝ }
-    ensures { λ _. ⌜ now (report .exit) ≡ mendedReport (now (file .entry)) ++ drop (length (mendedReport (now (file .entry)))) (now (report .entry)) ⌝ }
+    ensures { λ _. ⌜ now (report .exit) ≡ mendedReport (now (file .entry))
+        ++ drop (length (mendedReport (now (file .entry)))) (now (report .entry)) ⌝ }
 {
     let recounted = measure::is_recounted(file, kept);
     let more = measure::has_more(file);

@@ -72,7 +72,8 @@ fn put_lines(file: &[u8], out: &mut [u8]) -> usize
 pub fn write_file(file: &[u8], kept: usize, out: &mut [u8])
     requires { ⌜ (startNumber (now file) ≡ 0) × (kept ≡ length (keptIn (now file))) ⌝ }
     requires { ⌜ length (mendedFile (now file)) ≤ length (now out) ⌝ }
-    ensures { λ _. ⌜ now (out .exit) ≡ mendedFile (now (file .entry)) ++ drop (length (mendedFile (now (file .entry)))) (now (out .entry)) ⌝ }
+    ensures { λ _. ⌜ now (out .exit) ≡ mendedFile (now (file .entry))
+        ++ drop (length (mendedFile (now (file .entry)))) (now (out .entry)) ⌝ }
 {
     job_write::put_header(job::version_in(file), job::rack_in(file), kept, out);
     put_lines(file, out);

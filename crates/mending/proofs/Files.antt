@@ -1,9 +1,9 @@
 -- The mended file: it is read, a file that reading accepts comes back the same, and mending twice adds nothing.
-use Prim.Native.Nat.{ℕ, _+_, _*_, _-_, _/_, _≤_, _<_}
+use Prim.Native.Nat.{ℕ, _*_, _-_, _/_, _≤_, _<_}
 use native.Mathlib.Omega.{arith}
 use native.Mathlib.Nat.{mul-div-cancel-left}
 use mathlib.Core.Path.{_≡_, ap, _∙_}
-use mathlib.Core.Bool.{Bool, true, false, not, cond}
+use mathlib.Core.Bool.{not}
 use mathlib.Core.Logic.{_⊎_, inl, inr}
 use mathlib.Core.List.{List, [], append-nil}
 use lib.ListN.{length, length-map}
@@ -13,10 +13,10 @@ use Rattle.model.specs.Limits.{mostLines, mostPlacements}
 use Rattle.model.proofs.Lists.{all-mapped}
 use Rattle.placements.specs.Repeated.{total}
 use Rattle.placements.specs.Good.{GoodLines}
-use Rattle.job.specs.Job.{Bytes, headerLength, setLength, counted, lineLength, fileLength, fileOf, versionIn, rackIn, countIn}
+use Rattle.job.specs.Job.{Bytes, headerLength, lineLength, fileLength, fileOf, versionIn, rackIn, countIn}
 use Rattle.job.specs.Job.{setsIn, quantitiesIn, readRefusal, GoodStart, GoodHeader, ReadsAs}
 use Rattle.job.proofs.Header.{version-back}
-use Rattle.job.proofs.Lines.{paired-again, paired-quantities, Held}
+use Rattle.job.proofs.Lines.{paired-again, paired-quantities, line-long, Held}
 use Rattle.job.proofs.Reading.{read-iff}
 use Rattle.job.proofs.Writing.{reads-as, form-again}
 use Rattle.mending.specs.Mending.{linesIn, kept, changes, readCount, readLines, keptIn, mendedFile, changesIn, reportOf, mendedReport}
@@ -24,18 +24,6 @@ use Rattle.mending.specs.Rules.{setsOf, quantitiesOf, placementsOf, line
 use Rattle.mending.proofs.Lines.{GoodLine, good-lines, lines-good, length-linesIn, lines-held, all-lines, bytes-fileOf}
 use Rattle.mending.proofs.Kept.{kept-good, kept-fits, length-kept, kept-within, kept-same, kept-is}
 use Rattle.mending.proofs.Changes.{changes-none}
-
-pub line-length-pos : (v : ℕ) → 0 < lineLength v
-unfolding lineLength
-line-length-pos v = omega arith
-
-pub line-length-most : (v : ℕ) → lineLength v ≤ 9
-unfolding lineLength
-line-length-most v = by (counted v)
-  where
-    by : (b : Bool) → setLength + cond b 1 0 ≤ 9
-    by true = omega arith
-    by false = omega arith
 
 module _ (file : List ℕ) where
   -- the lines read are at most 512
@@ -59,7 +47,7 @@ module _ (file : List ℕ) where
     held = all-mapped (λ l. l .quantity) (kept-fits (rackIn file) (versionIn file) 0 (lines-held file (readCount file) h))
 
     -- the mended file is read, and its lines are those kept
-    pub mended-reads : ReadsAs (rackIn file) (quantitiesOf (keptIn file)) (setsOf (keptIn file)) (mendedFile file)
+    mended-reads : ReadsAs (rackIn file) (quantitiesOf (keptIn file)) (setsOf (keptIn file)) (mendedFile file)
     unfolding mendedFile
     mended-reads =
         rw (paired-again (keptIn file)) at
@@ -98,7 +86,7 @@ module _ (file : List ℕ) where
         let v = versionIn file in
         let n = countIn file in
         let e : length file - headerLength ≡ lineLength v * n = omega (arith, g .whole) in
-        let q : (length file - headerLength) / lineLength v ≡ n = ap (λ x. x / lineLength v) e ∙ mul-div-cancel-left n (line-length-pos v) in
+        let q : (length file - headerLength) / lineLength v ≡ n = ap (λ x. x / lineLength v) e ∙ mul-div-cancel-left n (omega (arith, line-long v)) in
         omega (arith, q, g .fewLines)
 
     read-same : readLines file ≡ linesIn file (countIn file)

@@ -39,7 +39,11 @@ pub data Fate (m t : ℕ) (l : JobLine) : Type 0 where
 module _ (m t : ℕ) (l : JobLine) where
   pub fate : Fate m t l
   unfolding after stays
-  fate = ⊎-elim (λ h. early h (leftEmpty m l) refl) (λ h. late h (rw (lt-ltb _ _ h)) (simp (lt-ltb mostPlacements t h, and-false))) (le-or-lt t mostPlacements)
+  fate =
+      ⊎-elim
+      (λ h. early h (leftEmpty m l) refl)
+      (λ h. late h (rw (lt-ltb _ _ h)) (simp (lt-ltb mostPlacements t h, and-false)))
+      (le-or-lt t mostPlacements)
     where
       early : t ≤ mostPlacements → (b : Bool) → leftEmpty m l ≡ b → Fate m t l
       early h true e = bare h e (rw (le-ltb mostPlacements t h, e)) (rw e)
@@ -50,14 +54,14 @@ module _ (m t : ℕ) (l : JobLine) where
           (le-or-lt (t + mendedLine m l .quantity) mostPlacements)
 
   -- a good line is as it was
-  pub mended-same : GoodLine m l → mendedLine m l ≡ l
+  mended-same : GoodLine m l → mendedLine m l ≡ l
   unfolding mendedLine
   mended-same g =
       let e : max 1 (l .quantity) ≡ l .quantity = omega (arith, g .some) in
       ap₂ (λ s q. record { tips = s; quantity = q }) (mod-eq-of-lt (g .domain .below)) e
 
   -- a mended line that is not left empty is good
-  pub mended-good : leftEmpty m l ≡ false → GoodLine m (mendedLine m l)
+  mended-good : leftEmpty m l ≡ false → GoodLine m (mendedLine m l)
   unfolding mendedLine leftEmpty
   mended-good e = record {
     domain = record { some = pos-of-ne-zero (eqb-false _ _ e); below = mod-lt _ (pow-pos m) };
@@ -65,7 +69,7 @@ module _ (m t : ℕ) (l : JobLine) where
   }
 
   -- the version that holds the quantity holds the mended one
-  pub mended-fits : (v : ℕ) → Held v (l .quantity) → Held v (mendedLine m l .quantity)
+  mended-fits : (v : ℕ) → Held v (l .quantity) → Held v (mendedLine m l .quantity)
   unfolding mendedLine
   mended-fits v = by (counted v)
     where
@@ -106,7 +110,7 @@ mended-has m l u = ⊎-elim outside inside (le-or-lt m u)
 
 module _ (m : ℕ) where
   -- nothing is kept after a line that was dropped for the total
-  pub kept-late : (t : ℕ) (lines : List JobLine) → mostPlacements < t → kept m t lines ≡ []
+  kept-late : (t : ℕ) (lines : List JobLine) → mostPlacements < t → kept m t lines ≡ []
   unfolding kept
   kept-late t [] h = refl
   kept-late t (l ∷ lines) h = by (fate m t l) (kept-late t lines h)

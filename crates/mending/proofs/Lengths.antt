@@ -7,13 +7,13 @@ use mathlib.Core.Bool.{Bool, true, false, not}
 use mathlib.Core.List.{List, [], _∷_}
 use lib.ListN.{length, length-append}
 use Rattle.model.specs.Limits.{mostLines}
-use Rattle.job.specs.Job.{bytesOf, headerLength, lineLength, fileLength, headerOf, bytesOfLines, fileOf, versionIn, rackIn, GoodStart}
+use Rattle.job.specs.Job.{bytesOf, headerLength, setLength, lineLength, fileLength, headerOf, bytesOfLines, fileOf, versionIn, rackIn, GoodStart}
 use Rattle.job.proofs.Header.{length-headerOf}
-use Rattle.job.proofs.Lines.{length-bytesOfLines}
+use Rattle.job.proofs.Lines.{file-few, length-bytesOfLines}
 use Rattle.mending.specs.Mending.{noted, changes, readCount, readLines, keptIn, mendedFile, wholeFile, recounted}
 use Rattle.mending.specs.Mending.{hasMore, changesIn, reportOf, mendedReport}
 use Rattle.mending.proofs.Changes.{length-changes}
-use Rattle.mending.proofs.Files.{read-few, length-readLines, kept-few, line-length-most}
+use Rattle.mending.proofs.Files.{read-few, length-readLines, kept-few}
 
 -- the report has three bytes for each change
 pub length-report : (cs : List (ℕ × ℕ)) → length (reportOf cs) ≡ 3 * length cs
@@ -65,10 +65,5 @@ module _ (file : List ℕ) where
   mended-shorter g = omega (arith, length-mended, mul-le-mul-left (lineLength (versionIn file)) (kept-few file), read-whole g)
 
   -- and has at most 4,616 bytes
-  pub mended-bound : length (mendedFile file) ≤ headerLength + 9 * mostLines
-  mended-bound = omega (
-    arith,
-    length-mended,
-    mul-le-mul-left (lineLength (versionIn file)) (le-trans (kept-few file) (read-few file)),
-    line-length-most (versionIn file),
-  )
+  pub mended-bound : length (mendedFile file) ≤ headerLength + (setLength + 1) * mostLines
+  mended-bound = omega (arith, length-mended, file-few (versionIn file) (length (keptIn file)) (le-trans (kept-few file) (read-few file)))

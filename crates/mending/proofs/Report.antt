@@ -77,7 +77,8 @@ module _ (file : List ℕ) where
         λ h. omega (arith, running-placed m 0 lines (omega arith)),
       )
 
-  passed-iff : (n : ℕ) → n < readCount file → (mostPlacements < after (rackIn file) (before n) (readLine file n)) ↔ (mostPlacements < placed file (n + 1))
+  passed-iff : (n : ℕ) → n < readCount file
+      → (mostPlacements < after (rackIn file) (before n) (readLine file n)) ↔ (mostPlacements < placed file (n + 1))
   passed-iff n h =
       let e = running-more (rackIn file) (readLines file) n (omega (arith, length-readLines file)) in
       let iff = within-iff (n + 1) in (

@@ -69,7 +69,7 @@ module _ (m : ℕ) where
     unfolding running
     running-more = ap (running m 0) one-more ∙ running-append 0 (take i lines) (here ∷ [])
 
-    pub kept-more : kept m 0 (take (i + 1) lines) ≡ kept m 0 (take i lines) ++ noted (stays m before here) (mendedLine m here) []
+    kept-more : kept m 0 (take (i + 1) lines) ≡ kept m 0 (take i lines) ++ noted (stays m before here) (mendedLine m here) []
     unfolding kept
     kept-more = ap (kept m 0) one-more ∙ kept-append 0 (take i lines) (here ∷ [])
 
@@ -104,9 +104,10 @@ module _ (m : ℕ) where
         ∙ ap (λ k. onLine k (codes m before here)) e))
         ∙ report-append old (onLine i (codes m before here))
 
-  -- ---- the running total, until a line is dropped for it, is that of the lines kept
+  -- ---- the running total, against that of all mended lines
 
-  pub running-late : (t : ℕ) (lines : List JobLine) → mostPlacements < t → running m t lines ≡ t
+  -- it stays once a line was dropped for it
+  running-late : (t : ℕ) (lines : List JobLine) → mostPlacements < t → running m t lines ≡ t
   unfolding running
   running-late t [] h = refl
   running-late t (l ∷ lines) h = by (fate m t l) (running-late t lines h)
@@ -116,23 +117,6 @@ module _ (m : ℕ) where
       by (bare k _ _ _) r = absurd (omega arith)
       by (passing k _ _ _ _) r = absurd (omega arith)
       by (fitting k _ _ _ _) r = absurd (omega arith)
-
-  pub running-is : (t : ℕ) (lines : List JobLine) → running m t lines ≤ mostPlacements → running m t lines ≡ t + placementsOf (kept m t lines)
-  unfolding running kept total
-  running-is t [] h = omega arith
-  running-is t (l ∷ lines) h = by (fate m t l) h (running-is t lines) (running-is (t + mendedLine m l .quantity) lines)
-    where
-      q : ℕ
-      q = mendedLine m l .quantity
-
-      by : Fate m t l → running m (after m t l) lines ≤ mostPlacements
-          → (running m t lines ≤ mostPlacements → running m t lines ≡ t + placementsOf (kept m t lines))
-          → (running m (t + q) lines ≤ mostPlacements → running m (t + q) lines ≡ t + q + placementsOf (kept m (t + q) lines))
-          → running m (after m t l) lines ≡ t + placementsOf (kept m t (l ∷ lines))
-      by (late k a s) u r f = absurd (omega (arith, rw a at u, running-late t lines k))
-      by (bare k e a s) u r f = rw (s, a) (r (rw a at u))
-      by (passing k e p a s) u r f = absurd (omega (arith, rw a at u, running-late (t + q) lines p))
-      by (fitting k e p a s) u r f = rw (s, a) (f (rw a at u) ∙ omega arith)
 
   -- it is that of all mended lines, and passes 2,048 exactly where theirs does
   pub running-placed : (t : ℕ) (lines : List JobLine) → t + placementsOf (mendedLines m lines) ≤ mostPlacements → running m t lines

@@ -3,7 +3,7 @@ use native.Mathlib.Omega.{arith}
 use mathlib.Core.Path.{ap, ap₂, _∙_}
 use lib.ListN.{length}
 use borrow.Author.Needs.{needs}
-use Rattle.mending.proofs.Files.{line-length-pos}
+use Rattle.job.proofs.Lines.{line-long}
 use Rattle.job.specs.Job.{lineLength}
 use Rattle.mending.specs.Mending.{readCount}
 use Rattle.mend.proofs.read.read_count.Statement.{statement}
@@ -19,7 +19,7 @@ line-length-requires : tie.Need-line-length-requires
 line-length-requires c κs = search needs
 
 div-whole : tie.Need-div-whole
-div-whole c = omega (arith, c .line-length .ensures, line-length-pos (c .before .version-in .result))
+div-whole c = omega (arith, c .line-length .ensures, line-long (c .before .version-in .result))
 
 count-in-requires : tie.Need-count-in-requires
 count-in-requires c κs = search needs

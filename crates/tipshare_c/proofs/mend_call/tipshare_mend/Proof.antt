@@ -43,7 +43,8 @@ returns-2 c =
     let four = put .put-answer .ensures in
     let (answer, (out, (report, rule))) = asked .mend .ensures in
     let outcome = ap mendOutcome answer in
-    let seen-rule = subst (MendRuleIn (s .args .file .now) (asked .mend .last .1 .0) (asked .mend .last .1 .1 .0)) (seen-is outcome old long four) rule in (
+    let Rule = MendRuleIn (s .args .file .now) (asked .mend .last .1 .0) (asked .mend .last .1 .1 .0) in
+    let seen-rule = subst Rule (seen-is outcome old long four) rule in (
       number-long outcome old long four,
       (answer-long outcome old long four, (out ∙ if-long old _ _ long, (report ∙ if-long old _ _ long, seen-rule))),
     )
