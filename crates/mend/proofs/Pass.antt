@@ -7,7 +7,7 @@ use mathlib.Core.List.{List, [], _++_}
 use lib.ListN.{length, take, getD, length-append, length-map}
 use lib.Seq.{take-all}
 use Rattle.job.specs.Job.{JobLine, lineOf, bytesOfLines, rackIn, setIn, quantityIn}
-use Rattle.mending.specs.Mending.{mendedLine, after, stays, codes, running, kept, onLine, changes, readCount, readLines, reportOf}
+use Rattle.mending.specs.Mending.{mendedLine, after, stays, codes, running, kept, onLine, changes, readCount, readLines, bytesOfChanges}
 use Rattle.mending.proofs.Steps.{running-more, length-kept-more, written-more, report-more}
 use Rattle.mending.proofs.Lengths.{length-report}
 use Rattle.mending.specs.Rules.{noLine}
@@ -75,9 +75,9 @@ module _ (file : List ℕ) (rack count i total set quantity : ℕ) (p : Passed f
       written-more m lines i short v
       ∙ ap (λ x. bytesOfLines v (keptTo file i) ++ x) (sym (same (λ a b l. cond (stays a b l) (lineOf v (mendedLine a l)) [])))
 
-  pub report-next : reportOf (changesTo file (i + 1))
-      ≡ reportOf (changesTo file i) ++ reportOf (onLine i (codes rack total (lineWith set quantity)))
-  report-next = report-more m lines i short ∙ ap (λ x. reportOf (changesTo file i) ++ reportOf (onLine i x)) (sym (same codes))
+  pub report-next : bytesOfChanges (changesTo file (i + 1))
+      ≡ bytesOfChanges (changesTo file i) ++ bytesOfChanges (onLine i (codes rack total (lineWith set quantity)))
+  report-next = report-more m lines i short ∙ ap (λ x. bytesOfChanges (changesTo file i) ++ bytesOfChanges (onLine i x)) (sym (same codes))
 
   pub changes-next : length (changesTo file (i + 1)) ≡ length (changesTo file i) + length (codes rack total (lineWith set quantity))
   changes-next =
@@ -85,7 +85,7 @@ module _ (file : List ℕ) (rack count i total set quantity : ℕ) (p : Passed f
       omega (
         arith,
         ap length report-next,
-        length-append (reportOf (changesTo file i)) (reportOf (onLine i cs)),
+        length-append (bytesOfChanges (changesTo file i)) (bytesOfChanges (onLine i cs)),
         length-report (changesTo file (i + 1)),
         length-report (changesTo file i),
         length-report (onLine i cs),

@@ -6,8 +6,8 @@ use mathlib.Core.Bool.{cond}
 use mathlib.Core.List.{List, [], _++_}
 use lib.ListN.{length, take, drop, length-append, take-append-drop}
 use Rattle.job.specs.Job.{headerLength, bytesOfLines, versionIn, rackIn}
-use Rattle.mending.specs.Mending.{noted, running, kept, changes, readLines, keptIn, mendedFile, wholeFile, recounted, hasMore, changesIn, reportOf}
-use Rattle.mending.specs.Mending.{mendedReport}
+use Rattle.mending.specs.Mending.{noted, running, kept, changes, readLines, keptIn, mendedFile, wholeFile}
+use Rattle.mending.specs.Mending.{recounted, hasMore, changesIn, bytesOfChanges, mendedReport}
 use Rattle.job.proofs.Lines.{length-bytesOfLines, lines-append}
 use Rattle.mending.proofs.Steps.{kept-append, changes-append, report-append}
 use Rattle.mending.proofs.Lengths.{length-report, length-mended}
@@ -29,15 +29,15 @@ module _ (file : List ℕ) (k : ℕ) where
       ap (λ x. bytesOfLines v (kept m 0 x)) (sym whole) ∙ ap (bytesOfLines v) (kept-append m 0 a b) ∙ lines-append v (keptTo file k) rest in
       omega (arith, ap length e, length-append (bytesOfLines v (keptTo file k)) (bytesOfLines v rest))
 
-  pub report-room : length (reportOf (changesTo file k)) ≤ length (reportOf (changes (rackIn file) 0 0 (readLines file)))
+  pub report-room : length (bytesOfChanges (changesTo file k)) ≤ length (bytesOfChanges (changes (rackIn file) 0 0 (readLines file)))
   report-room =
       let m = rackIn file in
       let a = take k (readLines file) in
       let b = drop k (readLines file) in
       let rest = changes m (0 + length a) (running m 0 a) b in
-      let e : reportOf (changes m 0 0 (readLines file)) ≡ reportOf (changesTo file k) ++ reportOf rest =
-      ap (λ x. reportOf (changes m 0 0 x)) (sym whole) ∙ ap reportOf (changes-append m 0 0 a b) ∙ report-append (changesTo file k) rest in
-      omega (arith, ap length e, length-append (reportOf (changesTo file k)) (reportOf rest))
+      let e : bytesOfChanges (changes m 0 0 (readLines file)) ≡ bytesOfChanges (changesTo file k) ++ bytesOfChanges rest =
+      ap (λ x. bytesOfChanges (changes m 0 0 x)) (sym whole) ∙ ap bytesOfChanges (changes-append m 0 0 a b) ∙ report-append (changesTo file k) rest in
+      omega (arith, ap length e, length-append (bytesOfChanges (changesTo file k)) (bytesOfChanges rest))
 
 module _ (file : List ℕ) where
   -- the report has three bytes for each change of a line, and for each of the file

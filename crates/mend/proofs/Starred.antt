@@ -5,7 +5,7 @@ use Rattle.model.specs.Plan.{inRack, rackOk}
 use Rattle.refusal.specs.Refusal.{orElse}
 use Rattle.job.specs.Job.{bytesOf, numberOf, numberAt, lineLength, paired, headerOf, lineOf, bytesOfLines, fileOf, versionOk, startNumber}
 use Rattle.mending.specs.Mending.{linesIn, readCount, mendedLine, leftEmpty, after, stays, codes, kept, changes, mendedFile, changesIn}
-use Rattle.mending.specs.Mending.{reportOf, mendRefusal}
+use Rattle.mending.specs.Mending.{bytesOfChanges, mendRefusal}
 use Rattle.mend.specs.Call.{mendOf, outAfter, reportAfter}
 use Rattle.mend.specs.Rows.{run, rows, Gives}
 use Rattle.mend.specs.Rows.{B75-plain, B75-counted, B76-3, B76-65535, B77-1, B77-0, B78, B79-more, B79-less, B79-counted, B80, B81-plain}
@@ -13,7 +13,7 @@ use Rattle.mend.specs.Rows.{B81-counted, B82-empty, B82-outside, B83, B8
 use Rattle.mend.specs.Rows.{B88-none, B88-mark, B88-version-3, B88-version-0, B88-rack-0, B88-rack-65, B89-2, B89-0, B89-3}
 
 pub starred : All Gives rows
-unfolding run mendOf outAfter reportAfter mendRefusal orElse startNumber versionOk rackOk mendedFile changesIn reportOf changes codes kept stays
+unfolding run mendOf outAfter reportAfter mendRefusal orElse startNumber versionOk rackOk mendedFile changesIn bytesOfChanges changes codes kept stays
     after leftEmpty mendedLine readCount inRack linesIn paired listOf lineLength numberAt numberOf fileOf headerOf bytesOfLines lineOf bytesOf
 starred =
     more {x = B75-plain} refl

@@ -4,7 +4,7 @@ use mathlib.Core.Bool.{Bool, cond}
 use mathlib.Core.List.{List, []}
 use Rattle.model.specs.Limits.{mostPlacements}
 use Rattle.job.specs.Job.{JobLine, lineOf, bytesOfLines, versionIn, rackIn}
-use Rattle.mending.specs.Mending.{mendedLine, stays, noted, codes, onLine, changes, readLines, keptIn, reportOf}
+use Rattle.mending.specs.Mending.{mendedLine, stays, noted, codes, onLine, changes, readLines, keptIn, bytesOfChanges}
 
 -- the line of a set and a quantity
 abbrev pub lineWith : ℕ → ℕ → JobLine
@@ -28,8 +28,8 @@ keptLines file = bytesOfLines (versionIn file) (keptIn file)
 
 -- the bytes of the changes of line i
 abbrev pub lineReport : ℕ → ℕ → ℕ → JobLine → List ℕ
-lineReport i m t l = reportOf (onLine i (codes m t l))
+lineReport i m t l = bytesOfChanges (onLine i (codes m t l))
 
 -- the bytes of a change of line i, where its test passes
 abbrev pub change : Bool → ℕ → ℕ → List ℕ
-change test i code = reportOf (noted test (i, code) [])
+change test i code = bytesOfChanges (noted test (i, code) [])

@@ -8,7 +8,7 @@ ghost use Prim.Native.Nat.{_≤_};
 ghost use lib.ListN.{length, drop};
 ghost use Rattle.text.specs.Buffer.{Room, Put};
 ghost use Rattle.job.specs.Job.{startNumber};
-ghost use Rattle.mending.specs.Mending.{keptIn, reportOf, mendedReport};
+ghost use Rattle.mending.specs.Mending.{keptIn, bytesOfChanges, mendedReport};
 ghost use Rattle.mend.specs.Mend.{lineWith, mostRunning, lineChanges, lineReport, change};
 
 // The line number that stands for the whole file.
@@ -55,8 +55,8 @@ fn put_codes(
 // Writes the changes of the lines to the front of the report.
 fn put_changes(file: &[u8], report: &mut [u8]) -> usize
     requires { ⌜ startNumber (now file) ≡ 0 ⌝ }
-    requires { ⌜ Room (now report) 0 (reportOf (lineChanges (now file))) ⌝ }
-    ensures { λ r. ⌜ Put (now (report .entry)) 0 (reportOf (lineChanges (now (file .entry)))) r (now (report .exit)) ⌝ }
+    requires { ⌜ Room (now report) 0 (bytesOfChanges (lineChanges (now file))) ⌝ }
+    ensures { λ r. ⌜ Put (now (report .entry)) 0 (bytesOfChanges (lineChanges (now (file .entry)))) r (now (report .exit)) ⌝ }
 {
     let rack = job::rack_in(file);
     let count = read::read_count(file);

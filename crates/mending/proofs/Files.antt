@@ -19,7 +19,7 @@ use Rattle.job.proofs.Header.{version-back}
 use Rattle.job.proofs.Lines.{paired-again, paired-quantities, line-long, Held}
 use Rattle.job.proofs.Reading.{read-iff}
 use Rattle.job.proofs.Writing.{reads-as, form-again}
-use Rattle.mending.specs.Mending.{linesIn, kept, changes, readCount, readLines, keptIn, mendedFile, changesIn, reportOf, mendedReport}
+use Rattle.mending.specs.Mending.{linesIn, kept, changes, readCount, readLines, keptIn, mendedFile, changesIn, bytesOfChanges, mendedReport}
 use Rattle.mending.specs.Rules.{setsOf, quantitiesOf, placementsOf, linesWithin}
 use Rattle.mending.proofs.Lines.{GoodLine, good-lines, lines-good, length-linesIn, lines-held, all-lines, bytes-fileOf}
 use Rattle.mending.proofs.Kept.{kept-good, kept-fits, length-kept, kept-within, kept-same, kept-is}
@@ -111,8 +111,8 @@ module _ (file : List ℕ) where
     unchanged h = ap (fileOf (versionIn file) (rackIn file)) (kept-all ∙ all-lines file) ∙ form-again file h g
 
     unreported : mendedReport file ≡ []
-    unfolding reportOf
-    unreported = ap reportOf accepted-changes
+    unfolding bytesOfChanges
+    unreported = ap bytesOfChanges accepted-changes
 
   pub accepted-same : readRefusal file .number ≡ 0 → Bytes file → (mendedFile file ≡ file) × (mendedReport file ≡ [])
   accepted-same e h = let (g, good) = read-iff file .0 e in (unchanged g good h, unreported g good)

@@ -11,13 +11,13 @@ use Rattle.job.specs.Job.{bytesOf, headerLength, setLength, lineLength, fileLen
 use Rattle.job.proofs.Header.{length-headerOf}
 use Rattle.job.proofs.Lines.{file-few, length-bytesOfLines}
 use Rattle.mending.specs.Mending.{noted, changes, readCount, readLines, keptIn, mendedFile, wholeFile, recounted}
-use Rattle.mending.specs.Mending.{hasMore, changesIn, reportOf, mendedReport}
+use Rattle.mending.specs.Mending.{hasMore, changesIn, bytesOfChanges, mendedReport}
 use Rattle.mending.proofs.Changes.{length-changes}
 use Rattle.mending.proofs.Files.{read-few, length-readLines, kept-few}
 
 -- the report has three bytes for each change
-pub length-report : (cs : List (ℕ × ℕ)) → length (reportOf cs) ≡ 3 * length cs
-unfolding reportOf bytesOf
+pub length-report : (cs : List (ℕ × ℕ)) → length (bytesOfChanges cs) ≡ 3 * length cs
+unfolding bytesOfChanges bytesOf
 length-report [] = refl
 length-report (c ∷ cs) = omega (arith, length-report cs)
 

@@ -14,7 +14,7 @@ use Rattle.model.specs.Limits.{mostPlacements}
 use Rattle.goals.proofs.Append.{all-append}
 use Rattle.job.specs.Job.{bytesOf, rackIn, countIn}
 use Rattle.mending.specs.Mending.{after, noted, codes, running, changes, readCount, readLines, keptIn, wholeFile, recounted}
-use Rattle.mending.specs.Mending.{hasMore, changesIn, reportOf, mendedReport}
+use Rattle.mending.specs.Mending.{hasMore, changesIn, bytesOfChanges, mendedReport}
 use Rattle.mending.specs.Rules.{placementsOf, mendedLines, readLine, placed, changesTold, Told, Rising, end, first, place, ExactReport}
 use Rattle.mending.proofs.Rising.{rising-append}
 use Rattle.mending.proofs.Codes.{noted-here, noted-later, noted-all, all-mem, code-cleared, code-emptied, code-raised, code-dropped}
@@ -172,8 +172,8 @@ module _ (file : List ℕ) where
 -- ---- the bytes of the report
 
 -- they tell the changes
-told-back : {cs : List (ℕ × ℕ)} → All (λ c. (c .0 < 65536) × (c .1 < 256)) cs → changesTold (reportOf cs) ≡ cs
-unfolding changesTold reportOf bytesOf
+told-back : {cs : List (ℕ × ℕ)} → All (λ c. (c .0 < 65536) × (c .1 < 256)) cs → changesTold (bytesOfChanges cs) ≡ cs
+unfolding changesTold bytesOfChanges bytesOf
 told-back none = refl
 told-back (more {x = c} h hs) = ap₂ _∷_ (ap₂ (λ n k. (n, k)) (omega (arith, h)) (omega (arith, h))) (told-back hs)
 

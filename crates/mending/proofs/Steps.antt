@@ -12,18 +12,18 @@ use Rattle.model.specs.Limits.{mostPlacements}
 use Rattle.placements.specs.Repeated.{total}
 use Rattle.job.specs.Job.{bytesOf, JobLine, lineOf, bytesOfLines}
 use Rattle.job.proofs.Lines.{lines-append}
-use Rattle.mending.specs.Mending.{mendedLine, leftEmpty, after, stays, noted, codes, running, kept, onLine, changes, reportOf}
+use Rattle.mending.specs.Mending.{mendedLine, leftEmpty, after, stays, noted, codes, running, kept, onLine, changes, bytesOfChanges}
 use Rattle.mending.specs.Rules.{placementsOf, mendedLines, noLine}
 use Rattle.mending.proofs.Kept.{Fate, late, bare, passing, fitting, fate}
 
 -- ---- one list after the other
 
-pub report-append : (xs ys : List (ℕ × ℕ)) → reportOf (xs ++ ys) ≡ reportOf xs ++ reportOf ys
-unfolding reportOf
+pub report-append : (xs ys : List (ℕ × ℕ)) → bytesOfChanges (xs ++ ys) ≡ bytesOfChanges xs ++ bytesOfChanges ys
+unfolding bytesOfChanges
 report-append [] ys = refl
 report-append (c ∷ xs) ys =
     ap (λ b. bytesOf 2 (c .0) ++ bytesOf 1 (c .1) ++ b) (report-append xs ys)
-    ∙ sym (append-assoc (bytesOf 2 (c .0) ++ bytesOf 1 (c .1)) (reportOf xs) (reportOf ys))
+    ∙ sym (append-assoc (bytesOf 2 (c .0) ++ bytesOf 1 (c .1)) (bytesOfChanges xs) (bytesOfChanges ys))
 
 module _ (m : ℕ) where
   running-append : (t : ℕ) (xs ys : List JobLine) → running m t (xs ++ ys) ≡ running m (running m t xs) ys
@@ -92,14 +92,14 @@ module _ (m : ℕ) where
         by false = refl
 
     -- the report is longer by the codes of line i
-    pub report-more : reportOf (changes m 0 0 (take (i + 1) lines))
-        ≡ reportOf (changes m 0 0 (take i lines)) ++ reportOf (onLine i (codes m before here))
+    pub report-more : bytesOfChanges (changes m 0 0 (take (i + 1) lines))
+        ≡ bytesOfChanges (changes m 0 0 (take i lines)) ++ bytesOfChanges (onLine i (codes m before here))
     unfolding changes
     report-more =
         let old = changes m 0 0 (take i lines) in
         let e : 0 + length (take i lines) ≡ i = omega (arith, length-take-le i lines (omega arith)) in
-        ap (λ k. reportOf (changes m 0 0 k)) one-more
-        ∙ ap reportOf (changes-append 0 0 (take i lines) (here ∷ [])
+        ap (λ k. bytesOfChanges (changes m 0 0 k)) one-more
+        ∙ ap bytesOfChanges (changes-append 0 0 (take i lines) (here ∷ [])
         ∙ ap (λ k. old ++ k) (append-nil (onLine (0 + length (take i lines)) (codes m before here))
         ∙ ap (λ k. onLine k (codes m before here)) e))
         ∙ report-append old (onLine i (codes m before here))

@@ -115,13 +115,13 @@ hasMore file = ltb (fileLength (versionIn file) (readCount file)) (length file)
 unfoldable pub changesIn : List ℕ → List (ℕ × ℕ)
 changesIn file = changes (rackIn file) 0 0 (readLines file) ++ noted (recounted file) (wholeFile, 5) (noted (hasMore file) (wholeFile, 6) [])
 
--- the report of changes: three bytes for each
-unfoldable pub reportOf : List (ℕ × ℕ) → List ℕ
-reportOf [] = []
-reportOf (c ∷ cs) = bytesOf 2 (c .0) ++ bytesOf 1 (c .1) ++ reportOf cs
+-- changes as bytes, three for each: two for the line and one for the code
+unfoldable pub bytesOfChanges : List (ℕ × ℕ) → List ℕ
+bytesOfChanges [] = []
+bytesOfChanges (c ∷ cs) = bytesOf 2 (c .0) ++ bytesOf 1 (c .1) ++ bytesOfChanges cs
 
 abbrev pub mendedReport : List ℕ → List ℕ
-mendedReport file = reportOf (changesIn file)
+mendedReport file = bytesOfChanges (changesIn file)
 
 -- the refusal of mending, for outputs of room bytes for the file and space bytes for the report: by the first 8 bytes, then by the room
 unfoldable pub mendRefusal : List ℕ → ℕ → ℕ → Refusal

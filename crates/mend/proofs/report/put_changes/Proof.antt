@@ -4,7 +4,7 @@ use mathlib.Core.Path.{_≡_}
 use mathlib.Core.List.{_++_}
 use lib.ListN.{length}
 use borrow.Author.Needs.{needs}
-use Rattle.mending.specs.Mending.{codes, onLine, changes, reportOf}
+use Rattle.mending.specs.Mending.{codes, onLine, changes, bytesOfChanges}
 use Rattle.mend.specs.Mend.{lineWith}
 use Rattle.mend.proofs.There.{start-long}
 use Rattle.mend.proofs.Filled.{Filled, fill-start, fill-room, fill-next}
@@ -15,7 +15,7 @@ use Rattle.mend.proofs.report.put_changes.Tie as tie
 
 abbrev Inv-loop : tie.InvT-loop
 Inv-loop file report₀ rack count total₀ at₀ i₀ report total at i =
-    Passed file rack count i total × Filled 0 at (reportOf (changesTo file i)) report₀ report
+    Passed file rack count i total × Filled 0 at (bytesOfChanges (changesTo file i)) report₀ report
 
 abbrev μ-loop : tie.MeasureT-loop
 μ-loop file report₀ rack count total₀ at₀ i₀ report total at i = count - i
@@ -27,7 +27,7 @@ read-count-requires : tie.Need-read-count-requires Inv-loop μ-loop
 read-count-requires c κs = start-long _ (c .before .before .before .pre .0)
 
 loop-holds : tie.Need-loop-holds Inv-loop μ-loop
-unfolding changes reportOf
+unfolding changes bytesOfChanges
 loop-holds c = (pass-start _ _ _ (c .before .rack-in .ensures) (c .read-count .ensures), fill-start _ _)
 
 set-in-requires : tie.Need-set-in-requires Inv-loop μ-loop
@@ -50,8 +50,8 @@ next : (c : tie.After-quantity-in Inv-loop μ-loop) →
     let file = entry c .args .file .now in
     let at = turn c .loop in
     let line = lineWith (c .before .set-in .result) (c .quantity-in .result) in
-    reportOf (changesTo file (at .i + 1))
-    ≡ reportOf (changesTo file (at .i)) ++ reportOf (onLine (at .i) (codes (turn c .before .before .rack-in .result) (at .total) line))
+    bytesOfChanges (changesTo file (at .i + 1))
+    ≡ bytesOfChanges (changesTo file (at .i)) ++ bytesOfChanges (onLine (at .i) (codes (turn c .before .before .rack-in .result) (at .total) line))
 next c =
     let at = turn c .loop in
     report-next (entry c .args .file .now) _ _ (at .i) (at .total) (c .before .set-in .result) (c .quantity-in .result) (at .inv .0)
@@ -59,7 +59,7 @@ next c =
 
 room : (c : tie.After-quantity-in Inv-loop μ-loop) →
     let a = entry c .args in
-    0 + length (reportOf (changesTo (a .file .now) (turn c .loop .i + 1))) ≤ length (a .report .now)
+    0 + length (bytesOfChanges (changesTo (a .file .now) (turn c .loop .i + 1))) ≤ length (a .report .now)
 room c = omega (arith, entry c .pre .1, report-room (entry c .args .file .now) (turn c .loop .i + 1))
 
 put-codes-requires : tie.Need-put-codes-requires Inv-loop μ-loop

@@ -5,7 +5,7 @@ use mathlib.Core.List.{List, _++_}
 use lib.ListN.{length, length-append}
 use borrow.Author.Needs.{needs}
 use Rattle.text.proofs.Buffer.{both, printed}
-use Rattle.mending.specs.Mending.{wholeFile, reportOf, mendedReport}
+use Rattle.mending.specs.Mending.{wholeFile, bytesOfChanges, mendedReport}
 use Rattle.mend.specs.Mend.{lineChanges, change}
 use Rattle.mend.proofs.Codes.{report-parts}
 use Rattle.mend.proofs.report.write_report.Statement.{statement}
@@ -23,7 +23,7 @@ startOf c = c .before .before .before .before
 
 -- the bytes of the lines' changes, and of the two of the file
 lines : tie.After-has-more → List ℕ
-lines c = reportOf (lineChanges (startOf c .args .file .now))
+lines c = bytesOfChanges (lineChanges (startOf c .args .file .now))
 
 five : tie.After-has-more → List ℕ
 five c = change (c .before .is-recounted .result) wholeFile 5
