@@ -121,6 +121,15 @@ pub fn alone(first: &[u8], second: &[u8], plan: &mut [u8], answer: &mut [u64]) -
     })
 }
 
+/// Mends a file and writes it to out, and its changes to the report: place, bytes of the file, bytes of the report, 0.
+pub fn mend(file: &[u8], out: &mut [u8], report: &mut [u8], answer: &mut [u64]) -> u32 {
+    if answer.len() < ANSWER_PLACES {
+        return refusal::SHORT_ANSWER;
+    }
+    let mending = crate::mend(file, out, report);
+    answered(answer, mending.number, [0, mending.file as u64, mending.report as u64, 0])
+}
+
 /// Writes the report to out and gives its length, 0 where out is too short.
 pub fn report(file: &[u8], out: &mut [u8]) -> usize {
     if out.len() < REPORT_SPACE {

@@ -6,6 +6,7 @@
 mod board;
 mod checking;
 mod common;
+mod mending;
 mod panel;
 mod report;
 mod sharing;
@@ -19,6 +20,7 @@ pub use board::{Answer, Board, Line, Stage, MOST_LINES, MOST_PLACEMENTS, MOST_TI
 pub use checking::TableFault;
 pub use common::CommonTip;
 pub use file::{read, Version, LONGEST_FILE};
+pub use mending::{mend, mended, Change, Mended, Mending, What, CHANGE, WHOLE_FILE};
 pub use panel::{Alone, Merged};
 pub use report::{report, LONGEST_INPUT};
 pub use sharing::pairs_in;
