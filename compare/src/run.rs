@@ -78,10 +78,15 @@ impl Run {
 
     /// The same without the small boards.
     pub fn seeded(&mut self) -> Result<(), Difference> {
-        self.fixed_panels()?;
-        self.fixed_mendings()?;
         self.fixed_boards()?;
         self.seeded_boards()
+    }
+
+    /// The same with the fixed panels and mendings before it.
+    pub fn panels_and_mendings(&mut self) -> Result<(), Difference> {
+        self.fixed_panels()?;
+        self.fixed_mendings()?;
+        self.seeded()
     }
 
     /// Each fixed board in each version that it can have.

@@ -87,6 +87,7 @@ pub fn mended(file: &[u8]) -> Result<Mended, u32> {
     };
     let mut changes = Vec::new();
     let mut kept: Vec<Line> = Vec::new();
+    let mut total = 0;
     // Set once the first line would pass: it goes, and so do all after it.
     let mut passed = false;
     for (number, bytes) in (0..).zip(lines.chunks(version.line())) {
@@ -109,8 +110,8 @@ pub fn mended(file: &[u8]) -> Result<Mended, u32> {
             change(What::QuantityRaised);
             quantity = 1;
         }
-        let before: usize = kept.iter().map(|line| usize::from(line.quantity)).sum();
-        passed = before + usize::from(quantity) > MOST_PLACEMENTS;
+        total += usize::from(quantity);
+        passed = total > MOST_PLACEMENTS;
         if passed {
             change(What::DroppedForTotal);
         } else {

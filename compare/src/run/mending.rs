@@ -43,6 +43,7 @@ fn fixed_files() -> Vec<Vec<u8>> {
         first(3, 0, &[1]),
         // Tips outside, empty lines and quantities of 0.
         first(3, 2, &[0b1000, 0b011]),
+        second(3, 1, &[(2, 0)]),
         second(3, 2, &[(0, 0), (2, 2)]),
         second(3, 4, &[(8, 0), (2, 0), (2 | 1 << 63, 3), (0, 1)]),
         first(64, 2, &[1 << 63, 0]),
@@ -61,20 +62,24 @@ fn fixed_files() -> Vec<Vec<u8>> {
 }
 
 impl Run {
-    /// Each fixed file with outputs around the needed lengths, and the short ones cut at every byte.
+    /// Each fixed file with outputs around the needed lengths and with longer ones, and the first two cut at every byte.
     pub(super) fn fixed_mendings(&mut self) -> Result<(), Difference> {
-        for file in fixed_files() {
-            let [out, report] = needed(&file);
-            for (out, report) in around(out).flat_map(|out| around(report).map(move |report| (out, report))) {
-                self.mend(&file, [out, report, ANSWER_PLACES])?;
+        for (number, file) in fixed_files().iter().enumerate() {
+            let [out, report] = needed(file);
+            for (out, report) in [(out, report), (out + 50, report + 50), (out - 1, report)] {
+                self.mend(file, [out, report, ANSWER_PLACES])?;
             }
-            if file.len() < 30 {
+            if report > 0 {
+                self.mend(file, [out, report - 1, ANSWER_PLACES])?;
+                self.mend(file, [out - 1, report - 1, ANSWER_PLACES])?;
+            }
+            if number < 2 {
                 for answer in 0..=5 {
-                    self.mend(&file, [out, report, answer])?;
+                    self.mend(file, [out, report, answer])?;
                 }
                 for length in 0..file.len() {
                     let [out, report] = needed(&file[..length]);
-                    self.mend(&file[..length], [out, report, ANSWER_PLACES])?;
+                    self.mend(&file[..length], [out, report + 3, ANSWER_PLACES])?;
                 }
                 self.mend(&[&file[..], &[0]].concat(), [out, report + 3, ANSWER_PLACES])?;
             }
@@ -161,12 +166,6 @@ impl Run {
 /// The lengths that a mending needs, 0 where the head is refused.
 fn needed(file: &[u8]) -> [usize; 2] {
     mended(file).map_or([0, 0], |mended| [mended.file.len(), mended.report().len()])
-}
-
-/// The lengths around a needed one.
-fn around(needed: usize) -> impl Iterator<Item = usize> {
-    let less = (needed > 0).then(|| needed - 1);
-    less.into_iter().chain([needed, needed + 1])
 }
 
 /// Damage as memory cards leave it, with a good head: odd sets and quantities, flipped bits, a cut, other counts, and
