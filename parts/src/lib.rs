@@ -5,6 +5,7 @@ pub mod files;
 pub mod handed;
 pub mod job;
 pub mod list;
+pub mod mending;
 pub mod panel;
 pub mod picture;
 pub mod planning;
