@@ -391,7 +391,11 @@ uint32_t baseline_mend(const uint8_t *file, size_t file_len, uint8_t *out, size_
     if (answer_len < TIPSHARE_ANSWER_PLACES) {
         return TIPSHARE_SHORT_ANSWER;
     }
-    return answer_mend(file, file_len, {out, out_len, report, report_len}, answer);
+    const Job job = read_form(file, file_len);
+    if (job.number != TIPSHARE_ACCEPTED) {
+        return refused(answer, job.number);
+    }
+    return answer_mend(file, file_len, job, {out, out_len, report, report_len}, answer);
 }
 
 size_t baseline_report(const uint8_t *file, size_t file_len, uint8_t *out, size_t out_len)

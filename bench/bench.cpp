@@ -32,20 +32,21 @@ struct Library {
     decltype(&tipshare_check) check;
     decltype(&tipshare_merge) merge;
     decltype(&tipshare_alone) alone;
+    decltype(&tipshare_mend) mend;
     decltype(&tipshare_report) report;
 };
 
 const Library kLibraries[] = {
     {"tipshare", "proved", tipshare_read, tipshare_common, tipshare_keep, tipshare_quick, tipshare_best,
-     tipshare_check, tipshare_merge, tipshare_alone, tipshare_report},
+     tipshare_check, tipshare_merge, tipshare_alone, tipshare_mend, tipshare_report},
     {"baseline", "same steps", baseline_read, baseline_common, baseline_keep, baseline_quick, baseline_best,
-     baseline_check, baseline_merge, baseline_alone, baseline_report},
+     baseline_check, baseline_merge, baseline_alone, baseline_mend, baseline_report},
     {"tuned", "tuned", tuned_read, tuned_common, tuned_keep, tuned_quick, tuned_best, tuned_check, tuned_merge,
-     tuned_alone, tuned_report},
+     tuned_alone, tuned_mend, tuned_report},
 };
 constexpr size_t kNumber = std::size(kLibraries);
 
-enum class Call { read, common, keep, quick, best, check, merge, alone, report };
+enum class Call { read, common, keep, quick, best, check, merge, alone, mend, report };
 
 struct NamedCall {
     Call call;
@@ -54,13 +55,15 @@ struct NamedCall {
 
 const NamedCall kCalls[] = {{Call::read, "read"},   {Call::common, "common"}, {Call::keep, "keep"},
                             {Call::quick, "quick"}, {Call::best, "best"},     {Call::check, "check"},
-                            {Call::merge, "merge"}, {Call::alone, "alone"},   {Call::report, "report"}};
+                            {Call::merge, "merge"}, {Call::alone, "alone"},   {Call::mend, "mend"},
+                            {Call::report, "report"}};
 
 /* What a call can write to, lent at the lengths that always do. */
 struct Buffers {
     alignas(64) uint8_t plan[TIPSHARE_MOST_LINES];
     alignas(64) uint32_t table[TIPSHARE_MOST_PLACES];
     alignas(64) uint8_t out[TIPSHARE_REPORT_SPACE];
+    alignas(64) uint8_t changes[TIPSHARE_LONGEST_CHANGES];
     alignas(64) uint64_t answer[TIPSHARE_ANSWER_PLACES];
 
     void fill_with_junk()
@@ -76,7 +79,8 @@ struct Buffers {
     bool equals(const Buffers &other) const
     {
         return memcmp(plan, other.plan, sizeof plan) == 0 && memcmp(table, other.table, sizeof table) == 0 &&
-               memcmp(out, other.out, sizeof out) == 0 && memcmp(answer, other.answer, sizeof answer) == 0;
+               memcmp(out, other.out, sizeof out) == 0 &&
+               memcmp(changes, other.changes, sizeof changes) == 0 && memcmp(answer, other.answer, sizeof answer) == 0;
     }
 };
 
@@ -104,6 +108,9 @@ uint64_t make_call(const Library &library, Call call, const File &file, Buffers 
     case Call::alone:
         return library.alone(file.halves[0].data(), file.halves[0].size(), file.halves[1].data(), file.halves[1].size(),
                              lent.plan, sizeof lent.plan, lent.answer, places);
+    case Call::mend:
+        return library.mend(file.damaged.data(), file.damaged.size(), lent.out, job::kLongestFile, lent.changes,
+                            sizeof lent.changes, lent.answer, places);
     case Call::report: return library.report(bytes, length, lent.out, sizeof lent.out);
     }
     return 0;
@@ -452,7 +459,7 @@ const char kUsage[] =
     "bench [--rounds N] [--json] [--call CALL] [--board BOARD]   time the calls and print tables\n"
     "bench --callgrind CALL BOARD LIBRARY [TIMES]                make one call only, and print how often it was made\n"
     "bench --list                                                the calls and boards\n"
-    "CALL: read, common, keep, quick, best, check, merge, alone, report. LIBRARY: tipshare, baseline, tuned.\n"
+    "CALL: read, common, keep, quick, best, check, merge, alone, mend, report. LIBRARY: tipshare, baseline, tuned.\n"
     "With --board the tables of growth are left out.\n";
 
 int usage()

@@ -1,4 +1,4 @@
-/* Mending a job file, as the hand-written implementations share it: one pass for the lengths, and one that writes. */
+/* What the hand-written implementations share for mending a job file. */
 #pragma once
 
 #include "job.h"
@@ -53,30 +53,21 @@ template <typename Keep, typename Tell>
     }
 }
 
-inline uint32_t answer_mend(const uint8_t *file, size_t file_len, const Mend &mend, uint64_t *answer)
+/* The number of lines that are read. */
+inline size_t lines_read(const Job &job, size_t file_len)
 {
-    const Job job = read_form(file, file_len);
-    if (job.number != TIPSHARE_ACCEPTED) {
-        return refused(answer, job.number);
-    }
     const size_t whole = (file_len - kHead) / job.step;
-    size_t lines = job.count < whole ? job.count : whole;
-    lines = lines < kMostLines ? lines : kMostLines;
-    size_t kept = 0;
-    size_t changes = 0;
-    mend_lines(file, job, lines, [&](uint64_t, uint8_t) { kept++; }, [&](size_t, Change) { changes++; });
-    const bool recounted = kept != job.count;
-    const bool behind = file_len > length_of(lines, job.step);
-    changes += size_t{recounted} + size_t{behind};
-    const size_t written = length_of(kept, job.step);
-    if (mend.out_len < written || mend.report_len < kChange * changes) {
-        return refused(answer, TIPSHARE_SHORT_OUTPUT);
-    }
-    memcpy(mend.out, file, kHead - 2);
-    mend.out[kHead - 2] = static_cast<uint8_t>(kept >> 8);
-    mend.out[kHead - 1] = static_cast<uint8_t>(kept);
+    const size_t lines = job.count < whole ? job.count : whole;
+    return lines < kMostLines ? lines : kMostLines;
+}
+
+/* Writes the mended file and its changes, for which there is room, and answers with both lengths. */
+inline uint32_t write_mended(const uint8_t *file, size_t file_len, const Job &job, size_t lines, const Mend &mend,
+                             uint64_t *answer)
+{
     uint8_t *to = mend.out + kHead;
     uint8_t *told = mend.report;
+    size_t kept = 0;
     const auto tell = [&](size_t line, Change change) {
         *told++ = static_cast<uint8_t>(line >> 8);
         *told++ = static_cast<uint8_t>(line);
@@ -88,15 +79,34 @@ inline uint32_t answer_mend(const uint8_t *file, size_t file_len, const Mend &me
             to[kSet] = quantity;
         }
         to += job.step;
+        kept++;
     };
     mend_lines(file, job, lines, keep, tell);
-    if (recounted) {
+    if (kept != job.count) {
         tell(kWholeFile, kCountChanged);
     }
-    if (behind) {
+    if (file_len > length_of(lines, job.step)) {
         tell(kWholeFile, kBytesBehind);
     }
-    return answered(answer, TIPSHARE_ACCEPTED, 0, written, kChange * changes, 0);
+    memcpy(mend.out, file, kHead - 2);
+    mend.out[kHead - 2] = static_cast<uint8_t>(kept >> 8);
+    mend.out[kHead - 1] = static_cast<uint8_t>(kept);
+    return answered(answer, TIPSHARE_ACCEPTED, 0, static_cast<uint64_t>(to - mend.out),
+                    static_cast<uint64_t>(told - mend.report), 0);
+}
+
+/* Mends a file whose head is good: the lengths are worked out first, so that nothing is written without room for all. */
+inline uint32_t answer_mend(const uint8_t *file, size_t file_len, const Job &job, const Mend &mend, uint64_t *answer)
+{
+    const size_t lines = lines_read(job, file_len);
+    size_t kept = 0;
+    size_t changes = 0;
+    mend_lines(file, job, lines, [&](uint64_t, uint8_t) { kept++; }, [&](size_t, Change) { changes++; });
+    changes += size_t{kept != job.count} + size_t{file_len > length_of(lines, job.step)};
+    if (mend.out_len < length_of(kept, job.step) || mend.report_len < kChange * changes) {
+        return refused(answer, TIPSHARE_SHORT_OUTPUT);
+    }
+    return write_mended(file, file_len, job, lines, mend, answer);
 }
 
 }  // namespace job

@@ -821,7 +821,17 @@ uint32_t tuned_mend(const uint8_t *file, size_t file_len, uint8_t *out, size_t o
         memcpy(out, file, file_len);
         return answered(answer, TIPSHARE_ACCEPTED, 0, file_len, 0, 0);
     }
-    return answer_mend(file, file_len, {out, out_len, report, report_len}, answer);
+    const Job job = read_form(file, file_len);
+    if (job.number != TIPSHARE_ACCEPTED) {
+        return refused(answer, job.number);
+    }
+    const Mend mend{out, out_len, report, report_len};
+    const size_t lines = lines_read(job, file_len);
+    // Two changes a line: one with three comes after nine with one at most, which hold the 2,048 placements.
+    if (out_len >= length_of(lines, job.step) && report_len >= kChange * (2 * lines + 2)) {
+        return write_mended(file, file_len, job, lines, mend, answer);
+    }
+    return answer_mend(file, file_len, job, mend, answer);
 }
 
 size_t tuned_report(const uint8_t *file, size_t file_len, uint8_t *out, size_t out_len)
