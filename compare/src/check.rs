@@ -26,7 +26,8 @@ pub enum Call {
 }
 
 /// The names of the calls, in the order of their columns.
-pub const CALL_NAMES: [&str; 10] = ["read", "common", "keep", "quick", "best", "check", "merge", "alone", "mend", "report"];
+pub const CALL_NAMES: [&str; 10] =
+    ["read", "common", "keep", "quick", "best", "check", "merge", "alone", "mend", "report"];
 
 impl Call {
     /// Where the call stands among the names.

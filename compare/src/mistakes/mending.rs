@@ -65,7 +65,9 @@ pub const OF_MENDED_LINES: &[Mistake] = &[
         })
     }),
     ("a line of quantity 0 is dropped", |call, lent| match call {
-        Call::Mend { .. } => on_lines(call, lent, |line| if line.quantity == 0 { Line { set: 0, ..line } } else { line }),
+        Call::Mend { .. } => {
+            on_lines(call, lent, |line| if line.quantity == 0 { Line { set: 0, ..line } } else { line })
+        }
         _ => call_library(call, lent),
     }),
     ("a quantity of 0 becomes 255", |call, lent| match call {
@@ -74,9 +76,7 @@ pub const OF_MENDED_LINES: &[Mistake] = &[
         }
         _ => call_library(call, lent),
     }),
-    ("a raised quantity is not told", |call, lent| {
-        on_mended(call, lent, |_, _, told| told.retain(|told| told.1 != 3))
-    }),
+    ("a raised quantity is not told", |call, lent| on_mended(call, lent, |_, _, told| told.retain(|told| told.1 != 3))),
     ("quantities of version 2 that are all 1 are written as version 1", |call, lent| {
         on_mended(call, lent, |_, file, _| {
             let board = second::read(file).board;
@@ -152,7 +152,7 @@ pub const OF_MENDED_FILES: &[Mistake] = &[
     }),
     ("a part of a line behind is not told", |call, lent| {
         on_mended(call, lent, |found, _, told| {
-            if (found.len() - HEAD) % form_of(found).line() != 0 {
+            if !(found.len() - HEAD).is_multiple_of(form_of(found).line()) {
                 told.retain(|told| told.1 != 6)
             }
         })
@@ -164,9 +164,7 @@ pub const OF_MENDED_FILES: &[Mistake] = &[
             }
         })
     }),
-    ("another count is not told", |call, lent| {
-        on_mended(call, lent, |_, _, told| told.retain(|told| told.1 != 5))
-    }),
+    ("another count is not told", |call, lent| on_mended(call, lent, |_, _, told| told.retain(|told| told.1 != 5))),
     ("a count is told as changed where lines are missing alone", |call, lent| {
         on_mended(call, lent, |found, _, told| {
             let whole = (found.len() - HEAD) / form_of(found).line();
@@ -188,9 +186,7 @@ pub const OF_MENDED_FILES: &[Mistake] = &[
         })
     }),
     ("5 and 6 are told under the line behind the last", |call, lent| {
-        on_mended(call, lent, |_, _, told| {
-            told.iter_mut().filter(|told| told.0 == WHOLE).for_each(|told| told.0 = 512)
-        })
+        on_mended(call, lent, |_, _, told| told.iter_mut().filter(|told| told.0 == WHOLE).for_each(|told| told.0 = 512))
     }),
     ("changes are told by the new line numbers", |call, lent| {
         on_mended(call, lent, |_, _, told| {
@@ -201,9 +197,7 @@ pub const OF_MENDED_FILES: &[Mistake] = &[
         })
     }),
     ("changes are told by lines counted from 1", |call, lent| {
-        on_mended(call, lent, |_, _, told| {
-            told.iter_mut().filter(|told| told.0 != WHOLE).for_each(|told| told.0 += 1)
-        })
+        on_mended(call, lent, |_, _, told| told.iter_mut().filter(|told| told.0 != WHOLE).for_each(|told| told.0 += 1))
     }),
     ("line numbers of a report are little-endian", |call, lent| {
         on_mended(call, lent, |_, _, told| told.iter_mut().for_each(|told| told.0 = told.0.swap_bytes()))

@@ -138,7 +138,8 @@ impl Run {
         let step = if in_second { Version::Two.line() } else { Version::One.line() };
         let whole = (file.len() - HEAD) / step;
         let found = usize::from(file[AT_COUNT.start]) << 8 | usize::from(file[AT_COUNT.start + 1]);
-        let quantities = || mended.file[HEAD..].chunks(step).all(|line| line.get(8).is_none_or(|&quantity| quantity == 1));
+        let quantities =
+            || mended.file[HEAD..].chunks(step).all(|line| line.get(8).is_none_or(|&quantity| quantity == 1));
         let all_of_a_line = (0..512).any(|line| of_line(line) == 3);
         self.count_events(&[
             (mended.changes.is_empty(), Event::NothingMended),
