@@ -61,6 +61,27 @@ fn fixed_files() -> Vec<Vec<u8>> {
     ]
 }
 
+/// The example with these bytes in the place of others: heads that are refused, and the order of their refusals.
+fn refused_heads() -> Vec<Vec<u8>> {
+    let changes: [&[(usize, u8)]; 9] = [
+        &[(0, b't')],
+        &[(2, b'Q'), (4, 3)],
+        &[(4, 0)],
+        &[(4, 3), (AT_RACK, 0)],
+        &[(3, 1)],
+        &[(3, 2), (4, 0)],
+        &[(AT_RACK, 0)],
+        &[(AT_RACK, 65), (6, 255)],
+        &[(AT_RACK, 255)],
+    ];
+    let with = |changes: &&[(usize, u8)]| {
+        let mut file = file_of(Version::One, 3, 2, &[(1, 1), (6, 1)]);
+        changes.iter().for_each(|&(place, byte)| file[place] = byte);
+        file
+    };
+    changes.iter().map(with).collect()
+}
+
 impl Run {
     /// Each fixed file with outputs around the needed lengths and with longer ones, and the first two cut at every byte.
     pub(super) fn fixed_mendings(&mut self) -> Result<(), Difference> {
@@ -82,6 +103,11 @@ impl Run {
                     self.mend(&file[..length], [out, report + 3, ANSWER_PLACES])?;
                 }
                 self.mend(&[&file[..], &[0]].concat(), [out, report + 3, ANSWER_PLACES])?;
+            }
+        }
+        for file in refused_heads() {
+            for length in [0, 24] {
+                self.mend(&file, [length, length, ANSWER_PLACES])?;
             }
         }
         Ok(())
