@@ -4,7 +4,6 @@ use mathlib.Core.Path.{_≡_, refl, sym, ap, ap₂, subst, _∙_}
 use mathlib.Core.Bool.{Bool, true, false}
 use mathlib.Core.List.{List, _++_}
 use native.Mathlib.Omega.{arith}
-use lib.Dec.{T}
 use lib.ListN.{length, drop, length-append}
 use lib.Seq.{drop-drop}
 use borrow.Author.Tests.{eqb-true, eqb-false}
@@ -17,14 +16,13 @@ use Rattle.call_refusals.specs.declared.Stage.the-variants.{Open, Closed}
 use Rattle.panel.specs.declared.AloneAnswer.{AloneAnswer}
 use Rattle.panel.specs.Panel
 use Rattle.panel.specs.Panel.{firstOf, mergedBy}
-use Rattle.panel.specs.Rules
 use Rattle.panel.specs.Rules.{PanelRule}
 use Rattle.panel.proofs.Merged.{known, merged-rule}
 use Rattle.board.specs.declared.Board.{Board}
 use Rattle.board.specs.declared.Merged.{Merged}
 use Rattle.board.specs.declared.Alone.{Alone}
 use Rattle.board.specs.Board.{linesOf, quantitiesOf, sound, stateRefusal, noSets, noQuantities, emptyBoard}
-use Rattle.board.specs.Panel.{statesRefusal, mergeRefusal, panelOf, merged, mergeOf, MergeRule, aloneOf, aloneBuffer, AloneRule}
+use Rattle.board.specs.Panel.{statesRefusal, mergeRefusal, panelOf, merged, mergeOf, MergeRule, aloneOf, aloneBuffer}
 use Rattle.board.proofs.Sets.{no-sets, no-quantities, Full, same-size, ReadyBoard, ready, given, state-free, lines-count}
 use Rattle.board.proofs.JobFileRule.{front, rest, filled, after}
 

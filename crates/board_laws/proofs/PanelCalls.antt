@@ -1,34 +1,27 @@
 -- A panel's answers beside those of its two boards: the off count that common tip tells, and the pairs of best sharing where it accepts all three.
 use Prim.Native.Nat.{ℕ, _+_, _-_, _≤_}
 use mathlib.Core.Path.{_≡_, refl, sym, ap, subst}
-use mathlib.Core.List.{List}
-use native.Mathlib.Omega.{arith}
-use lib.ListN.{length}
 use Rattle.model.specs.Choice.{Mounted, bare}
 use Rattle.model.specs.CommonTip.{top}
 use Rattle.model.specs.Interval.{C}
 use Rattle.placements.specs.Repeated.{total, repeated}
-use Rattle.placements.specs.Good.{GoodLines}
 use Rattle.placements.specs.Keep.{LeastOffQ}
 use Rattle.placements.specs.Plans.{bestPlanQ}
 use Rattle.placements.proofs.CommonTip.{least-off-placements}
 use Rattle.placements.proofs.Plans.{best-valid-lines, best-pairs-placements, best-placements}
-use Rattle.refusal.specs.declared.Refusal.{Refusal}
-use Rattle.refusal.specs.Refusal.{none}
-use Rattle.refusal.proofs.Laws.{number-of, or-none, accepted}
+use Rattle.refusal.proofs.Laws.{accepted}
 use Rattle.call_refusals.specs.declared.Stage.the-variants.{Closed}
 use Rattle.call_refusals.specs.Calls.{bestRefusal}
 use Rattle.call_refusals.proofs.Calls.{mounted-none, best-none}
 use Rattle.line_calls.specs.Lines
 use Rattle.panel.specs.Rules.{MostPairs}
-use Rattle.panel.proofs.Merged.{known}
 use Rattle.board.specs.declared.Board.{Board}
 use Rattle.board.specs.Board.{linesOf, quantitiesOf, stateRefusal}
 use Rattle.board.specs.Common.{commonOf}
 use Rattle.board.specs.Sharing.{mountedRefusal, bestOf}
 use Rattle.board.specs.Panel.{mergeOf}
 use Rattle.board.proofs.Sets.{Full, given}
-use Rattle.board.proofs.PanelRule.{merge-rule, merge-free, full-panel, panel-state, states-free}
+use Rattle.board.proofs.PanelRule.{merge-rule, full-panel, panel-state, states-free}
 
 module _ (b : Board) (full : Full b) where
   -- the off count of a board whose state does not refuse is the least

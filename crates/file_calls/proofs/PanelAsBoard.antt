@@ -7,7 +7,6 @@ use Rattle.refusal.specs.declared.Refusal.{Refusal}
 use Rattle.refusal.specs.Refusal.{none}
 use Rattle.refusal.proofs.Laws.{refused, accepted}
 use Rattle.call_refusals.specs.declared.Stage.the-variants.{Closed}
-use Rattle.line_calls.specs.declared.FileAnswer.{FileAnswer}
 use Rattle.line_calls.specs.Lines
 use Rattle.line_calls.proofs.JobFile.{write-stopped}
 use Rattle.panel.specs.Panel
@@ -21,7 +20,7 @@ use Rattle.board.specs.Board.{linesOf, quantitiesOf, stateRefusal, answer, empt
 use Rattle.board.specs.JobFile.{readOf, writeOf, writeBuffer}
 use Rattle.board.specs.Panel.{mergeRefusal, panelOf, merged, mergeOf, aloneOf, aloneBuffer}
 use Rattle.board.proofs.Sets.{Full}
-use Rattle.board.proofs.PanelRule.{merge-rule, merge-free, panel-is, panel-state}
+use Rattle.board.proofs.PanelRule.{merge-rule, merge-free, panel-state}
 use Rattle.job.specs.Job.{rackIn, setsIn, quantitiesIn, readRefusal}
 use Rattle.file_calls.specs.declared.Outcome.{Outcome}
 use Rattle.file_calls.specs.Panel.{fileOutcome, mergeIn, mergeFileIn, aloneOutcome, aloneIn, alonePlanIn}

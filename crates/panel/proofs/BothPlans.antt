@@ -1,9 +1,9 @@
 -- Each of two boards planned alone: what is answered and left, refused and accepted, and the half rule of each plan where it stands.
 use Prim.Native.Nat.{ℕ, _+_, _-_, _≤_}
-use mathlib.Core.Path.{_≡_, refl, sym, ap, subst, _∙_}
+use mathlib.Core.Path.{_≡_, refl, sym, ap, _∙_}
 use mathlib.Core.List.{List, _++_, append-assoc, append-nil}
 use native.Mathlib.Omega.{arith}
-use lib.ListN.{length, take, drop, length-append, length-drop, drop-of-length-le}
+use lib.ListN.{length, take, drop, length-drop, drop-of-length-le}
 use lib.Seq.{length-take-le, drop-drop, take-at, drop-at}
 use borrow.Author.Tests.{eq-eqb, le-ltb}
 use Rattle.model.specs.Choice.{bare}
@@ -18,7 +18,7 @@ use Rattle.call_refusals.specs.Calls.{planRefusal}
 use Rattle.call_refusals.proofs.Calls.{plan-none}
 use Rattle.line_calls.specs.declared.PlanAnswer.{PlanAnswer}
 use Rattle.line_calls.specs.Lines.{quickOf, quickBuffer}
-use Rattle.line_calls.specs.Rules.{HandedOut, HalfRule}
+use Rattle.line_calls.specs.Rules.{HalfRule}
 use Rattle.panel.specs.declared.AloneAnswer.{AloneAnswer}
 use Rattle.panel.specs.Panel.{aloneRefusal, alonePlan, aloneOf, aloneBuffer}
 use Rattle.panel.specs.Rules.{AloneRule}

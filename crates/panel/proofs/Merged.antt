@@ -1,7 +1,7 @@
 -- Merging lines: what is refused and what is not, and what is left in the places that are lent.
 use Prim.Native.Nat.{ℕ, _+_, _-_, _≤_, _<_}
 use mathlib.Core.Path.{_≡_, refl, sym, ap, _∙_}
-use mathlib.Core.Bool.{not, cond}
+use mathlib.Core.Bool.{not}
 use mathlib.Core.List.{List, _++_, append-assoc, append-nil}
 use native.Mathlib.Omega.{arith}
 use lib.Dec.{eqb, ltb}

@@ -1,12 +1,11 @@
 -- The lines of two boards on one panel: occurrences add, and the off count and the best pairs are at least the sums.
-use Prim.Native.Nat.{ℕ, _+_, _-_, _≤_}
+use Prim.Native.Nat.{ℕ, _+_, _≤_}
 use native.Mathlib.Omega.{arith}
-use native.Mathlib.Nat.{le-trans}
 use mathlib.Core.Path.{_≡_, refl, sym, ap, _∙_}
 use mathlib.Core.List.{List, _++_}
 use lib.ListN.{length, length-append}
 use Rattle.model.specs.Count.{largest}
-use Rattle.model.specs.Plan.{has, occ, Valid, pairs}
+use Rattle.model.specs.Plan.{has, occ, pairs}
 use Rattle.model.specs.CommonTip.{top}
 use Rattle.model.specs.Limits.{mostLines, mostPlacements}
 use Rattle.model.proofs.Mix.{count-mix}

@@ -1,10 +1,9 @@
 use Prim.Native.Nat.{_+_, _≤_}
 use native.Mathlib.Omega.{arith}
-use mathlib.Core.Path.{_≡_, refl, sym, _∙_}
+use mathlib.Core.Path.{_≡_, sym}
 use lib.ListN.{length, take}
 use lib.Seq.{length-take-le}
-use Rattle.refusal.proofs.Laws.{number-of, or-first, later}
-use Rattle.call_refusals.specs.Calls.{planRefusal}
+use Rattle.refusal.proofs.Laws.{number-of, later}
 use Rattle.call_refusals.proofs.Calls.{plan-none}
 use Rattle.panel.proofs.BothPlans.{alone-stopped, alone-counts, alone-refused, alone-accepted}
 use borrow.Author.Needs.{needs}
