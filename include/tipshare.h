@@ -39,9 +39,10 @@
  * 26 carries its margin in answer[1].
  *
  * Where several refusals apply, the first in this order is given: 100, then
- * 6, 7, 8, 1, 9, 10, then 2, 3 or 15 of the first bad line, then 30, then those
- * of the call in the order named with it. tipshare_order takes no file: there
- * it is 100, 101, 12, 13, 14, 29.
+ * 6, 7, 8, 1, 9, 10, then 2, 3 or 15 of the first bad line, then 30, of two
+ * files all of the first and then all of the second, then those of the call in
+ * the order named with it. tipshare_order takes no file: there it is 100, 101, 12,
+ * 13, 14, 29.
  *
  *   No.  What is wrong                         What to do
  *   ---  ------------------------------------  --------------------------------
@@ -113,7 +114,7 @@ extern "C" {
 #endif
 
 #define TIPSHARE_MOST_TIPS 64         /* the largest rack size */
-#define TIPSHARE_MOST_LINES 512       /* the most lines, and a plan that always does */
+#define TIPSHARE_MOST_LINES 512       /* the most lines, and a plan that always does; for two boards alone twice that */
 #define TIPSHARE_MOST_QUANTITY 255    /* the most placements of one line */
 #define TIPSHARE_MOST_PLACEMENTS 2048 /* the most placements of all lines together */
 #define TIPSHARE_MOST_PAIRS 2096128   /* the most pairs: all placements on one tip */

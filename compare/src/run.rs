@@ -113,6 +113,7 @@ impl Run {
     /// Every buffer length and every kind of damage on a good file, and seeded lengths on a bad one.
     pub fn one_file(&mut self, file: &[u8]) -> Result<(), Difference> {
         let job = read(file);
+        self.each_mending(file)?;
         if job.number == 0 {
             (0..TURNS).try_for_each(|turn| self.fixed_file(&job.board, file, turn))
         } else {

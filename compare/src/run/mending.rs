@@ -86,15 +86,9 @@ impl Run {
     /// Each fixed file with outputs around the needed lengths and with longer ones, and the first two cut at every byte.
     pub(super) fn fixed_mendings(&mut self) -> Result<(), Difference> {
         for (number, file) in fixed_files().iter().enumerate() {
-            let [out, report] = needed(file);
-            for (out, report) in [(out, report), (out + 50, report + 50), (out - 1, report)] {
-                self.mend(file, [out, report, ANSWER_PLACES])?;
-            }
-            if report > 0 {
-                self.mend(file, [out, report - 1, ANSWER_PLACES])?;
-                self.mend(file, [out - 1, report - 1, ANSWER_PLACES])?;
-            }
+            self.each_mending(file)?;
             if number < 2 {
+                let [out, report] = needed(file);
                 for answer in 0..=5 {
                     self.mend(file, [out, report, answer])?;
                 }
@@ -105,10 +99,20 @@ impl Run {
                 self.mend(&[&file[..], &[0]].concat(), [out, report + 3, ANSWER_PLACES])?;
             }
         }
-        for file in refused_heads() {
-            for length in [0, 24] {
-                self.mend(&file, [length, length, ANSWER_PLACES])?;
-            }
+        refused_heads().iter().try_for_each(|file| self.each_mending(file))
+    }
+
+    /// Any file with outputs of the needed lengths, longer ones, and with one byte less for the file or the report.
+    pub(super) fn each_mending(&mut self, file: &[u8]) -> Result<(), Difference> {
+        let [out, report] = needed(file);
+        self.mend(file, [out, report, ANSWER_PLACES])?;
+        self.mend(file, [out + 50, report + 50, ANSWER_PLACES])?;
+        if out > 0 {
+            self.mend(file, [out - 1, report, ANSWER_PLACES])?;
+        }
+        if report > 0 {
+            self.mend(file, [out, report - 1, ANSWER_PLACES])?;
+            self.mend(file, [out - 1, report - 1, ANSWER_PLACES])?;
         }
         Ok(())
     }
