@@ -10,6 +10,7 @@
 #include "libraries.h"
 
 #include "job.h"
+#include "mend.h"
 #include "order.h"
 #include "panel.h"
 
@@ -541,6 +542,19 @@ uint32_t baseline_alone(const uint8_t *first, size_t first_len, const uint8_t *s
         const uint32_t other_pairs = quick_of(of_second, two, TIPSHARE_NO_TIP, plan + one.count);
         return answered(answer, TIPSHARE_ACCEPTED, 0, pairs, other_pairs, 0);
     });
+}
+
+uint32_t baseline_mend(const uint8_t *file, size_t file_len, uint8_t *out, size_t out_len, uint8_t *report,
+                       size_t report_len, uint64_t *answer, size_t answer_len)
+{
+    if (answer_len < TIPSHARE_ANSWER_PLACES) {
+        return TIPSHARE_SHORT_ANSWER;
+    }
+    const Job job = read_form(file, file_len);
+    if (job.number != TIPSHARE_ACCEPTED) {
+        return refused(answer, job.number);
+    }
+    return answer_mend(file, file_len, job, {out, out_len, report, report_len}, answer);
 }
 
 uint32_t baseline_order(const uint32_t *parts, size_t parts_len, const uint32_t *rules, size_t rules_len,

@@ -36,21 +36,24 @@ struct Library {
     decltype(&tipshare_check) check;
     decltype(&tipshare_merge) merge;
     decltype(&tipshare_alone) alone;
+    decltype(&tipshare_mend) mend;
     decltype(&tipshare_order) order;
     decltype(&tipshare_report) report;
 };
 
 const Library kLibraries[] = {
     {"tipshare", "proved", tipshare_read, tipshare_common, tipshare_keep, tipshare_goal, tipshare_quick,
-     tipshare_best, tipshare_check, tipshare_merge, tipshare_alone, tipshare_order, tipshare_report},
+     tipshare_best, tipshare_check, tipshare_merge, tipshare_alone, tipshare_mend,
+     tipshare_order, tipshare_report},
     {"baseline", "same steps", baseline_read, baseline_common, baseline_keep, baseline_goal, baseline_quick,
-     baseline_best, baseline_check, baseline_merge, baseline_alone, baseline_order, baseline_report},
+     baseline_best, baseline_check, baseline_merge, baseline_alone, baseline_mend,
+     baseline_order, baseline_report},
     {"tuned", "tuned", tuned_read, tuned_common, tuned_keep, tuned_goal, tuned_quick, tuned_best, tuned_check,
-     tuned_merge, tuned_alone, tuned_order, tuned_report},
+     tuned_merge, tuned_alone, tuned_mend, tuned_order, tuned_report},
 };
 constexpr size_t kNumber = std::size(kLibraries);
 
-enum class Call { read, common, keep, goal, quick, best, check, merge, alone, order, report };
+enum class Call { read, common, keep, goal, quick, best, check, merge, alone, mend, order, report };
 
 struct NamedCall {
     Call call;
@@ -60,13 +63,14 @@ struct NamedCall {
 const NamedCall kCalls[] = {{Call::read, "read"},   {Call::common, "common"}, {Call::keep, "keep"},
                             {Call::goal, "goal"},   {Call::quick, "quick"},   {Call::best, "best"},
                             {Call::check, "check"}, {Call::merge, "merge"},   {Call::alone, "alone"},
-                            {Call::order, "order"}, {Call::report, "report"}};
+                            {Call::mend, "mend"},   {Call::order, "order"},   {Call::report, "report"}};
 
 /* What a call can write to, lent at the lengths that always do. */
 struct Buffers {
     alignas(64) uint8_t plan[TIPSHARE_MOST_LINES];
     alignas(64) uint32_t table[TIPSHARE_MOST_PLACES];
     alignas(64) uint8_t out[TIPSHARE_REPORT_SPACE];
+    alignas(64) uint8_t changes[TIPSHARE_LONGEST_CHANGES];
     alignas(64) uint8_t order[TIPSHARE_MOST_PARTS];
     alignas(64) uint64_t answer[TIPSHARE_ANSWER_PLACES];
 
@@ -83,8 +87,8 @@ struct Buffers {
     bool equals(const Buffers &other) const
     {
         return memcmp(plan, other.plan, sizeof plan) == 0 && memcmp(table, other.table, sizeof table) == 0 &&
-               memcmp(out, other.out, sizeof out) == 0 && memcmp(order, other.order, sizeof order) == 0 &&
-               memcmp(answer, other.answer, sizeof answer) == 0;
+               memcmp(out, other.out, sizeof out) == 0 && memcmp(changes, other.changes, sizeof changes) == 0 &&
+               memcmp(order, other.order, sizeof order) == 0 && memcmp(answer, other.answer, sizeof answer) == 0;
     }
 };
 
@@ -114,6 +118,9 @@ uint64_t make_call(const Library &library, Call call, const File &file, Buffers 
     case Call::alone:
         return library.alone(file.halves[0].data(), file.halves[0].size(), file.halves[1].data(), file.halves[1].size(),
                              lent.plan, sizeof lent.plan, lent.answer, places);
+    case Call::mend:
+        return library.mend(file.damaged.data(), file.damaged.size(), lent.out, job::kLongestFile, lent.changes,
+                            sizeof lent.changes, lent.answer, places);
     case Call::order:
         return library.order(file.parts.data(), file.parts.size(), file.rules.data(), file.rules.size(), lent.order,
                              sizeof lent.order, lent.answer, places);
@@ -507,7 +514,8 @@ const char kUsage[] =
     "bench [--rounds N] [--json] [--call CALL] [--board BOARD]   time the calls and print tables\n"
     "bench --callgrind CALL BOARD LIBRARY [TIMES]                make one call only, and print how often it was made\n"
     "bench --list                                                the calls and boards\n"
-    "CALL: read, common, keep, goal, quick, best, check, merge, alone, order, report. LIBRARY: tipshare, baseline, tuned.\n"
+    "CALL: read, common, keep, goal, quick, best, check, merge, alone, mend, order, report.\n"
+    "LIBRARY: tipshare, baseline, tuned.\n"
     "With --board the tables of growth are left out.\n";
 
 int usage()

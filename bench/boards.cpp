@@ -124,7 +124,7 @@ File file_of(const std::vector<uint64_t> &sets, size_t rack, Quantities quantiti
     } else {
         bytes.resize(job::write_file(bytes.data(), rack, sets.data(), job::Single{}, sets.size()));
     }
-    return {std::move(bytes), least_bound(sets, quantities), TIPSHARE_NO_TIP, {}, 0, {}, {}};
+    return {std::move(bytes), least_bound(sets, quantities), TIPSHARE_NO_TIP, {}, 0, {}, {}, {}};
 }
 
 /* Puts the best plan of the file's board into it, with its pairs and its table. */
@@ -153,6 +153,26 @@ void put_halves(File &file)
         to[6] = static_cast<uint8_t>(here >> 8);
         to[7] = static_cast<uint8_t>(here);
     }
+}
+
+/* Puts the file with every 16th line damaged and a byte behind it: in turn no tip, a tip outside the rack, quantity 0. */
+void put_damaged(File &file)
+{
+    file.damaged = file.bytes;
+    const size_t step = job::kSet + file.bytes[4] - 1;
+    const size_t rack = file.bytes[5];
+    size_t turn = 0;
+    for (size_t at = job::kHead; at < file.damaged.size(); at += 16 * step, turn++) {
+        const auto set = file.damaged.begin() + static_cast<ptrdiff_t>(at);
+        if (turn % 3 == 0) {
+            std::fill(set, set + job::kSet, uint8_t{0});
+        } else if (turn % 3 == 1 && rack < 64) {
+            set[0] |= 0x80;
+        } else if (step > job::kSet) {
+            set[job::kSet] = 0;
+        }
+    }
+    file.damaged.push_back(0);
 }
 
 /* The set with each tip so many times as high. */
@@ -184,6 +204,7 @@ Boards boards_of(std::string name, std::string description, size_t lines, size_t
         boards.files.push_back(file_of(sets, rack, quantities_of, random));
     }
     std::for_each(boards.files.begin(), boards.files.end(), put_halves);
+    std::for_each(boards.files.begin(), boards.files.end(), put_damaged);
     if (boards.runs) {
         std::for_each(boards.files.begin(), boards.files.end(), put_plan);
     }

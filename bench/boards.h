@@ -8,8 +8,9 @@
 
 /*
  * A job file, with the bound that keep is called with, the least that is accepted, so that it strikes tips, the tip that
- * is mounted for the plans, the best plan with its pairs, which are the goal too, and its table, which is checked, and
- * the lines in two files, the first half of them and the second, for two boards on one panel.
+ * is mounted for the plans, the best plan with its pairs, which are the goal too, and its table, which is checked, the
+ * lines in two files, the first half of them and the second, for two boards on one panel, and the file with some lines
+ * damaged, to be mended.
  */
 struct File {
     std::vector<uint8_t> bytes;
@@ -22,6 +23,7 @@ struct File {
     std::vector<uint32_t> parts = {};
     std::vector<uint32_t> rules = {};
     std::vector<uint8_t> halves[2] = {};
+    std::vector<uint8_t> damaged = {};
 };
 
 /* Many boards of one description: of a few, the processor soon foresees every branch, which it cannot of a new one. */

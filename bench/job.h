@@ -67,8 +67,8 @@ inline uint64_t outside(size_t rack) { return rack == 64 ? 0 : ~uint64_t{0} << r
 
 inline uint32_t pairs_on(uint32_t placements) { return placements * (placements - 1) / 2; }
 
-/* Checks the length and the first 8 bytes. */
-inline Job read_head(const uint8_t *file, size_t length)
+/* Checks mark, version and rack size; the number of lines is the one found. */
+inline Job read_form(const uint8_t *file, size_t length)
 {
     if (length < kHead) {
         return not_read(TIPSHARE_SHORT_FILE);
@@ -85,14 +85,23 @@ inline Job read_head(const uint8_t *file, size_t length)
         return not_read(TIPSHARE_RACK_SIZE);
     }
     const size_t count = size_t{file[6]} << 8 | file[7];
-    if (count > kMostLines) {
+    return {TIPSHARE_ACCEPTED, 0, rack, count, kSet + version - 1, static_cast<uint32_t>(count)};
+}
+
+/* Checks the length and the first 8 bytes. */
+inline Job read_head(const uint8_t *file, size_t length)
+{
+    const Job job = read_form(file, length);
+    if (job.number != TIPSHARE_ACCEPTED) {
+        return job;
+    }
+    if (job.count > kMostLines) {
         return not_read(TIPSHARE_FILE_LINES);
     }
-    const size_t step = kSet + version - 1;
-    if (length != length_of(count, step)) {
+    if (length != length_of(job.count, job.step)) {
         return not_read(TIPSHARE_FILE_LENGTH);
     }
-    return {TIPSHARE_ACCEPTED, 0, rack, count, step, static_cast<uint32_t>(count)};
+    return job;
 }
 
 inline uint32_t quantity_at(const uint8_t *at, const Job &job) { return job.step == kSet ? 1 : at[kSet]; }

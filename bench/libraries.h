@@ -13,6 +13,7 @@ decltype(tipshare_best) baseline_best, tuned_best;
 decltype(tipshare_check) baseline_check, tuned_check;
 decltype(tipshare_merge) baseline_merge, tuned_merge;
 decltype(tipshare_alone) baseline_alone, tuned_alone;
+decltype(tipshare_mend) baseline_mend, tuned_mend;
 decltype(tipshare_order) baseline_order, tuned_order;
 decltype(tipshare_report) baseline_report, tuned_report;
 }

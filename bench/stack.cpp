@@ -57,6 +57,16 @@ static void alone_it()
 {
     tipshare_alone(file, length, half, half_length, plan, sizeof plan, answer, TIPSHARE_ANSWER_PLACES);
 }
+/* The file as it is, and with another rack size and a byte less, so that much of it changes. */
+static void mend_it()
+{
+    static uint8_t changes[TIPSHARE_LONGEST_CHANGES];
+    tipshare_mend(file, length, out, sizeof out, changes, sizeof changes, answer, TIPSHARE_ANSWER_PLACES);
+    const uint8_t rack = file[5];
+    file[5] = (uint8_t)(1 + rand() % rack);
+    tipshare_mend(file, length - 1, out, sizeof out, changes, sizeof changes, answer, TIPSHARE_ANSWER_PLACES);
+    file[5] = rack;
+}
 /* As many parts and rules as are measured, of which many have no order. */
 static uint32_t parts[TIPSHARE_PART_PLACES * TIPSHARE_MOST_PARTS];
 static uint32_t rules[TIPSHARE_RULE_PLACES * 1000];
@@ -87,7 +97,7 @@ static const struct {
 } calls[] = {{"tipshare_read", read_it},   {"tipshare_common", common_it}, {"tipshare_keep", keep_it},
              {"tipshare_goal", goal_it},   {"tipshare_quick", quick_it},   {"tipshare_best", best_it},
              {"tipshare_check", check_it}, {"tipshare_merge", merge_it},   {"tipshare_alone", alone_it},
-             {"tipshare_order", order_it}, {"tipshare_report", report_it}};
+             {"tipshare_mend", mend_it},   {"tipshare_order", order_it},   {"tipshare_report", report_it}};
 enum { CALLS = sizeof calls / sizeof calls[0] };
 
 static __attribute__((noinline)) void paint()

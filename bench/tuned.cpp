@@ -13,6 +13,7 @@
 #include <emmintrin.h>
 
 #include "job.h"
+#include "mend.h"
 #include "order.h"
 #include "panel.h"
 
@@ -1090,6 +1091,30 @@ uint32_t tuned_alone(const uint8_t *first, size_t first_len, const uint8_t *seco
         const uint32_t other_pairs = quick_of(of_second, two, TIPSHARE_NO_TIP, plan + one.count);
         return answered(answer, TIPSHARE_ACCEPTED, 0, pairs, other_pairs, 0);
     });
+}
+
+uint32_t tuned_mend(const uint8_t *file, size_t file_len, uint8_t *out, size_t out_len, uint8_t *report,
+                    size_t report_len, uint64_t *answer, size_t answer_len)
+{
+    if (answer_len < TIPSHARE_ANSWER_PLACES) {
+        return TIPSHARE_SHORT_ANSWER;
+    }
+    // A good file is written as it is, and nothing is told of it.
+    if (out_len >= file_len && check(file, file_len).number == TIPSHARE_ACCEPTED) {
+        memcpy(out, file, file_len);
+        return answered(answer, TIPSHARE_ACCEPTED, 0, file_len, 0, 0);
+    }
+    const Job job = read_form(file, file_len);
+    if (job.number != TIPSHARE_ACCEPTED) {
+        return refused(answer, job.number);
+    }
+    const Mend mend{out, out_len, report, report_len};
+    const size_t lines = lines_read(job, file_len);
+    // Two changes a line: one with three comes after nine with one at most, which hold the 2,048 placements.
+    if (out_len >= length_of(lines, job.step) && report_len >= kChange * (2 * lines + 2)) {
+        return write_mended(file, file_len, job, lines, mend, answer);
+    }
+    return answer_mend(file, file_len, job, mend, answer);
 }
 
 uint32_t tuned_order(const uint32_t *parts, size_t parts_len, const uint32_t *rules, size_t rules_len,

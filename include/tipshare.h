@@ -39,9 +39,10 @@
  * 26 carries its margin in answer[1].
  *
  * Where several refusals apply, the first in this order is given: 100, then
- * 6, 7, 8, 1, 9, 10, then 2, 3 or 15 of the first bad line, then 30, then those
- * of the call in the order named with it. tipshare_order takes no file: there
- * it is 100, 101, 12, 13, 14, 29.
+ * 6, 7, 8, 1, 9, 10, then 2, 3 or 15 of the first bad line, then 30, of two
+ * files all of the first and then all of the second, then those of the call in
+ * the order named with it. tipshare_order takes no file: there it is 100, 101, 12,
+ * 13, 14, 29.
  *
  *   No.  What is wrong                         What to do
  *   ---  ------------------------------------  --------------------------------
@@ -59,8 +60,9 @@
  *     9  the file names more than 512 lines    split the parts list
  *    10  the length is not 8 + 8 * n bytes     hand over the whole file and no
  *        (version 1) or 8 + 9 * n (version 2)  more, or correct n
- *    11  out is shorter than the file that is  lend 8 + 9 * n; 4616 always do
- *        to be written
+ *    11  out is shorter than the file that is  lend 8 + 9 * n; 4616 always do,
+ *        to be written, or report than the     3081 for the report
+ *        changes that tipshare_mend tells
  *    12  there are over 128 parts, or the      split the parts, or give part
  *        first position of part answer[0] is   answer[0] positions from 0 to
  *        after its last, or its last is not    n - 1, the first not after the
@@ -112,18 +114,29 @@ extern "C" {
 #endif
 
 #define TIPSHARE_MOST_TIPS 64         /* the largest rack size */
-#define TIPSHARE_MOST_LINES 512       /* the most lines, and a plan that always does */
+#define TIPSHARE_MOST_LINES 512       /* the most lines, and a plan that always does; for two boards alone twice that */
 #define TIPSHARE_MOST_QUANTITY 255    /* the most placements of one line */
 #define TIPSHARE_MOST_PLACEMENTS 2048 /* the most placements of all lines together */
 #define TIPSHARE_MOST_PAIRS 2096128   /* the most pairs: all placements on one tip */
 #define TIPSHARE_MOST_PLACES 4096     /* a table that always does */
 #define TIPSHARE_LONGEST_FILE 4616    /* the longest good job file, in bytes, and an out that always does */
+#define TIPSHARE_CHANGE 3             /* the bytes of a change that a mending tells */
+#define TIPSHARE_LONGEST_CHANGES 3081 /* the longest report of a mending, in bytes, and a report that always does */
 #define TIPSHARE_ANSWER_PLACES 4      /* the places of an answer */
 #define TIPSHARE_REPORT_SPACE 16384   /* the bytes that a report needs lent */
 #define TIPSHARE_NO_TIP SIZE_MAX      /* no tip is mounted */
 #define TIPSHARE_MOST_PARTS 128       /* the most parts to order, and an order that always does */
 #define TIPSHARE_PART_PLACES 4        /* the numbers of a part */
 #define TIPSHARE_RULE_PLACES 2        /* the numbers of a rule */
+
+/* What a mending tells of a line, and of the file under line TIPSHARE_WHOLE_FILE. */
+#define TIPSHARE_TIPS_CLEARED 1
+#define TIPSHARE_DROPPED_AS_EMPTY 2
+#define TIPSHARE_QUANTITY_RAISED 3
+#define TIPSHARE_DROPPED_FOR_TOTAL 4
+#define TIPSHARE_COUNT_CHANGED 5
+#define TIPSHARE_BYTES_BEHIND 6
+#define TIPSHARE_WHOLE_FILE 65535
 
 #define TIPSHARE_ACCEPTED 0
 #define TIPSHARE_RACK_SIZE 1
@@ -321,6 +334,36 @@ uint32_t tipshare_alone(const uint8_t *first, size_t first_len,
                         const uint8_t *second, size_t second_len,
                         uint8_t *plan, size_t plan_len,
                         uint64_t *answer, size_t answer_len);
+
+/*
+ * Mends a job file that came back damaged, and tells each change. It takes a
+ * file whose first 8 bytes name mark, version and rack size well; the rest may
+ * be anything. Read are as many whole lines as the first 8 bytes say, the file
+ * holds and 512 allows, whichever is least. Of each line the tips outside the
+ * rack are cleared; a line left without a tip is dropped; on any other a
+ * quantity of 0 becomes 1; the first line that would bring the placements past
+ * 2048 is dropped, and so are all after it. What is left is written as a file of
+ * the same version, which every function takes. A file that is good comes back
+ * as it is, with no change told, and mending a mended file changes nothing.
+ * The report has 3 bytes a change: the number of the line in the file handed
+ * in, 16 bits, big-endian, and 1 (tips cleared), 2 (dropped as empty), 3
+ * (quantity raised) or 4 (dropped for the total), by rising line and then
+ * rising number; lines after the first 4 get 4 alone. At the end, under line
+ * 65535, stand 5 where the number of lines written is not the one found, and 6
+ * where bytes followed the last line read, or the first 8 where none was read.
+ * file: file_len bytes, any number. out: at least as many bytes as the mended
+ * file has, never more than file_len. report: at least 3 bytes a change.
+ * answer: at least 4 places.
+ * Accepted: the first bytes of out are the mended file, those of report the
+ * changes, the rest of both is untouched; answer is 0, the bytes of the file,
+ * the bytes of the report, 0.
+ * Refused (6, 7, 8, 1, then 11): out and report are untouched; answer is 0, 0,
+ * 0, 0.
+ */
+uint32_t tipshare_mend(const uint8_t *file, size_t file_len,
+                       uint8_t *out, size_t out_len,
+                       uint8_t *report, size_t report_len,
+                       uint64_t *answer, size_t answer_len);
 
 /*
  * Finds the order in which parts are placed: each part has a first and a last

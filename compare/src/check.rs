@@ -22,12 +22,13 @@ pub enum Call {
     Check { claim: u32, plan: usize, table: usize, answer: usize },
     Merge { out: usize, answer: usize },
     Alone { plan: usize, answer: usize },
+    Mend { out: usize, report: usize, answer: usize },
     Report { out: usize },
 }
 
 /// The names of the calls, in the order of their columns.
-pub const CALL_NAMES: [&str; 10] =
-    ["read", "common", "keep", "goal", "quick", "best", "check", "merge", "alone", "report"];
+pub const CALL_NAMES: [&str; 11] =
+    ["read", "common", "keep", "goal", "quick", "best", "check", "merge", "alone", "mend", "report"];
 
 impl Call {
     /// Where the call stands among the names.
@@ -42,7 +43,8 @@ impl Call {
             Call::Check { .. } => 6,
             Call::Merge { .. } => 7,
             Call::Alone { .. } => 8,
-            Call::Report { .. } => 9,
+            Call::Mend { .. } => 9,
+            Call::Report { .. } => 10,
         }
     }
 }
@@ -94,7 +96,7 @@ pub struct Buffers {
     pub(crate) bytes: Lent<u8>,
     pub(crate) table: Lent<u32>,
     pub(crate) answer: Lent<u64>,
-    /// The file of the second board.
+    /// The file of the second board, or the report of a mending.
     pub(crate) other: Lent<u8>,
 }
 
@@ -110,7 +112,12 @@ impl Buffers {
             Call::Best { plan, table, answer, .. } | Call::Check { plan, table, answer, .. } => (plan, table, answer),
             Call::Merge { out, answer } => (out, 0, answer),
             Call::Alone { plan, answer } => (plan, 0, answer),
+            Call::Mend { out, answer, .. } => (out, 0, answer),
             Call::Report { out } => (out, 0, 0),
+        };
+        let other = match *call {
+            Call::Mend { report, .. } => report,
+            _ => given.other.len(),
         };
         let mut random = Random::new(junk);
         let mut buffers = Buffers {
@@ -118,10 +125,10 @@ impl Buffers {
             bytes: Lent::junk(&mut random, bytes, u64::to_le_bytes),
             table: Lent::junk(&mut random, table, |number| [number as u32, (number >> 32) as u32]),
             answer: Lent::junk(&mut random, answer, |number| [number]),
-            other: Lent::junk(&mut random, given.other.len(), u64::to_le_bytes),
+            other: Lent::junk(&mut random, other, u64::to_le_bytes),
         };
         buffers.file.inside().copy_from_slice(file);
-        buffers.other.inside().copy_from_slice(given.other);
+        buffers.other.begin_with(given.other);
         buffers.bytes.begin_with(given.plan);
         buffers.table.begin_with(given.table);
         buffers
@@ -144,6 +151,7 @@ macro_rules! made_by {
             Call::Check { claim, .. } => $module::check(file, bytes, claim, table, answer).into(),
             Call::Merge { .. } => $module::merge(file, other, bytes, answer).into(),
             Call::Alone { .. } => $module::alone(file, other, bytes, answer).into(),
+            Call::Mend { .. } => $module::mend(file, bytes, other, answer).into(),
             Call::Report { .. } => $module::report(file, bytes) as u64,
         }
     }};
@@ -213,7 +221,7 @@ pub fn compare(library: Caller, file: &[u8], call: &Call, given: Given, junk: u6
         what += &first_difference("answer", &of_library.answer, &of_second.answer);
         what += &first_difference("plan or output", &of_library.bytes, &of_second.bytes);
         what += &first_difference("table", &of_library.table, &of_second.table);
-        what += &first_difference("second file", &of_library.other, &of_second.other);
+        what += &first_difference("second file or report", &of_library.other, &of_second.other);
         if let Call::Check { .. } = call {
             what += &format!("\nplan handed over {:?}\ntable handed over {:?}", given.plan, given.table);
         }

@@ -24,7 +24,7 @@ fn put_version(file: &mut [u8], version: u16) {
     file[AT_VERSION].copy_from_slice(&version.to_be_bytes());
 }
 
-fn put_count(file: &mut [u8], count: usize) {
+pub(crate) fn put_count(file: &mut [u8], count: usize) {
     file[AT_COUNT].copy_from_slice(&(count as u16).to_be_bytes());
 }
 

@@ -6,7 +6,7 @@ use std::time::Instant;
 use std::{env, fs};
 
 use compare::check::Difference;
-use compare::mistakes::mistakes;
+use compare::mistakes::{mistakes, mistakes_of_panels_and_mendings};
 use compare::order_mistakes::order_mistakes;
 use compare::orders::Orders;
 use compare::run::{compare_program, Run};
@@ -151,22 +151,30 @@ fn compare_orders(seed: u64, calls: u64) -> ExitCode {
     ExitCode::SUCCESS
 }
 
+/// A part of the comparison.
+type Part = fn(&mut Run) -> Result<(), Difference>;
+
 /// Every mistake put into the library must be found.
 fn find_mistakes(settings: &Settings) -> ExitCode {
-    let mut missed = 0;
-    for &(what, caller) in mistakes() {
+    let (mut tried, mut missed) = (0, 0);
+    // Each kind is looked for first where it can be seen.
+    let of_one_board = mistakes().map(|mistake| (mistake, Run::seeded as Part));
+    let others = mistakes_of_panels_and_mendings().map(|mistake| (mistake, Run::panels_and_mendings as Part));
+    for (&(what, caller), part) in of_one_board.chain(others) {
         let mut run = Run::new(settings.seed, settings.cases, None).with(caller);
-        let found = run.seeded().is_err();
+        let found = part(&mut run).is_err();
+        tried += 1;
         missed += u32::from(!found);
         println!("{} after {:>6} calls: {what}", if found { "found " } else { "MISSED" }, run.tally.cases);
     }
     for &(what, caller) in order_mistakes() {
         let mut orders = Orders::new(settings.seed, settings.cases / CALLS_AN_ORDER).with(caller);
         let found = orders.all().is_err();
+        tried += 1;
         missed += u32::from(!found);
         println!("{} after {:>6} calls: {what}", if found { "found " } else { "MISSED" }, orders.tally.calls);
     }
-    println!("{} mistakes, {missed} missed", mistakes().count() + order_mistakes().count());
+    println!("{tried} mistakes, {missed} missed");
     if missed == 0 {
         ExitCode::SUCCESS
     } else {

@@ -13,20 +13,27 @@ use crate::damage::{first_to_pass, quantities_in};
 use crate::handed::{keeps, stopping, wrapping, Handed, Rule};
 
 mod goal;
+mod mending;
 mod panels;
 
 /// What is wrong, and the call that is wrong in this way.
 pub type Mistake = (&'static str, Caller);
 
-/// Everything that the comparison is tried with.
+/// Mistakes of the calls on one board.
 pub fn mistakes() -> impl Iterator<Item = &'static Mistake> {
     let of_calls = [OF_READING, OF_COMMON, OF_KEEP, OF_QUICK, OF_BEST, OF_ANSWERS, OF_REPORTS];
     let of_quantities = [OF_READING_QUANTITIES, OF_COUNTING_PLACEMENTS, OF_KEEPING_PLACEMENTS, OF_VERSIONS];
     let of_tips = [OF_NAMED_TIPS, OF_REFUSED_MOUNTED_TIPS, OF_MOUNTED_TIPS];
     let of_checks = [OF_CHECKED_PLANS, OF_CHECKED_TABLES, OF_ORDER_IN_CHECKS];
-    let of_panels = [panels::OF_MERGING, panels::OF_PLANNING_ALONE, panels::OF_TWO_FILES];
     let of_goals = [goal::OF_GOALS];
-    of_calls.into_iter().chain(of_quantities).chain(of_tips).chain(of_checks).chain(of_goals).chain(of_panels).flatten()
+    of_calls.into_iter().chain(of_quantities).chain(of_tips).chain(of_checks).chain(of_goals).flatten()
+}
+
+/// Mistakes of the calls on two boards, and of mending.
+pub fn mistakes_of_panels_and_mendings() -> impl Iterator<Item = &'static Mistake> {
+    let of_panels = [panels::OF_MERGING, panels::OF_PLANNING_ALONE, panels::OF_TWO_FILES];
+    let of_mending = [mending::OF_MENDED_LINES, mending::OF_MENDED_FILES, mending::OF_MENDING_OUTPUTS];
+    of_panels.into_iter().chain(of_mending).flatten()
 }
 
 const OF_READING: &[Mistake] = &[

@@ -16,6 +16,7 @@ use crate::random::Random;
 use crate::tally::{Event, Tally, SHORT_REPORT};
 
 mod goal;
+mod mending;
 mod panels;
 
 /// Boards with at most this many plans are solved by trying every plan.
@@ -60,6 +61,7 @@ impl Run {
     /// Compares until enough cases are done; the fixed boards always are.
     pub fn all(&mut self) -> Result<(), Difference> {
         self.fixed_panels()?;
+        self.fixed_mendings()?;
         self.fixed_boards()?;
         for (rack, quantities, most_lines) in EVERY_BOARD_UP_TO {
             for lines in 0..=most_lines {
@@ -76,9 +78,15 @@ impl Run {
 
     /// The same without the small boards.
     pub fn seeded(&mut self) -> Result<(), Difference> {
-        self.fixed_panels()?;
         self.fixed_boards()?;
         self.seeded_boards()
+    }
+
+    /// The same with the fixed panels and mendings before it.
+    pub fn panels_and_mendings(&mut self) -> Result<(), Difference> {
+        self.fixed_panels()?;
+        self.fixed_mendings()?;
+        self.seeded()
     }
 
     /// Each fixed board in each version that it can have.
@@ -105,6 +113,7 @@ impl Run {
     /// Every buffer length and every kind of damage on a good file, and seeded lengths on a bad one.
     pub fn one_file(&mut self, file: &[u8]) -> Result<(), Difference> {
         let job = read(file);
+        self.each_mending(file)?;
         if job.number == 0 {
             (0..TURNS).try_for_each(|turn| self.fixed_file(&job.board, file, turn))
         } else {
@@ -255,7 +264,8 @@ impl Run {
             damage(&mut self.random, &mut copy, kind);
             self.damaged_file(&copy, board.count, board.rack)?;
         }
-        self.seeded_panel(&board, &file)
+        self.seeded_panel(&board, &file)?;
+        self.seeded_mendings(&file)
     }
 
     /// Every call on a good file, with every k around the margin and buffers around the needed lengths.

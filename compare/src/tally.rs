@@ -84,9 +84,29 @@ pub enum Event {
     LinesAndPlacements,
     AloneInTwoRacks,
     FirstPlanAloneFits,
+    NothingMended,
+    TipsCleared,
+    DroppedAsEmpty,
+    QuantityRaised,
+    DroppedForTotal,
+    CountChangedAlone,
+    BytesBehindAlone,
+    CountAndBytes,
+    ClearedAndDropped,
+    RaisedAndDropped,
+    ThreeOfALine,
+    DroppedAfterTotal,
+    MendedOnesInVersion2,
+    MendedInVersion1,
+    MendedMoreThan512,
+    MendedWithoutALine,
+    LongChanges,
+    MendedRackOf64,
+    ShortFileAlone,
+    ShortReportAlone,
 }
 
-const EVENTS: [(Event, &str); 70] = [
+const EVENTS: [(Event, &str); 90] = [
     (Event::RackOf1, "boards with rack 1"),
     (Event::RackOf64, "boards with rack 64"),
     (Event::NoLines, "boards without lines"),
@@ -157,6 +177,26 @@ const EVENTS: [(Event, &str); 70] = [
     (Event::LinesAndPlacements, "merge with too many lines and too many placements"),
     (Event::AloneInTwoRacks, "two boards in two racks, each planned alone"),
     (Event::FirstPlanAloneFits, "two boards, and a plan that does for the first and not for both"),
+    (Event::NothingMended, "files mended in which nothing changes"),
+    (Event::TipsCleared, "files mended, tips cleared"),
+    (Event::DroppedAsEmpty, "files mended, a line dropped as empty"),
+    (Event::QuantityRaised, "files mended, a quantity raised"),
+    (Event::DroppedForTotal, "files mended, a line dropped for the total"),
+    (Event::CountChangedAlone, "files mended, another count and no bytes behind"),
+    (Event::BytesBehindAlone, "files mended, bytes behind and the same count"),
+    (Event::CountAndBytes, "files mended, another count and bytes behind"),
+    (Event::ClearedAndDropped, "files mended, a line cleared and then dropped as empty"),
+    (Event::RaisedAndDropped, "files mended, a quantity raised and the line dropped for the total"),
+    (Event::ThreeOfALine, "files mended, three changes of one line"),
+    (Event::DroppedAfterTotal, "files mended, several lines dropped for the total"),
+    (Event::MendedOnesInVersion2, "files of version 2 mended, and every quantity written is 1"),
+    (Event::MendedInVersion1, "files of version 1 mended"),
+    (Event::MendedMoreThan512, "files mended that say and hold more than 512 lines"),
+    (Event::MendedWithoutALine, "files mended that hold a part of a line alone"),
+    (Event::LongChanges, "files mended with more than 256 changes"),
+    (Event::MendedRackOf64, "files with rack 64 mended"),
+    (Event::ShortFileAlone, "mend with room for the report and not for the file"),
+    (Event::ShortReportAlone, "mend with room for the file and not for the report"),
 ];
 
 /// The counts of a run.
@@ -212,7 +252,10 @@ impl Tally {
 /// The numbers that a call must have given.
 fn needed(column: usize) -> Vec<u32> {
     let mut numbers = vec![0];
-    numbers.extend(OF_READING);
+    // A mending reads the first 8 bytes alone.
+    if CALL_NAMES[column] != "mend" {
+        numbers.extend(OF_READING);
+    }
     let own: &[u32] = match CALL_NAMES[column] {
         "keep" => &[11, 26, 100],
         "goal" => &[11, 25, 34, 100],
@@ -221,6 +264,7 @@ fn needed(column: usize) -> Vec<u32> {
         "check" => &[4, 5, 19, 20, 25, 33, 100],
         "merge" => &[11, 17, 24, 100],
         "alone" => &[4, 100],
+        "mend" => &[1, 6, 7, 8, 11, 100],
         "report" => &[SHORT_REPORT],
         _ => &[100],
     };
@@ -275,8 +319,9 @@ mod tests {
         let mut tally = Tally::default();
         let all = tally.missing().len();
         // 0 and reading's 10 for 10 calls, 100 for 9, the short report; keep's 11, 26, quick's 4, 16, best's 4, 5, 16, 25,
-        // the check's 4, 5, 19, 20, 25, 33, the goal's 11, 25, 34, merge's 11, 17, 24 and alone's 4.
-        assert_eq!(all, 10 * 11 + 9 + 1 + 8 + 6 + 3 + 4 + EVENTS.len());
+        // the check's 4, 5, 19, 20, 25, 33, the goal's 11, 25, 34, merge's 11, 17, 24, alone's 4; mend's 0, 1, 6, 7, 8, 11,
+        // 100.
+        assert_eq!(all, 10 * 11 + 9 + 1 + 8 + 6 + 3 + 4 + 7 + EVENTS.len());
         tally.count_call(25, 5);
         tally.count_event(Event::NoLines);
         assert_eq!(tally.missing().len(), all - 2);

@@ -246,6 +246,33 @@ static void print_panel(const uint8_t *first, size_t first_len, const uint8_t *s
     }
 }
 
+/* Prints what mending does to a file. */
+static void print_mend(const uint8_t *file, size_t file_len)
+{
+    static const char *const words[] = {"", "tips cleared", "dropped as empty", "quantity raised", "dropped for the total",
+                                        "count changed", "bytes left out behind the lines"};
+    uint8_t out[TIPSHARE_LONGEST_FILE];
+    uint8_t report[TIPSHARE_LONGEST_CHANGES];
+    uint64_t answer[TIPSHARE_ANSWER_PLACES];
+    uint32_t number = tipshare_mend(file, file_len, out, sizeof out, report, sizeof report,
+                                    answer, TIPSHARE_ANSWER_PLACES);
+    if (number != TIPSHARE_ACCEPTED) {
+        print_refusal("mend", number, answer[0]);
+        return;
+    }
+    printf("mend: %" PRIu64 " bytes, %" PRIu64 " changes\n", answer[1], answer[2] / TIPSHARE_CHANGE);
+    for (const uint8_t *change = report; change < report + answer[2]; change += TIPSHARE_CHANGE) {
+        unsigned line = (unsigned)change[0] << 8 | change[1];
+        if (line == TIPSHARE_WHOLE_FILE) {
+            printf("  the file: %s\n", words[change[2]]);
+        } else {
+            printf("  line %u: %s\n", line, words[change[2]]);
+        }
+    }
+    number = tipshare_read(out, (size_t)answer[1], answer, TIPSHARE_ANSWER_PLACES);
+    printf("read: %" PRIu32 ", lines %" PRIu64 "\n", number, answer[2]);
+}
+
 /* Prints the order of parts, 4 numbers each, by rules, 2 numbers each. */
 static void print_order(const uint32_t *parts, size_t count, const uint32_t *rules, size_t rule_count)
 {
@@ -347,6 +374,10 @@ int main(void)
     number = tipshare_read(file, length, answer, TIPSHARE_ANSWER_PLACES);
     print_refusal("read", number, answer[0]);
 
+    printf("\nThat file mended, and cut in its first line and in its first 8 bytes\n");
+    print_mend(file, length);
+    print_mend(file, 12);
+    print_mend(file, 7);
     printf("\nFour parts to place: a tall one, a plain one, a fine one and a plain one that goes before the other\n");
     /* First and last position, fine, tall. */
     const uint32_t parts[4 * TIPSHARE_PART_PLACES] = {0, 3, 0, 1, 0, 3, 0, 0, 0, 3, 1, 0, 0, 3, 0, 0};

@@ -6,8 +6,10 @@ use std::fmt;
 pub const ANSWER_PLACES: usize = 4;
 /// The bytes that a report needs lent.
 pub const REPORT_SPACE: usize = 16_384;
-/// The longest good job file: an output of keep, of goal or of merge that always does.
+/// The longest good job file: an output of keep, goal, merge or mend that always does.
 pub const LONGEST_FILE: usize = 4_616;
+/// The longest report of a mending: one that always does.
+pub const LONGEST_CHANGES: usize = 3_081;
 /// The mounted tip of the functions of the header where there is none.
 pub const NO_TIP: usize = usize::MAX;
 /// The most parts to order: an order buffer that always does.
@@ -138,6 +140,20 @@ pub fn merge(first: &[u8], second: &[u8], out: &mut [u8]) -> Result<u64, Refusal
 pub fn alone(first: &[u8], second: &[u8], plan: &mut [u8]) -> Result<(u64, u64), Refusal> {
     let answer = answer_of(|answer| on_slices::alone(first, second, plan, answer))?;
     Ok((answer[1], answer[2]))
+}
+
+/// The lengths of what a mending wrote.
+#[derive(Clone, Copy, PartialEq, Eq, Debug)]
+pub struct Mended {
+    pub file: u64,
+    pub report: u64,
+}
+
+/// Mends a file whose first 8 bytes are good but for the count: writes a good file to out, and to the report three bytes
+/// for each change.
+pub fn mend(file: &[u8], out: &mut [u8], report: &mut [u8]) -> Result<Mended, Refusal> {
+    let answer = answer_of(|answer| on_slices::mend(file, out, report, answer))?;
+    Ok(Mended { file: answer[1], report: answer[2] })
 }
 
 /// The order in which parts are placed: fine ones first, tall ones last, each within its positions, and of each rule's two
@@ -276,6 +292,21 @@ pub mod on_slices {
         }
     }
 
+    pub fn mend(file: &[u8], out: &mut [u8], report: &mut [u8], answer: &mut [u64]) -> u32 {
+        unsafe {
+            declared::tipshare_mend(
+                file.as_ptr(),
+                file.len(),
+                out.as_mut_ptr(),
+                out.len(),
+                report.as_mut_ptr(),
+                report.len(),
+                answer.as_mut_ptr(),
+                answer.len(),
+            )
+        }
+    }
+
     pub fn order(parts: &[u32], rules: &[u32], order: &mut [u8], answer: &mut [u64]) -> u32 {
         unsafe {
             declared::tipshare_order(
@@ -367,6 +398,16 @@ mod declared {
             second_len: usize,
             plan: *mut u8,
             plan_len: usize,
+            answer: *mut u64,
+            answer_len: usize,
+        ) -> u32;
+        pub fn tipshare_mend(
+            file: *const u8,
+            file_len: usize,
+            out: *mut u8,
+            out_len: usize,
+            report: *mut u8,
+            report_len: usize,
             answer: *mut u64,
             answer_len: usize,
         ) -> u32;

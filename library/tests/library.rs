@@ -1,7 +1,8 @@
 //! The linked library through its safe form.
 
 use library::{
-    alone, best, check, common, goal, keep, merge, quick, read, report, CommonTip, Job, Kept, Refusal, LONGEST_FILE,
+    alone, best, check, common, goal, keep, mend, merge, quick, read, report, CommonTip, Job, Kept, Mended, Refusal,
+    LONGEST_CHANGES, LONGEST_FILE,
 };
 
 /// The example of the rules: rack 3, lines {0} and {1,2}.
@@ -158,6 +159,28 @@ fn two_boards_on_one_panel() {
     assert_eq!(alone(&EXAMPLE[..7], &other, &mut plan), Err(refused(6, 0, 0)));
     assert_eq!(refused(30, 0, 0).to_string(), "refused 30");
     assert_eq!(refused(30, 8, 0).to_string(), "refused 30 at line 8");
+}
+
+#[test]
+fn damaged_files_are_mended() {
+    let (mut out, mut told) = ([7; LONGEST_FILE], [7; LONGEST_CHANGES]);
+    assert_eq!(mend(&EXAMPLE, &mut out, &mut told), Ok(Mended { file: 24, report: 0 }));
+    assert_eq!((&out[..25], told[0]), (&[&EXAMPLE[..], &[7]].concat()[..], 7));
+    // A tip outside the rack, a quantity of 0, and a byte behind.
+    let mut file = [&COUNTED[..], &[1]].concat();
+    (file[14], file[25]) = (1, 0);
+    assert_eq!(mend(&file, &mut out, &mut told), Ok(Mended { file: 26, report: 9 }));
+    let mut mended = COUNTED;
+    mended[25] = 1;
+    assert_eq!((&out[..26], &told[..10]), (&mended[..], &[0, 0, 1, 0, 1, 3, 255, 255, 6, 7][..]));
+    assert_eq!(read(&out[..26]), Ok(Job { rack: 3, lines: 2 }));
+    for (file_bytes, report_bytes) in [(25, 9), (26, 8)] {
+        let refused = Err(refused(11, 0, 0));
+        assert_eq!(mend(&file, &mut out[..file_bytes], &mut told[..report_bytes]), refused);
+    }
+    file[5] = 0;
+    assert_eq!(mend(&file, &mut out, &mut told), Err(refused(1, 0, 0)));
+    assert_eq!(mend(&file[..7], &mut [], &mut []), Err(refused(6, 0, 0)));
 }
 
 #[test]

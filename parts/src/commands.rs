@@ -9,6 +9,7 @@ use parts::files::{of_standard_output, Input, Output};
 use parts::handed::Handed;
 use parts::job::{has_mark, Job};
 use parts::list::{Fault, List};
+use parts::mending;
 use parts::panel::Panel;
 use parts::planning::{Kept, Named};
 use parts::MOST_TIPS;
@@ -146,6 +147,16 @@ pub fn panel(arguments: &[&str]) -> Result<(), Failure> {
         written.put().map_err(|error| about(out, error))?;
     }
     print((panel.alone + &text).as_bytes())
+}
+
+pub fn mend(arguments: &[&str]) -> Result<(), Failure> {
+    let [path, out] = *arguments else { return Err(Failure::Arguments) };
+    let input = input_of(path)?;
+    let (out, output) = output_of(out, &input)?;
+    let mended = mending::mend(&input.bytes).map_err(|why| about(path, why))?;
+    let written = output.write(&mended.file).map_err(|error| about(out, error))?;
+    written.put().map_err(|error| about(out, error))?;
+    print(mended.text.as_bytes())
 }
 
 pub fn order(arguments: &[&str]) -> Result<(), Failure> {

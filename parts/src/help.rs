@@ -16,7 +16,7 @@ pub struct Command {
     run: fn(&[&str]) -> Result<(), Failure>,
 }
 
-const COMMANDS: [Command; 10] = [
+const COMMANDS: [Command; 11] = [
     Command {
         name: "make",
         arguments: "LIST",
@@ -121,6 +121,21 @@ const COMMANDS: [Command; 10] = [
                Example: parts panel left.txt right.txt panel.job\n",
         options: &[],
         run: commands::panel,
+    },
+    Command {
+        name: "mend",
+        arguments: "JOB OUT",
+        does: "mend a job file that came back damaged, write what is left of it as the job file OUT,\n\
+               and print each change with its line",
+        more: "The first 8 bytes must name the mark, the version and the rack size well; the rest may be anything.\n\
+               Tips outside the rack are cleared, lines without a tip are dropped, a quantity of 0 becomes 1, and the\n\
+               first line with more than 2,048 placements is dropped with all after it. Lines that are missing and\n\
+               bytes that follow are told. Line numbers are those of JOB, counted from 0.\n\
+               OUT is of the same version, every command takes it, and mending it again changes nothing. OUT replaces\n\
+               a file of its name, but never JOB.\n\
+               Example: parts mend card.job mended.job && parts plan mended.job\n",
+        options: &[],
+        run: commands::mend,
     },
     Command {
         name: "order",

@@ -6,6 +6,7 @@ pub mod goal;
 pub mod handed;
 pub mod job;
 pub mod list;
+pub mod mending;
 pub mod ordering;
 pub mod panel;
 pub mod picture;

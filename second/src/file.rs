@@ -117,7 +117,7 @@ pub fn read(file: &[u8]) -> Answer<()> {
 }
 
 /// The number of these bytes, the highest first.
-fn number_in(bytes: &[u8]) -> u64 {
+pub(crate) fn number_in(bytes: &[u8]) -> u64 {
     let mut number = 0;
     for &byte in bytes {
         number = number << 8 | u64::from(byte);

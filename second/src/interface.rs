@@ -134,6 +134,15 @@ pub fn alone(first: &[u8], second: &[u8], plan: &mut [u8], answer: &mut [u64]) -
     })
 }
 
+/// Mends a file and writes it to out, and its changes to the report: place, bytes of the file, bytes of the report, 0.
+pub fn mend(file: &[u8], out: &mut [u8], report: &mut [u8], answer: &mut [u64]) -> u32 {
+    if answer.len() < ANSWER_PLACES {
+        return refusal::SHORT_ANSWER;
+    }
+    let mending = crate::mend(file, out, report);
+    answered(answer, mending.number, [0, mending.file as u64, mending.report as u64, 0])
+}
+
 /// The numbers of a part and of a rule.
 pub const PART_PLACES: usize = 4;
 pub const RULE_PLACES: usize = 2;

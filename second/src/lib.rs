@@ -7,6 +7,7 @@ mod board;
 mod checking;
 mod common;
 mod goal;
+mod mending;
 mod panel;
 mod placing;
 mod report;
@@ -21,6 +22,7 @@ pub use board::{Answer, Board, Line, Stage, MOST_LINES, MOST_PLACEMENTS, MOST_TI
 pub use checking::TableFault;
 pub use common::CommonTip;
 pub use file::{read, Version, LONGEST_FILE};
+pub use mending::{mend, mended, Change, Mended, Mending, What, CHANGE, WHOLE_FILE};
 pub use panel::{Alone, Merged};
 pub use placing::{
     order_parts, try_every_order, Because, OrderFault, Ordered, Part, Placing, Rule, Window, MOST_PARTS,

@@ -23,7 +23,7 @@ pub const WRONG_VERSION: u32 = 8;
 pub const FILE_LINES: u32 = 9;
 /// The file's length is not the one for its version and number of lines.
 pub const FILE_LENGTH: u32 = 10;
-/// The output is too short for the file in the version that is written.
+/// The output is too short for the file in the version that is written, or for the report of a mending.
 pub const SHORT_OUTPUT: u32 = 11;
 /// An order, and there are over 128 parts, or a part's first position is after its last, or its last is none.
 pub const BAD_WINDOW: u32 = 12;

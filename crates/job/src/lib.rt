@@ -13,12 +13,12 @@ pub const PLAIN: u64 = 1;
 
 pub const COUNTED: u64 = 2;
 // The bytes of the header, and of a line's set; a quantity has one byte.
-const HEADER: usize = 8;
+pub const HEADER: usize = 8;
 
 pub const SET: usize = 8;
 
 // The bytes of one line.
-fn line_length(version: u64) -> usize
+pub fn line_length(version: u64) -> usize
     ensures { λ r. ⌜ r ≡ lineLength version ⌝ }
 {
     if version == COUNTED { SET + 1 } else { SET }
@@ -86,7 +86,7 @@ fn version_ok(version: u64) -> bool
 }
 
 // The refusal by the mark, the version and the rack, in the rule book's order; 0 for none.
-fn start_number(file: &[u8]) -> u32
+pub fn start_number(file: &[u8]) -> u32
     ensures { λ r. ⌜ r ≡ startNumber (now (file .entry)) ⌝ }
 {
     if file.len() < HEADER {

@@ -40,14 +40,14 @@ fn set_at(file: &[u8], i: usize) -> u64
 }
 
 // The set and the quantity of line `i` in a file of that version; without quantities it is 1.
-fn set_of(file: &[u8], version: u64, i: usize) -> u64
+pub fn set_of(file: &[u8], version: u64, i: usize) -> u64
     requires { ⌜ fileLength version (i + 1) ≤ length (now file) ⌝ }
     ensures { λ r. ⌜ r ≡ setFrom version (now (file .entry)) i ⌝ }
 {
     set_at(file, job::file_length(version, i))
 }
 
-fn quantity_of(file: &[u8], version: u64, i: usize) -> u8
+pub fn quantity_of(file: &[u8], version: u64, i: usize) -> u8
     requires { ⌜ fileLength version (i + 1) ≤ length (now file) ⌝ }
     ensures { λ r. ⌜ (r ≡ quantityFrom version (now (file .entry)) i) × (r < 256) ⌝ }
 {

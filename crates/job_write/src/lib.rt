@@ -26,7 +26,7 @@ pub fn version_for(quantities: &[u8]) -> u64
 }
 
 // Writes the header to the first bytes.
-fn put_header(version: u64, rack: usize, count: usize, out: &mut [u8])
+pub fn put_header(version: u64, rack: usize, count: usize, out: &mut [u8])
     requires { ⌜ headerLength ≤ length (now out) ⌝ }
     ensures { λ _. ⌜ now (out .exit) ≡ headerOf version rack count ++ drop headerLength (now (out .entry)) ⌝ }
 {
@@ -41,7 +41,7 @@ fn put_header(version: u64, rack: usize, count: usize, out: &mut [u8])
 }
 
 // Writes one set to the eight bytes from `at` on.
-fn put_set(set: u64, at: usize, out: &mut [u8])
+pub fn put_set(set: u64, at: usize, out: &mut [u8])
     requires { ⌜ at + setLength ≤ length (now out) ⌝ }
     ensures { λ _. ⌜ now (out .exit) ≡ take at (now (out .entry)) ++ bytesOf setLength set ++ drop (at + setLength) (now (out .entry)) ⌝ }
 {
@@ -56,7 +56,7 @@ fn put_set(set: u64, at: usize, out: &mut [u8])
 }
 
 // Writes the quantity after the set of the line at `at`, where the version has quantities.
-fn put_quantity(version: u64, quantity: u8, at: usize, out: &mut [u8])
+pub fn put_quantity(version: u64, quantity: u8, at: usize, out: &mut [u8])
     requires { ⌜ at + lineLength version ≤ length (now out) ⌝ }
     ensures { λ _. ⌜ now (out .exit) ≡ cond (counted version) (set (now (out .entry)) (at + setLength) quantity) (now (out .entry)) ⌝ }
 {

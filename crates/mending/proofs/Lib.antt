@@ -1,0 +1,10 @@
+pub mod Lines
+pub mod Kept
+pub mod Codes
+pub mod Rising
+pub mod Changes
+pub mod Steps
+pub mod Files
+pub mod Report
+pub mod Lengths
+pub mod Rule
