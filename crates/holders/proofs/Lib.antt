@@ -1,0 +1,4 @@
+pub mod Two
+pub mod Choice
+pub mod Holders
+pub mod Junior
