@@ -37,8 +37,8 @@ lacks-le {u} {v} (line {s} {t} h w) (more p ps) = omega (
   lacks-le w ps,
 )
 
--- each line that has x is counted
-count-all : (x : ℕ) {lines : List ℕ} → All (λ s. T (has s x)) lines → occ lines x ≡ length lines
+-- where each line has x, it counts them all
+pub count-all : (x : ℕ) {lines : List ℕ} → All (λ s. T (has s x)) lines → occ lines x ≡ length lines
 unfolding occ
 count-all x {lines} h = sym (length-select (λ s. has s x) lines) ∙ ap length (select-all (λ s. has s x) h)
 

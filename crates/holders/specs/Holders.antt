@@ -1,12 +1,12 @@
 -- The Junior with two holders: a plan on one tip or two. A list of lines has a set for each placement; equal sets get equal tips.
-use Prim.Native.Nat.{ℕ, _+_, _*_, _/_, _%_, _≤_, _<_}
+use Prim.Native.Nat.{ℕ, _+_, _*_, _-_, _/_, _%_, _≤_, _<_, max}
 use mathlib.Core.Path.{_≡_}
 use mathlib.Core.Logic.{_⊎_}
 use mathlib.Core.Bool.{Bool, cond, _&&_, _||_}
 use mathlib.Core.List.{List, map}
 use lib.Dec.{leb, ltb, eqb}
 use Rattle.model.specs.Count.{All, each, lowestAt}
-use Rattle.model.specs.Plan.{has, uses, Valid, pairs, prefer}
+use Rattle.model.specs.Plan.{has, uses, Valid, pairs, choose2, prefer}
 use Rattle.placements.specs.Repeated.{repeated}
 
 -- each line has u or v
@@ -72,3 +72,13 @@ pub record Junior (qs sets : List ℕ) (u v : ℕ) (plan : List ℕ) : Type 0 wh
   pub most : (x y : ℕ) (other : List ℕ) → Valid sets other → OnTips x y other → pairs (repeated qs other) ≤ pairs (repeated qs plan)
   pub lowest : (x y : ℕ) (other : List ℕ) → Valid sets other → OnTips x y other
       → pairs (repeated qs other) ≡ pairs (repeated qs plan) → (u < x) ⊎ ((u ≡ x) × (v ≤ y))
+
+-- ---- for proofs and leaf contracts: no call's contract speaks of these
+
+-- the pairs of n placements where x are on one tip and the others on another
+unfoldable pub sidePairs : ℕ → ℕ → ℕ
+sidePairs n x = choose2 x + choose2 (n - x)
+
+-- the score of tips that serve each of n placements, of which x have u and y have v: one tip, or each of two has some that lack the other
+unfoldable pub scoreBy : Bool → ℕ → ℕ → ℕ → ℕ
+scoreBy same n x y = cond (same || (ltb x n && ltb y n)) (1 + max (sidePairs n x) (sidePairs n y)) 0
