@@ -39,7 +39,7 @@ module _ {m : ℕ} (lines : List ℕ) (some : 0 < m) where
   unfolding score
   score-of x y b c = rw (digits-div x b, digits-mod x b, true-T (isChoice lines x y) c)
 
-  score-pos : (k : ℕ) → 0 < score m lines k → T (isChoice lines (k / m) (k % m)) × (score m lines k ≡ 1 + pairs (twoPlan lines (k / m) (k % m)))
+  pub score-pos : (k : ℕ) → 0 < score m lines k → T (isChoice lines (k / m) (k % m)) × (score m lines k ≡ 1 + pairs (twoPlan lines (k / m) (k % m)))
   unfolding score
   score-pos k =
       let c = isChoice lines (k / m) (k % m) in

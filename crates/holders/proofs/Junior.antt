@@ -1,12 +1,12 @@
 -- The Junior's tips and plan with quantities.
-use Prim.Native.Nat.{ℕ, _≤_, _<_}
+use Prim.Native.Nat.{ℕ, _+_, _≤_, _<_}
 use native.Mathlib.Omega.{arith}
 use mathlib.Core.Path.{_≡_}
 use mathlib.Core.Logic.{_↔_, _⊎_, inl, inr, ⊎-elim}
 use mathlib.Core.Bool.{true, false, cond}
 use mathlib.Core.List.{List}
 use lib.ListN.{length}
-use lib.Dec.{T, eqb}
+use lib.Dec.{T, eqb, ltb→lt}
 use Rattle.model.specs.Count.{count, All, none, more}
 use Rattle.model.specs.Plan.{Domain, uses, Valid, empty, line, pairs, prefer}
 use Rattle.model.proofs.Tests.{le-or-lt, cond-case}
@@ -18,10 +18,10 @@ use Rattle.placements.specs.Good.{GoodLines}
 use Rattle.placements.proofs.Repeated.{repeated-map, count-repeated, all-repeated, all-once}
 use Rattle.placements.proofs.Named.{count-weighted, weighted-none}
 use Rattle.placements.proofs.Valid.{valid-repeated}
-use Rattle.holders.specs.Holders.{serves, gathered, toFirst, twoPlan, isServed, OnTips, linePlan}
+use Rattle.holders.specs.Holders.{serves, gathered, toFirst, twoPlan, score, chosen, isServed, OnTips, linePlan}
 use Rattle.holders.specs.Holders.{firstTip, secondTip, juniorPlan, NoneOnTips, Junior}
 use Rattle.holders.proofs.Two.{On, Served, serves-iff, served-swap, on-swap, valid-served, gathered-valid, gathered-on}
-use Rattle.holders.proofs.Holders.{Placed, placed, served-iff}
+use Rattle.holders.proofs.Holders.{Placed, score-pos, placed, served-iff}
 
 -- a tip that a placement is on is one that a line is on, and the other way round
 used-line : (qs xs : List ℕ) (u : ℕ) → 0 < uses (repeated qs xs) u → 0 < uses xs u
@@ -90,6 +90,15 @@ module _ {m : ℕ} {qs sets : List ℕ} (good : GoodLines m qs sets) where
     used = λ l. let (p, q) = o .used l in let e : length qs ≡ length other = omega (arith, good .same, valid-length w) in
         (used-placement other x e (good .placed) p, used-placement other y e (good .placed) q);
   }
+
+  -- the score is one more than the plan's placement pairs, and the tips are of the rack
+  pub junior-score : T (isServed m placements) → score m placements (chosen m placements) ≡ 1 + pairs (repeated qs (juniorPlan m qs sets))
+  unfolding juniorPlan firstTip secondTip isServed
+  junior-score t = rw line-plan (score-pos placements (good .some) (chosen m placements) (ltb→lt 0 (score m placements (chosen m placements)) t) .1)
+
+  pub junior-rack : T (isServed m placements) → (u ≤ v) × (v < m)
+  unfolding firstTip secondTip
+  junior-rack t = let p = placed placements (good .some) t in (p .tips .ordered, p .rack)
 
   -- THE JUNIOR'S TIPS AND PLAN, where some tips serve every line
   pub junior : T (isServed m placements) → Junior qs sets u v (juniorPlan m qs sets)

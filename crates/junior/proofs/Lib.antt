@@ -1,3 +1,4 @@
 pub mod Sides
 pub mod Search
 pub mod Passed
+pub mod Laid

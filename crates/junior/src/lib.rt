@@ -116,6 +116,16 @@ fn choose_tips(m: usize, pairs: &[u32], lines: &[u64], quantities: &[u8], all: u
     best
 }
 
+fn tip_for(set: u64, first: usize, second: usize) -> u8
+    requires { ⌜ (first < mostTips) × (second < mostTips) ⌝ }
+    ensures { λ r. ⌜ r ≡ cond (has set first) first second ⌝ }
+{
+    if tips::has_tip(set, first) {
+        return first as u8;
+    }
+    second as u8
+}
+
 // The lines that have the first tip on it, and the others on the second.
 fn lay_lines(first: usize, second: usize, lines: &[u64], plan: &mut [u8])
     requires { ⌜ (first < mostTips) × (second < mostTips) × (length (now plan) ≡ length (now lines)) ⌝ }
@@ -128,14 +138,17 @@ fn lay_lines(first: usize, second: usize, lines: &[u64], plan: &mut [u8])
     }
 }
 
-fn tip_for(set: u64, first: usize, second: usize) -> u8
-    requires { ⌜ (first < mostTips) × (second < mostTips) ⌝ }
-    ensures { λ r. ⌜ r ≡ cond (has set first) first second ⌝ }
+// The lines that have both go to their side.
+fn lay_tips(tips: Tips, lines: &[u64], plan: &mut [u8])
+    requires { ⌜ (tips .u < mostTips) × (tips .v < mostTips) × (length (now plan) ≡ length (now lines)) ⌝ }
+    ensures { λ _. ⌜ now (plan .exit) ≡ cond (tips .first) (gathered (now (lines .entry)) (tips .u) (tips .v))
+        (gathered (now (lines .entry)) (tips .v) (tips .u)) ⌝ }
 {
-    if tips::has_tip(set, first) {
-        return first as u8;
+    if tips.first {
+        lay_lines(tips.u, tips.v, lines, plan);
+    } else {
+        lay_lines(tips.v, tips.u, lines, plan);
     }
-    second as u8
 }
 
 // The plan is laid where some tips serve every line; else it stays as it was.
@@ -155,11 +168,7 @@ pub fn plan_lines(m: usize, lines: &[u64], quantities: &[u8], plan: &mut [u8]) -
             v: 0,
         };
     }
-    if tips.first {
-        lay_lines(tips.u, tips.v, lines, plan);
-    } else {
-        lay_lines(tips.v, tips.u, lines, plan);
-    }
+    lay_tips(tips, lines, plan);
     Found {
         served: true,
         pairs: tips.score - 1,

@@ -195,14 +195,13 @@ tips-again-2 c =
     let inv = l .loop2 .inv in
     let all = s l .pre .1 in
     let scored = a .score .ensures ∙ passed-score (good l) (u l) (v l) (i l) (e .loop2-test .left) (inside l) (ordered l) all (inv .2) (inv .3) (inv .4) in
-    let side = passed-side (good l) (u l) (v l) (i l) (e .loop2-test .left) all (inv .2) (inv .3) (inv .4) in
-    (
+    let side = passed-side (good l) (u l) (v l) (i l) (e .loop2-test .left) all (inv .2) (inv .3) (inv .4) in (
       omega (arith, ordered l),
       omega (arith, inside l),
       rw (sym (next l)) (⊎-elim
-      (λ w. rw (w .1) (sought-moves (u l) (v l) (sought l) (inside l) scored (w .0 .taken) (rw (p .before .side-pairs .ensures, p .side-pairs2 .ensures) side)))
-      (λ w. rw (w .1) (sought-stays (sought l) (omega (arith, scored, w .0 .left))))
-      (c .if2 .came)),
+          (λ w. rw (w .1) (sought-moves (u l) (v l) (sought l) (inside l) scored (w .0 .taken) (rw (p .before .side-pairs .ensures, p .side-pairs2 .ensures) side)))
+          (λ w. rw (w .1) (sought-stays (sought l) (omega (arith, scored, w .0 .left))))
+          (c .if2 .came)),
     )
 
 add-u : tie.Need-add-u Inv-loop2 μ-loop2 Inv-tips μ-tips Inv-loop μ-loop
