@@ -2,7 +2,6 @@
 //!
 //! No line of the kept output is taken on the programs' word: here each is checked by answers that do not come from them.
 
-use std::collections::HashSet;
 use std::path::Path;
 
 mod every_plan;
@@ -17,8 +16,6 @@ mod counts;
 mod junk;
 #[path = "test_programs/small.rs"]
 mod small;
-#[path = "test_programs/sorts.rs"]
-mod sorts;
 
 /// A file of a test program.
 fn file_of(program: &str, file: &str) -> String {
@@ -53,15 +50,4 @@ fn small() {
 #[test]
 fn counts() {
     assert_same(&printed_by("try_counts"), &counts::lines());
-}
-
-#[test]
-fn sorts() {
-    assert_same(&printed_by("try_sorts"), &sorts::lines());
-}
-
-#[test]
-fn sorts_are_all_different() {
-    let orders: HashSet<_> = sorts::orders().collect();
-    assert_eq!(orders.len(), sorts::SORTS);
 }

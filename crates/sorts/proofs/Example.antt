@@ -13,7 +13,7 @@ use Rattle.model.specs.Interval.{low}
 use Rattle.placements.specs.Repeated.{total}
 use Rattle.sound.specs.Sound.{countOk, soundBoard}
 use Rattle.board.specs.declared.Board.{Board}
-use Rattle.board.specs.Rows.{countedBoard}
+use Rattle.rows.specs.Rows.{countedBoard}
 use Rattle.sorts.specs.Order.{SameCounts, Hides}
 use Rattle.sorts.specs.Boards.{Reordered, partsOf}
 

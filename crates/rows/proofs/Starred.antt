@@ -21,22 +21,22 @@ use Rattle.call_refusals.specs.Calls.{addRefusal, keepRefusal, mountedRefusal, 
 use Rattle.goals.specs.Check.{entry, isValid, bounds}
 use Rattle.checking.specs.Checking.{claimRefusal, tableOk, checkRefusal}
 use Rattle.line_calls.specs.Lines
 use Rattle.board.specs.Board.{noSets, noQuantities, addOf, closeOf}
 use Rattle.board.specs.Common.{commonOf, keepOf}
 use Rattle.board.specs.Sharing.{quickOf, quickBuffer, bestOf, bestBuffer, bestTable}
 use Rattle.board.specs.JobFile.{readOf, writeOf, writeBuffer}
 use Rattle.board.specs.Check.{checkOf}
-use Rattle.board.specs.Rows.{run, rows, Gives, HalfReached}
-use Rattle.board.specs.Rows.{B1-common, B1-keep, B2-keep, B3-keep, B4-quick, B5-best, B6-best, B7-quick, B8-best, B9-quick, B9-best, B10-best}
-use Rattle.board.specs.Rows.{B15-rack-0, B15-rack-65, B16-count-513, B16-count-most, B17-first, B17-middle, B17-last, B18-next}
-use Rattle.board.specs.Rows.{B18-last, B18-both, B19-21, B19-27, B19-27-open, B19-27-closed, B19-28-closed}
-use Rattle.board.specs.Rows.{B20-quick, B20-best, B21-common, B21-keep-0, B21-keep-1, B21-keep-2, B21-keep-3, B21-keep-4, B22-quick, B23-quick}
-use Rattle.board.specs.Rows.{B23-best, B24-none, B24-bad-set, B24-last, B24-over, B25-none, B25-over, B25-first, B26-next, B26-after-set}
-use Rattle.board.specs.Rows.{B28-read, B28-write, B29-read, B30-read, B30-over, B30-none}
-use Rattle.board.specs.Rows.{B27-common, B27-best, B31-best, B32-best, B33-best, B34-best, B35-best, B36-quick-0, B36-quick-2}
-use Rattle.board.specs.Rows.{B36-best-1, B36-best-2, B37-quick, B37-best, B38-quick, B39-none, B39-best, B40-quick, B40-best, B41-quick}
-use Rattle.board.specs.Rows.{B41-best, B41-open, B42-check, B43-foreign, B43-64, B43-255, B44-more, B44-most, B45-whole, B45-less, B46-exact}
-use Rattle.board.specs.Rows.{B46-less, B46-huge, B47-huge, B48-open, B48-short, B48-few, B48-run, B48-none}
+use Rattle.rows.specs.Rows.{run, rows, Gives, HalfReached}
+use Rattle.rows.specs.Rows.{B1-common, B1-keep, B2-keep, B3-keep, B4-quick, B5-best, B6-best, B7-quick, B8-best, B9-quick, B9-best, B10-best}
+use Rattle.rows.specs.Rows.{B15-rack-0, B15-rack-65, B16-count-513, B16-count-most, B17-first, B17-middle, B17-last, B18-next}
+use Rattle.rows.specs.Rows.{B18-last, B18-both, B19-21, B19-27, B19-27-open, B19-27-closed, B19-28-closed}
+use Rattle.rows.specs.Rows.{B20-quick, B20-best, B21-common, B21-keep-0, B21-keep-1, B21-keep-2, B21-keep-3, B21-keep-4, B22-quick, B23-quick}
+use Rattle.rows.specs.Rows.{B23-best, B24-none, B24-bad-set, B24-last, B24-over, B25-none, B25-over, B25-first, B26-next, B26-after-set}
+use Rattle.rows.specs.Rows.{B28-read, B28-write, B29-read, B30-read, B30-over, B30-none}
+use Rattle.rows.specs.Rows.{B27-common, B27-best, B31-best, B32-best, B33-best, B34-best, B35-best, B36-quick-0, B36-quick-2}
+use Rattle.rows.specs.Rows.{B36-best-1, B36-best-2, B37-quick, B37-best, B38-quick, B39-none, B39-best, B40-quick, B40-best, B41-quick}
+use Rattle.rows.specs.Rows.{B41-best, B41-open, B42-check, B43-foreign, B43-64, B43-255, B44-more, B44-most, B45-whole, B45-less, B46-exact}
+use Rattle.rows.specs.Rows.{B46-less, B46-huge, B47-huge, B48-open, B48-short, B48-few, B48-run, B48-none}
 
 pub starred : All Gives rows
 unfolding run addOf closeOf commonOf keepOf quickOf quickBuffer bestOf bestBuffer bestTable checkOf Lines.checkOf checkRefusal claimRefusal

@@ -22,11 +22,11 @@ use Rattle.call_refusals.specs.Calls.{mountedRefusal, planRefusal, bestRefusal}
 use Rattle.call_refusals.proofs.Calls.{plan-none, best-none}
 use Rattle.line_calls.specs.Lines
 use Rattle.line_calls.specs.Lines.{planAnswer}
 use Rattle.board.specs.declared.Board.{Board}
 use Rattle.board.specs.Board.{linesOf, quantitiesOf, stateRefusal}
 use Rattle.board.specs.Sharing.{shared, bestOf, bestBuffer, bestTable}
 use Rattle.board.proofs.Sets.{Full, ready}
-use Rattle.board.proofs.Ones.{lent-same}
+use Rattle.board_laws.proofs.Ones.{lent-same}
 
 -- the refusals of the base: those of a plan, then a table shorter than m * m places, then a line that is no unbroken run
 abbrev pub refusalBefore : Refusal → ℕ → List ℕ → ℕ → ℕ → Refusal

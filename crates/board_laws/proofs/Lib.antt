@@ -1,0 +1,4 @@
+pub mod Ones
+pub mod Unbroken
+pub mod Mounted
+pub mod Checked
