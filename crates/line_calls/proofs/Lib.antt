@@ -4,3 +4,4 @@ pub mod Plans
 pub mod JobFile
 pub mod Refused
 pub mod Checked
+pub mod JuniorPlan

@@ -10,6 +10,10 @@ ghost use Rattle.refusal.specs.Refusal.{Given};
 use head::Mounted;
 use refusal::Refusal;
 
+mod junior_call;
+
+pub use junior_call::junior;
+
 // The most placements that allow one tip, the least number of placements off the common tip, and the set W of the tips that reach top.
 pub struct CommonAnswer {
     pub refusal: Refusal,
@@ -28,6 +32,14 @@ pub struct KeepAnswer {
 pub struct PlanAnswer {
     pub refusal: Refusal,
     pub pairs: u32,
+}
+
+// The plan's pairs, and the tips u and v that it is on.
+pub struct JuniorAnswer {
+    pub refusal: Refusal,
+    pub pairs: u32,
+    pub u: usize,
+    pub v: usize,
 }
 
 // The bytes of the job file that is written.
