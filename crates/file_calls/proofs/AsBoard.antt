@@ -97,7 +97,7 @@ module _ (file : List ℕ) (b : Board) (given : readOf file ≡ answer b none) w
   quantities-are = ap quantitiesOf board-is ∙ quantities-in file
 
   -- what is asked of the file is what is asked of the board
-  on-board : {A : Type 0} (f : Refusal → ℕ → List ℕ → List ℕ → A)
+  pub on-board : {A : Type 0} (f : Refusal → ℕ → List ℕ → List ℕ → A)
       → f (readRefusal file) (rackIn file) (quantitiesIn file) (setsIn file) ≡ f (stateRefusal Closed b) (b .rack) (quantitiesOf b) (linesOf b)
   on-board f =
       ap₂ (λ r m. f r m (quantitiesIn file) (setsIn file)) (read-none file free ∙ sym state-is) (sym (ap (λ a. a .rack) board-is))

@@ -2,3 +2,4 @@ pub mod Signed
 pub mod ReadLines
 pub mod KeptFile
 pub mod AsBoard
+pub mod JuniorIn

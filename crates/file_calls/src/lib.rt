@@ -12,6 +12,10 @@ use line_calls::KeepAnswer;
 use line_calls::PlanAnswer;
 use refusal::Refusal;
 
+mod junior_call;
+
+pub use junior_call::junior_outcome;
+
 // A call's refusal, and up to three counts.
 pub struct Outcome {
     pub refusal: Refusal,
