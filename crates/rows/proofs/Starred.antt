@@ -20,10 +20,14 @@ use Rattle.call_refusals.specs.State.{stageRefusal, stateRefusal}
 use Rattle.call_refusals.specs.Calls.{addRefusal, keepRefusal, mountedRefusal, planRefusal, bestRefusal, writeRefusal}
 use Rattle.goals.specs.Check.{entry, isValid, bounds}
 use Rattle.checking.specs.Checking.{claimRefusal, tableOk, checkRefusal}
+use Rattle.call_refusals.specs.Junior.{juniorRefusal}
+use Rattle.holders.specs.Holders.{isServed, firstTip, secondTip, juniorPlan, linePlan, chosen, score, isChoice, serves, twoPlan, toFirst, gathered}
 use Rattle.line_calls.specs.Lines
+use Rattle.line_calls.specs.Junior as LinesJunior
 use Rattle.board.specs.Board.{noSets, noQuantities, addOf, closeOf}
 use Rattle.board.specs.Common.{commonOf, keepOf}
 use Rattle.board.specs.Sharing.{quickOf, quickBuffer, bestOf, bestBuffer, bestTable}
+use Rattle.board.specs.Junior.{juniorOf, juniorBuffer}
 use Rattle.board.specs.JobFile.{readOf, writeOf, writeBuffer}
 use Rattle.board.specs.Check.{checkOf}
 use Rattle.rows.specs.Rows.{run, rows, Gives, HalfReached}
@@ -37,6 +41,8 @@ use Rattle.rows.specs.Rows.{B27-common, B27-best, B31-best, B32-best, B3
 use Rattle.rows.specs.Rows.{B36-best-1, B36-best-2, B37-quick, B37-best, B38-quick, B39-none, B39-best, B40-quick, B40-best, B41-quick}
 use Rattle.rows.specs.Rows.{B41-best, B41-open, B42-check, B43-foreign, B43-64, B43-255, B44-more, B44-most, B45-whole, B45-less, B46-exact}
 use Rattle.rows.specs.Rows.{B46-less, B46-huge, B47-huge, B48-open, B48-short, B48-few, B48-run, B48-none}
+use Rattle.rows.specs.Rows.{B56-junior, B57-tied, B57-later, B58-first, B58-second, B58-equal, B59-junior, B60-junior, B61-junior}
+use Rattle.rows.specs.Rows.{B62-most, B62-over, B63-most, B63-over, B63-both, B64-none, B64-rack, B65-open, B65-short}
 
 pub starred : All Gives rows
 unfolding run addOf closeOf commonOf keepOf quickOf quickBuffer bestOf bestBuffer bestTable checkOf Lines.checkOf checkRefusal claimRefusal
@@ -47,6 +53,8 @@ unfolding run addOf closeOf commonOf keepOf quickOf quickBuffer bestOf bestBuffe
     listOf bestPlanQ bestTip tipBy pickOf worth from named C most lies inside low high choose2 leadingZeros trailingZeros fills isRunOf readOf
     writeOf writeBuffer Lines.writeOf Lines.writeBuffer writeRefusal readRefusal headerNumber startNumber sizeNumber versionOk lineNumbers setsIn
     quantitiesIn numberAt numberOf bytesOf lineLength headerOf lineOf bytesOfLines fileOf versionFor paired noSets noQuantities
+    juniorOf juniorBuffer LinesJunior.juniorOf LinesJunior.juniorBuffer LinesJunior.juniorRefusal juniorRefusal isServed firstTip secondTip
+    juniorPlan linePlan chosen score isChoice serves twoPlan toFirst gathered
 starred =
     more {x = B1-common} refl
     (more {x = B1-keep} refl
@@ -138,7 +146,25 @@ starred =
     (more {x = B48-short} refl
     (more {x = B48-few} refl
     (more {x = B48-run} refl
-    (more {x = B48-none} refl none))))))))))))))))))))))))))))))))))))))))))))))))))))))))))))))))))))))))))))))))))))))))))
+    (more {x = B48-none} refl
+    (more {x = B56-junior} refl
+    (more {x = B57-tied} refl
+    (more {x = B57-later} refl
+    (more {x = B58-first} refl
+    (more {x = B58-second} refl
+    (more {x = B58-equal} refl
+    (more {x = B59-junior} refl
+    (more {x = B60-junior} refl
+    (more {x = B61-junior} refl
+    (more {x = B62-most} refl
+    (more {x = B62-over} refl
+    (more {x = B63-most} refl
+    (more {x = B63-over} refl
+    (more {x = B63-both} refl
+    (more {x = B64-none} refl
+    (more {x = B64-rack} refl
+    (more {x = B65-open} refl
+    (more {x = B65-short} refl none))))))))))))))))))))))))))))))))))))))))))))))))))))))))))))))))))))))))))))))))))))))))))))))))))))))))))))
 
 pub half-reached : HalfReached
 unfolding has pairs uses count
