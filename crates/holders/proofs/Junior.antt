@@ -68,7 +68,9 @@ in-rack {m} (more d ds) (line {s} {t} h w) x y o = inl (⊎-elim level two (le-o
     two : x < y → y < m
     two l =
         ⊎-elim
-        (λ g. absurd (omega (arith, o .used l .1, uses-none y (all-map (λ z b a. omega (arith, has-below m z y (b .below) a)) (more d ds)) (line h w))))
+        (λ g.
+        let outside = all-map (λ z b a. omega (arith, has-below m z y (b .below) a)) (more d ds) in
+        absurd (omega (arith, o .used l .1, uses-none y outside (line h w))))
         (λ g. g)
         (le-or-lt m y)
 
@@ -111,7 +113,8 @@ module _ {m : ℕ} {qs sets : List ℕ} (good : GoodLines m qs sets) where
       used = λ l. let (g, h) = p .tips .used l in
           (used-line qs (linePlan qs sets u v) u (rw line-plan g), used-line qs (linePlan qs sets u v) v (rw line-plan h));
     };
-    most = λ x y other w o. rw line-plan (⊎-elim (λ l. at-most x y other w o l) (λ z. at-most 0 0 other w z (good .some)) (in-rack (good .domains) w x y o));
+    most = λ x y other w o. rw line-plan
+        (⊎-elim (λ l. at-most x y other w o l) (λ z. at-most 0 0 other w z (good .some)) (in-rack (good .domains) w x y o));
     lowest = λ x y other w o e. ⊎-elim (λ l. at-least x y other w o l e)
         (λ z. ⊎-elim (λ h. absurd (omega arith)) (λ (h, k). from-zero x y h k) (at-least 0 0 other w z (good .some) e))
         (in-rack (good .domains) w x y o);

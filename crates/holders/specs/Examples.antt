@@ -6,7 +6,8 @@ use mathlib.Core.List.{List, [], _∷_}
 use Rattle.model.specs.Count.{count, each, lowestAt}
 use Rattle.model.specs.Plan.{has, uses, pairs}
 use Rattle.placements.specs.Repeated.{repeated}
-use Rattle.holders.specs.Holders.{serves, gathered, toFirst, twoPlan, isChoice, score, chosen, isServed, linePlan, firstTip, secondTip, juniorPlan}
+use Rattle.holders.specs.Holders.{serves, gathered, toFirst, twoPlan, isChoice, score, chosen, isServed}
+use Rattle.holders.specs.Holders.{linePlan, firstTip, secondTip, juniorPlan}
 
 abbrev tips : ℕ → List ℕ → List ℕ → List ℕ
 tips m qs sets = firstTip m qs sets ∷ secondTip m qs sets ∷ juniorPlan m qs sets

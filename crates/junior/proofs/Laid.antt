@@ -47,6 +47,7 @@ module _ (m : ℕ) (qs lines : List ℕ) {tips : Tips} (found : tips ≡ tipsOf 
     answer-some = rw (served, found) (ap (λ p. record { served = true; pairs = p; u = firstTip m qs lines; v = secondTip m qs lines })
         (omega (arith, junior-score good (T-true served))))
 
-    pub plan-some : (old : List ℕ) → cond (tips .first) (gathered lines (tips .u) (tips .v)) (gathered lines (tips .v) (tips .u)) ≡ planOf m qs lines old
+    pub plan-some : (old : List ℕ)
+        → cond (tips .first) (gathered lines (tips .u) (tips .v)) (gathered lines (tips .v) (tips .u)) ≡ planOf m qs lines old
     unfolding planOf tipsOf juniorPlan linePlan
     plan-some old = rw (served, found) refl

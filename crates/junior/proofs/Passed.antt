@@ -32,7 +32,9 @@ module _ {m : ℕ} {qs lines : List ℕ} (good : GoodLines m qs lines) (u v i : 
   pub given-up : v < m → i < length lines → serves lines u v ≡ serves (drop i lines) u v → (has (getD lines i 0) u || has (getD lines i 0) v) ≡ false
       → score m (repeated qs lines) (u * m + v) ≡ 0
   unfolding serves each
-  given-up b l h none = score-unserved (repeated qs lines) u v b (λ s. rw unserved at (serves-iff lines u v .1 (all-once (good .placed) lines (good .same) s)))
+  given-up b l h none =
+      score-unserved (repeated qs lines) u v b
+      (λ s. rw unserved at (serves-iff lines u v .1 (all-once (good .placed) lines (good .same) s)))
     where
       unserved : serves lines u v ≡ false
       unserved = h ∙ each-rest (λ s. has s u || has s v) lines i l ∙ rw none

@@ -105,7 +105,8 @@ module _ (earlier : Refusal) (m : ℕ) (qs lines old : List ℕ) where
       some t =
           let z : r .number ≡ 0 = rw told (rw t refl) in
           let j = junior good (T-true t) in
-          let f : found ≡ record { served = true; pairs = pairs (repeated qs laid); u = firstTip m qs lines; v = secondTip m qs lines } = is ∙ rw t refl in
+          let counted = pairs (repeated qs laid) in
+          let f : found ≡ record { served = true; pairs = counted; u = firstTip m qs lines; v = secondTip m qs lines } = is ∙ rw t refl in
           let p : out ≡ laid = plan ∙ rw t refl in
           let front = take-at laid (drop n old) (length lines) (valid-length (j .own)) in
           rw (f, p) (

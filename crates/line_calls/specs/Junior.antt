@@ -34,9 +34,9 @@ juniorOf earlier m qs lines room =
 unfoldable pub juniorBuffer : Refusal → ℕ → List ℕ → List ℕ → List ℕ → List ℕ
 juniorBuffer earlier m qs lines plan = lentBy (juniorRefusal earlier m qs lines (length plan)) (length lines) (juniorPlan m qs lines) plan
 
--- the rule, of the bytes in the buffer, where asked is the number refused before tips are sought. Where the number is 0, the plan is handed out, and it is
--- on u alone or on u and v, each with a line; no valid plan on one tip or two has more placement pairs, and none with as many is on a lower u, or on
--- u and a lower v. And 31 is told exactly where no valid plan is on one tip or two
+-- the rule, of the bytes in the buffer, where asked is the number refused before tips are sought. Where the number is 0, the plan is handed out, on u
+-- alone or on u and v, each with a line; no valid plan on one tip or two has more placement pairs, and none with as many is on a lower u, or on u and
+-- a lower v. And 31 is told exactly where no valid plan is on one tip or two
 pub record JuniorRule (asked : ℕ) (qs lines buffer : List ℕ) (number shared u v : ℕ) : Type 0 where
   pub plan : number ≡ 0 → HandedOut qs lines buffer shared
   pub tips : number ≡ 0 → OnTips u v (take (length lines) buffer)

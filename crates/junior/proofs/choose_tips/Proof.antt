@@ -159,10 +159,11 @@ loop2-again c =
     let p = c .before .before in
     let r = p .before .before .before .before .before in
     let l = r .before in
-    let here = r .loop2-test .taken in (
+    let here = r .loop2-test .taken in
+    let one = passes (p .before .before .before .has-one .ensures) (p .before .before .if1 .left) in (
       search needs,
       l .loop2 .inv .1,
-      served-more (good l) (u l) (v l) (i l) here (l .loop2 .inv .2) (passes (p .before .before .before .has-one .ensures) (p .before .before .if1 .left)),
+      served-more (good l) (u l) (v l) (i l) here (l .loop2 .inv .2) one,
       counted-more (good l) (u l) (v l) (i l) here (u l) (l .loop2 .inv .3) (p .placed .ensures) .0,
       counted-more (good l) (u l) (v l) (i l) here (v l) (l .loop2 .inv .4) (c .placed2 .ensures) .0,
     )
@@ -194,12 +195,15 @@ tips-again-2 c =
     let l = e .before in
     let inv = l .loop2 .inv in
     let all = s l .pre .1 in
-    let scored = a .score .ensures ∙ passed-score (good l) (u l) (v l) (i l) (e .loop2-test .left) (inside l) (ordered l) all (inv .2) (inv .3) (inv .4) in
-    let side = passed-side (good l) (u l) (v l) (i l) (e .loop2-test .left) all (inv .2) (inv .3) (inv .4) in (
+    let last = e .loop2-test .left in
+    let is = passed-score (good l) (u l) (v l) (i l) last (inside l) (ordered l) all (inv .2) (inv .3) (inv .4) in
+    let scored = a .score .ensures ∙ is in
+    let side = passed-side (good l) (u l) (v l) (i l) last all (inv .2) (inv .3) (inv .4) in (
       omega (arith, ordered l),
       omega (arith, inside l),
       rw (sym (next l)) (⊎-elim
-          (λ w. rw (w .1) (sought-moves (u l) (v l) (sought l) (inside l) scored (w .0 .taken) (rw (p .before .side-pairs .ensures, p .side-pairs2 .ensures) side)))
+          (λ w. rw (w .1) (sought-moves (u l) (v l) (sought l) (inside l) scored (w .0 .taken)
+          (rw (p .before .side-pairs .ensures, p .side-pairs2 .ensures) side)))
           (λ w. rw (w .1) (sought-stays (sought l) (omega (arith, scored, w .0 .left))))
           (c .if2 .came)),
     )

@@ -10,7 +10,11 @@ use Rattle.junior.proofs.score.Tie as tie
 
 -- one tip, or two that each get a line
 choice : (c : tie.Joined1) → let a = c .before .args in (a .same ≡ true) ⊎ ((a .with-u < a .all) × (a .with-v < a .all))
-choice c = ⊎-elim (λ w. inr (omega (arith, c .before .pre, w .1 .left), omega (arith, c .before .pre, w .2 .left))) (λ w. inl (passes refl (w .left))) (c .if1 .came)
+choice c =
+    ⊎-elim
+    (λ w. inr (omega (arith, c .before .pre, w .1 .left), omega (arith, c .before .pre, w .2 .left)))
+    (λ w. inl (passes refl (w .left)))
+    (c .if1 .came)
 
 returns : tie.Need-returns
 returns c =

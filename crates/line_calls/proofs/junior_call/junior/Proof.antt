@@ -23,7 +23,8 @@ by-count : (c : tie.After-junior-refusal)
 by-count c =
     let s = begun c in
     let a = s .args in
-    by-lines (a .earlier) (a .rack) (take (a .count) (a .quantities .now)) (take (a .count) (a .sets .now)) (a .plan .now) (c .junior-refusal .ensures) (λ z. sym (length-take-le _ _ (s .pre .room z)))
+    by-lines (a .earlier) (a .rack) (take (a .count) (a .quantities .now)) (take (a .count) (a .sets .now)) (a .plan .now)
+    (c .junior-refusal .ensures) (λ z. sym (length-take-le _ _ (s .pre .room z)))
 
 junior-refusal-requires : tie.Need-junior-refusal-requires
 junior-refusal-requires c κs = search needs

@@ -40,7 +40,8 @@ returns-2 c =
     let long = d .if1 .left in
     let four = put .put-answer .ensures in
     let (outcome, (out, rule)) = asked .junior-outcome .ensures in
-    let seen-rule = subst (JuniorRuleOf (s .args .file .now) (length (s .args .plan .now)) (asked .junior-outcome .last .1 .0)) (seen-is outcome old long four) rule in
+    let Rule = JuniorRuleOf (s .args .file .now) (length (s .args .plan .now)) (asked .junior-outcome .last .1 .0) in
+    let seen-rule = subst Rule (seen-is outcome old long four) rule in
     (number-long outcome old long four, (answer-long outcome old long four, (out ∙ if-long old _ _ long, λ _. seen-rule)))
 
 pub tipshare-junior-spec : {M : Type 1} → statement M
