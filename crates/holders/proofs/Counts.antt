@@ -8,14 +8,14 @@ use mathlib.Core.List.{List, [], _∷_}
 use lib.Arith.{digits-div, digits-mod}
 use lib.ListN.{length}
 use lib.Dec.{T, T-not, leb, ltb, eqb, eqb→eq, eqb-refl, ltb→lt, lt→ltb, leb→le, nleb→lt}
-use Rattle.model.specs.Count.{count, All}
-use Rattle.model.specs.Plan.{has, occ, Valid, pairs, choose2}
-use Rattle.model.proofs.Tests.{le-or-lt, test, false-T, false-not, same-test, and-left, and-right, and-in, cond-case}
+use Rattle.model.specs.Count.{count}
+use Rattle.model.specs.Plan.{has, occ, pairs, choose2}
+use Rattle.model.proofs.Tests.{le-or-lt, test, false-not, same-test, and-left, and-right, and-in, cond-case}
 use Rattle.model.proofs.Lists.{all-map}
 use Rattle.model.proofs.Pairs.{choose2-square}
 use Rattle.model.proofs.Valid.{valid-length}
-use Rattle.holders.specs.Holders.{serves, gathered, toFirst, twoPlan, isChoice, score, sidePairs, scoreBy}
-use Rattle.holders.proofs.Two.{On, pairs-one, or-in, or-out, Served, serves-iff, served-swap, gathered-valid, gathered-on, gathered-pairs}
+use Rattle.holders.specs.Holders.{gathered, toFirst, twoPlan, isChoice, score, sidePairs, scoreBy}
+use Rattle.holders.proofs.Two.{pairs-one, or-in, or-out, Served, served-swap, gathered-valid, gathered-on, gathered-pairs}
 use Rattle.holders.proofs.Choice.{count-all, choice-iff, choice-lacks}
 
 -- the lines without a tip, and those that have it

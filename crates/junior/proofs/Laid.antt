@@ -1,18 +1,16 @@
 -- What the plan's call answers and leaves, from the tips that were chosen.
-use Prim.Native.Nat.{ℕ, _+_, _-_, _≤_, _<_}
+use Prim.Native.Nat.{ℕ, _-_, _<_}
 use native.Mathlib.Omega.{arith}
-use mathlib.Core.Path.{_≡_, refl, sym, ap, _∙_}
-use mathlib.Core.Bool.{Bool, true, false, cond}
+use mathlib.Core.Path.{_≡_, refl, ap}
+use mathlib.Core.Bool.{true, false, cond}
 use mathlib.Core.List.{List}
-use lib.Dec.{T, ltb, lt→ltb}
 use borrow.Author.Tests.{lt-ltb, le-ltb}
 use Rattle.model.proofs.Tests.{T-true}
 use Rattle.placements.specs.Repeated.{repeated}
 use Rattle.placements.specs.Good.{GoodLines}
-use Rattle.holders.specs.Holders.{gathered, toFirst, isServed, score, chosen, linePlan, firstTip, secondTip, juniorPlan}
+use Rattle.holders.specs.Holders.{gathered, isServed, score, chosen, linePlan, firstTip, secondTip, juniorPlan}
 use Rattle.holders.proofs.Junior.{junior-score, junior-rack}
 use Rattle.junior.specs.declared.Tips.{Tips}
-use Rattle.junior.specs.declared.Found.{Found}
 use Rattle.junior.specs.Found.{tipsOf, foundOf, planOf}
 
 module _ (m : ℕ) (qs lines : List ℕ) {tips : Tips} (found : tips ≡ tipsOf m qs lines) where

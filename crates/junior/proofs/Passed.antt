@@ -1,7 +1,7 @@
 -- The lines passed for one choice of tips: given up at a line that has neither, or at the end the counts and the score.
 use Prim.Native.Nat.{ℕ, _+_, _*_, _≤_, _<_}
 use native.Mathlib.Omega.{arith}
-use mathlib.Core.Path.{_≡_, refl, sym, ap, _∙_}
+use mathlib.Core.Path.{_≡_, sym, _∙_}
 use mathlib.Core.Bool.{true, false, cond, _||_}
 use mathlib.Core.List.{List}
 use lib.Dec.{leb, eqb}

@@ -3,12 +3,12 @@ use Prim.Native.Nat.{ℕ, zero, suc, _+_, _*_, _/_, _%_, _≤_, _<_}
 use native.Mathlib.Omega.{arith}
 use native.Mathlib.Nat.{le-refl}
 use native.Mathlib.Numerals.{add-one}
-use mathlib.Core.Path.{_≡_, refl, sym, ap, subst, _∙_}
+use mathlib.Core.Path.{_≡_, refl, sym, ap, _∙_}
 use mathlib.Core.Bool.{Bool, true, false, cond}
 use mathlib.Core.List.{List, [], _∷_}
 use lib.Arith.{digits-lt, digits-div, digits-mod}
 use lib.Dec.{leb, le→leb}
-use lib.ListN.{length, take}
+use lib.ListN.{take}
 use Rattle.model.specs.Count.{largest, lowestAt}
 use Rattle.model.specs.Plan.{pairs}
 use Rattle.model.proofs.Tests.{true-T}

@@ -1,15 +1,14 @@
 // The Junior with two holders over slices: the search for its one tip or two, and its plan.
 ghost use mathlib.Core.Path.{_≡_};
 ghost use mathlib.Core.Bool.{cond, _||_};
-ghost use mathlib.Core.List.{List};
 ghost use Prim.Native.Nat.{_≤_, _<_};
 ghost use lib.ListN.{length};
 ghost use Rattle.model.specs.Limits.{mostTips, mostPlacements};
 ghost use Rattle.model.specs.Plan.{has};
-ghost use Rattle.placements.specs.Repeated.{total, repeated};
+ghost use Rattle.placements.specs.Repeated.{total};
 ghost use Rattle.placements.specs.Good.{GoodLines};
 ghost use Rattle.pair_count.specs.PairTable.{PairTable};
-ghost use Rattle.holders.specs.Holders.{isServed, gathered, sidePairs, scoreBy};
+ghost use Rattle.holders.specs.Holders.{gathered, sidePairs, scoreBy};
 ghost use Rattle.junior.specs.Found.{tipsOf, foundOf, planOf};
 
 // The score is one more than the plan's pairs, and 0 where no tips serve every line; `first` says that the lines that have both go to u.
@@ -58,7 +57,7 @@ fn side_pairs(pairs: &[u32], all: u32, on: u32) -> u32
 }
 
 // Two different tips are a choice only where each gets a line: some lack u, and some lack v.
-fn score(same: bool, all: u32, with_u: u32, with_v: u32, to_u: u32, to_v: u32) -> u32
+fn score_of(same: bool, all: u32, with_u: u32, with_v: u32, to_u: u32, to_v: u32) -> u32
     requires { ⌜ («to_u» ≡ sidePairs all «with_u») × («to_v» ≡ sidePairs all «with_v»)
         × («with_u» ≤ all) × («with_v» ≤ all) × (all ≤ mostPlacements) ⌝ }
     ensures { λ r. ⌜ r ≡ scoreBy same all «with_u» «with_v» ⌝ }
@@ -102,7 +101,7 @@ fn choose_tips(m: usize, pairs: &[u32], lines: &[u64], quantities: &[u8], all: u
             }
             let to_u = side_pairs(pairs, all, with_u);
             let to_v = side_pairs(pairs, all, with_v);
-            let score = score(u == v, all, with_u, with_v, to_u, to_v);
+            let score = score_of(u == v, all, with_u, with_v, to_u, to_v);
             if best.score < score {
                 best = Tips {
                     score,
@@ -116,24 +115,24 @@ fn choose_tips(m: usize, pairs: &[u32], lines: &[u64], quantities: &[u8], all: u
     best
 }
 
-fn tip_for(set: u64, first: usize, second: usize) -> u8
-    requires { ⌜ (first < mostTips) × (second < mostTips) ⌝ }
-    ensures { λ r. ⌜ r ≡ cond (has set first) first second ⌝ }
+fn tip_for(set: u64, tip: usize, other: usize) -> u8
+    requires { ⌜ (tip < mostTips) × (other < mostTips) ⌝ }
+    ensures { λ r. ⌜ r ≡ cond (has set tip) tip other ⌝ }
 {
-    if tips::has_tip(set, first) {
-        return first as u8;
+    if tips::has_tip(set, tip) {
+        return tip as u8;
     }
-    second as u8
+    other as u8
 }
 
-// The lines that have the first tip on it, and the others on the second.
-fn lay_lines(first: usize, second: usize, lines: &[u64], plan: &mut [u8])
-    requires { ⌜ (first < mostTips) × (second < mostTips) × (length (now plan) ≡ length (now lines)) ⌝ }
-    ensures { λ _. ⌜ now (plan .exit) ≡ gathered (now (lines .entry)) first second ⌝ }
+// The lines that have the tip on it, and the others on the other one.
+fn lay_lines(tip: usize, other: usize, lines: &[u64], plan: &mut [u8])
+    requires { ⌜ (tip < mostTips) × (other < mostTips) × (length (now plan) ≡ length (now lines)) ⌝ }
+    ensures { λ _. ⌜ now (plan .exit) ≡ gathered (now (lines .entry)) tip other ⌝ }
 {
     let mut i = 0;
     while i < lines.len() {
-        plan[i] = tip_for(lines[i], first, second);
+        plan[i] = tip_for(lines[i], tip, other);
         i += 1;
     }
 }

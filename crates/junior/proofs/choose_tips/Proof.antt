@@ -4,15 +4,14 @@ use mathlib.Core.List.{List}
 use Rattle.model.specs.Limits.{mostPlacements}
 use Rattle.model.proofs.Tests.{fails, passes}
 use Rattle.placements.specs.Good.{GoodLines}
-use Rattle.junior.proofs.Passed.{served-more, given-up, counted-more, served-all, counted-all, passed-score, passed-side}
+use Rattle.junior.proofs.Passed.{served-more, given-up, counted-more, passed-score, passed-side}
 use native.Mathlib.Omega.{arith}
 use mathlib.Core.Path.{_≡_, refl, sym, ap, subst, _∙_}
 use mathlib.Core.Logic.{⊎-elim}
-use lib.Dec.{T, eqb}
 use lib.ListN.{length, take, drop}
 use borrow.Author.Needs.{needs}
-use Rattle.model.specs.Plan.{has, occ}
-use Rattle.placements.specs.Repeated.{repeated, weighted}
+use Rattle.model.specs.Plan.{has}
+use Rattle.placements.specs.Repeated.{weighted}
 use Rattle.holders.specs.Holders.{serves}
 use Rattle.junior.proofs.Search.{part-le, Sought, sought-none, sought-stays, sought-moves, sought-skip, sought-all}
 use Rattle.junior.proofs.choose_tips.Statement.{statement}
@@ -176,8 +175,8 @@ side-pairs-requires-2 :
     tie.Need-side-pairs-requires-2 Inv-loop2 μ-loop2 Inv-tips μ-tips Inv-loop μ-loop
 side-pairs-requires-2 c κs = let l = c .before .before in (s l .pre .2, counts l .1, counts l .2)
 
-score-requires : tie.Need-score-requires Inv-loop2 μ-loop2 Inv-tips μ-tips Inv-loop μ-loop
-score-requires c κs =
+score-of-requires : tie.Need-score-of-requires Inv-loop2 μ-loop2 Inv-tips μ-tips Inv-loop μ-loop
+score-of-requires c κs =
     let (p, q, n) = counts (c .before .before .before) in
     (c .before .side-pairs .ensures, c .side-pairs2 .ensures, p, q, n)
 
@@ -197,7 +196,7 @@ tips-again-2 c =
     let all = s l .pre .1 in
     let last = e .loop2-test .left in
     let is = passed-score (good l) (u l) (v l) (i l) last (inside l) (ordered l) all (inv .2) (inv .3) (inv .4) in
-    let scored = a .score .ensures ∙ is in
+    let scored = a .score-of .ensures ∙ is in
     let side = passed-side (good l) (u l) (v l) (i l) last all (inv .2) (inv .3) (inv .4) in (
       omega (arith, ordered l),
       omega (arith, inside l),
@@ -259,7 +258,7 @@ choose-tips-spec =
     loop2-again
     side-pairs-requires
     side-pairs-requires-2
-    score-requires
+    score-of-requires
     add-v-2
     tips-less-2
     tips-again-2

@@ -12,11 +12,11 @@ use Rattle.junior.proofs.lay_lines.Statement.{statement}
 use Rattle.junior.proofs.lay_lines.Tie as tie
 
 abbrev Inv-loop : tie.InvT-loop
-Inv-loop first second lines plan₀ i₀ plan i =
-    (i ≤ length lines) × (length plan ≡ length plan₀) × (plan ≡ map (prefer first (λ s. second)) (take i lines) ++ drop i plan₀)
+Inv-loop tip other lines plan₀ i₀ plan i =
+    (i ≤ length lines) × (length plan ≡ length plan₀) × (plan ≡ map (prefer tip (λ s. other)) (take i lines) ++ drop i plan₀)
 
 abbrev μ-loop : tie.MeasureT-loop
-μ-loop first second lines plan₀ i₀ plan i = length lines - i
+μ-loop tip other lines plan₀ i₀ plan i = length lines - i
 
 -- the call's start, from the loop
 abbrev called : tie.At-loop Inv-loop μ-loop → tie.Start Inv-loop μ-loop
@@ -47,7 +47,7 @@ loop-again : tie.Need-loop-again Inv-loop μ-loop
 loop-again c =
     let l = c .before .before .before in
     let a = called l .args in
-    let more = map-more (prefer (a .first) (λ s. a .second)) (a .lines .now) (a .plan .now) (l .loop .i) (omega arith) (omega arith) in
+    let more = map-more (prefer (a .tip) (λ s. a .other)) (a .lines .now) (a .plan .now) (l .loop .i) (omega arith) (omega arith) in
     (search needs, simp length-set (omega arith), rw (c .tip-for .ensures, l .loop .inv .2) more)
 
 same-length : tie.Need-same-length Inv-loop μ-loop

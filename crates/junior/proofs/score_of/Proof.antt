@@ -1,12 +1,12 @@
 use native.Mathlib.Omega.{arith}
-use mathlib.Core.Path.{_≡_, refl, sym, _∙_}
+use mathlib.Core.Path.{_≡_, refl}
 use mathlib.Core.Logic.{_⊎_, inl, inr, ⊎-elim}
 use mathlib.Core.Bool.{true}
 use Prim.Native.Nat.{_<_}
 use Rattle.model.proofs.Tests.{fails, passes}
 use Rattle.junior.proofs.Sides.{side-few, score-full, score-some}
-use Rattle.junior.proofs.score.Statement.{statement}
-use Rattle.junior.proofs.score.Tie as tie
+use Rattle.junior.proofs.score_of.Statement.{statement}
+use Rattle.junior.proofs.score_of.Tie as tie
 
 -- one tip, or two that each get a line
 choice : (c : tie.Joined1) → let a = c .before .args in (a .same ≡ true) ⊎ ((a .with-u < a .all) × (a .with-v < a .all))
@@ -46,5 +46,5 @@ returns-4 c =
     let s = c .before .before in
     omega (arith, s .pre, c .if4 .left, score-some (s .args .all) (s .args .with-u) (s .args .with-v) (choice (c .before)))
 
-pub score-spec : {M : Type 1} → statement M
-score-spec = tie.close (tie.spec returns returns-2 add-result returns-3 add-result-2 returns-4)
+pub score-of-spec : {M : Type 1} → statement M
+score-of-spec = tie.close (tie.spec returns returns-2 add-result returns-3 add-result-2 returns-4)
