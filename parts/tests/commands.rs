@@ -463,7 +463,7 @@ fn goal_writes_the_job_file_and_the_list() {
     let list = b"# board\nrack 2\nA x2 : 0\nB : 0-1 # either\n";
     let text = b"best 3 goal 3\nB keeps 0 struck 1\nno tip struck from 1 part\n";
     assert_eq!(run(&["goal", "3", "-", &job, "--list", &kept], list), given(text));
-    assert_eq!(fs::read(&kept).unwrap(), b"# board\nrack 2\nA x2 : 0\nB : 0 # either\n");
+    assert_eq!(fs::read(&kept).unwrap(), b"# board\nrack 2\nA x2 : 0\nB : 0   # either\n");
     assert_eq!(run(&["show", &job], b""), given(b"rack 2\n0 x2 : 0\n1 : 0\n"));
     let why = "-: refused 34: no plan has 4 pairs; the most is 3, name a goal from 0 to 3";
     assert_eq!(run(&["goal", "4", "-", &job], list), refused(why));
