@@ -21,7 +21,7 @@ constexpr size_t kMostCalls = 1 << 20;
 constexpr size_t kFilesCounted = 8;
 /* A call that takes longer than a batch is made on so many files, and in fewer rounds: about so many nanoseconds. */
 constexpr size_t kFilesOfSlow = 3;
-constexpr double kSlowRounds = 2e9;
+constexpr double kSlowRounds = 5e8;
 
 /* One implementation of include/tipshare.h. */
 struct Library {
