@@ -24,7 +24,7 @@
  *
  * Every length counts elements, not bytes. No pointer may be null, not even
  * with length 0, each is good for its length, and no two buffers of one call
- * may overlap. A call needs up to 70 KB of stack, tipshare_goal up to 110 KB
+ * may overlap. A call needs up to 70 KB of stack, tipshare_goal up to 90 KB
  * (docs/PERFORMANCE.md), and keeps nothing after it returns, so calls on
  * different buffers may run at one time. The rules in full are in
  * docs/RULES.md.
