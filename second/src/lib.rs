@@ -7,6 +7,7 @@ mod board;
 mod checking;
 mod common;
 mod goal;
+mod junior;
 mod report;
 mod sharing;
 mod trying;
@@ -19,6 +20,7 @@ pub use board::{Answer, Board, Line, Stage, MOST_LINES, MOST_PLACEMENTS, MOST_TI
 pub use checking::TableFault;
 pub use common::CommonTip;
 pub use file::{read, Version, LONGEST_FILE};
+pub use junior::{Junior, JUNIOR_LINES, JUNIOR_TIPS};
 pub use report::{report, LONGEST_INPUT};
 pub use sharing::pairs_in;
 pub use trying::{number_of_plans, try_every_plan, Tried};

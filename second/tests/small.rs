@@ -10,23 +10,23 @@ mod every_plan;
 #[test]
 fn every_small_board() {
     let mut boards = 0;
-    for (rack, most_lines) in [(1, 6), (2, 5), (3, 4), (4, 3), (5, 2), (6, 2)] {
+    for (rack, most_lines) in [(1, 6), (2, 5), (3, 4), (4, 3), (5, 2)] {
         for lines in 0..=most_lines {
             boards += every_board(rack, &single(&all_sets(rack)), lines, &mut check);
         }
     }
-    assert_eq!(boards, 7 + 364 + 2801 + 3616 + 993 + 4033);
+    assert_eq!(boards, 7 + 364 + 2801 + 3616 + 993);
 }
 
 #[test]
 fn every_small_board_of_runs() {
     let mut boards = 0;
-    for (rack, most_lines) in [(3, 5), (4, 4), (5, 3), (6, 3)] {
+    for (rack, most_lines) in [(3, 5), (4, 4), (5, 3), (6, 2)] {
         for lines in 0..=most_lines {
             boards += every_board(rack, &single(&all_runs(rack)), lines, &mut check);
         }
     }
-    assert_eq!(boards, 9331 + 11111 + 3616 + 9724);
+    assert_eq!(boards, 9331 + 11111 + 3616 + 463);
 }
 
 #[test]
