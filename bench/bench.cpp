@@ -34,20 +34,21 @@ struct Library {
     decltype(&tipshare_quick) quick;
     decltype(&tipshare_best) best;
     decltype(&tipshare_check) check;
+    decltype(&tipshare_junior) junior;
     decltype(&tipshare_report) report;
 };
 
 const Library kLibraries[] = {
     {"tipshare", "proved", tipshare_read, tipshare_common, tipshare_keep, tipshare_goal, tipshare_quick,
-     tipshare_best, tipshare_check, tipshare_report},
+     tipshare_best, tipshare_check, tipshare_junior, tipshare_report},
     {"baseline", "same steps", baseline_read, baseline_common, baseline_keep, baseline_goal, baseline_quick,
-     baseline_best, baseline_check, baseline_report},
+     baseline_best, baseline_check, baseline_junior, baseline_report},
     {"tuned", "tuned", tuned_read, tuned_common, tuned_keep, tuned_goal, tuned_quick, tuned_best, tuned_check,
-     tuned_report},
+     tuned_junior, tuned_report},
 };
 constexpr size_t kNumber = std::size(kLibraries);
 
-enum class Call { read, common, keep, goal, quick, best, check, report };
+enum class Call { read, common, keep, goal, quick, best, check, junior, report };
 
 struct NamedCall {
     Call call;
@@ -56,7 +57,7 @@ struct NamedCall {
 
 const NamedCall kCalls[] = {{Call::read, "read"},   {Call::common, "common"}, {Call::keep, "keep"},
                             {Call::goal, "goal"},   {Call::quick, "quick"},   {Call::best, "best"},
-                            {Call::check, "check"}, {Call::report, "report"}};
+                            {Call::check, "check"}, {Call::junior, "junior"}, {Call::report, "report"}};
 
 /* What a call can write to, lent at the lengths that always do. */
 struct Buffers {
@@ -102,6 +103,7 @@ uint64_t make_call(const Library &library, Call call, const File &file, Buffers 
     case Call::check:
         return library.check(bytes, length, file.plan.data(), file.plan.size(), file.claim, file.table.data(),
                              file.table.size(), lent.answer, places);
+    case Call::junior: return library.junior(bytes, length, lent.plan, sizeof lent.plan, lent.answer, places);
     case Call::report: return library.report(bytes, length, lent.out, sizeof lent.out);
     }
     return 0;
@@ -273,11 +275,14 @@ std::string shown(double nanoseconds)
     return digits;
 }
 
-/* A goal, best sharing and the check refuse a board with a line that is no run, so there is nothing to time. */
+/*
+ * A goal, best sharing and the check refuse a board with a line that is no run, and the Junior what it has no two tips
+ * for, so there is nothing to time.
+ */
 bool is_measured(const NamedCall &named, const Boards &boards, const Settings &settings)
 {
     const bool needs_runs = named.call == Call::goal || named.call == Call::best || named.call == Call::check;
-    return (!needs_runs || boards.runs) &&
+    return (!needs_runs || boards.runs) && (named.call != Call::junior || boards.junior) &&
            (settings.only_call.empty() || settings.only_call == named.name);
 }
 
@@ -484,7 +489,7 @@ const char kUsage[] =
     "bench [--rounds N] [--json] [--call CALL] [--board BOARD]   time the calls and print tables\n"
     "bench --callgrind CALL BOARD LIBRARY [TIMES]                make one call only, and print how often it was made\n"
     "bench --list                                                the calls and boards\n"
-    "CALL: read, common, keep, goal, quick, best, check, report. LIBRARY: tipshare, baseline, tuned.\n"
+    "CALL: read, common, keep, goal, quick, best, check, junior, report. LIBRARY: tipshare, baseline, tuned.\n"
     "With --board the tables of growth are left out.\n";
 
 int usage()

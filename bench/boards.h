@@ -26,6 +26,8 @@ struct Boards {
     size_t lines;
     size_t rack;
     bool runs;
+    /* Whether the Junior takes each of them. */
+    bool junior;
     std::vector<File> files;
 };
 

@@ -11,5 +11,6 @@ decltype(tipshare_goal) baseline_goal, tuned_goal, anew_goal;
 decltype(tipshare_quick) baseline_quick, tuned_quick;
 decltype(tipshare_best) baseline_best, tuned_best;
 decltype(tipshare_check) baseline_check, tuned_check;
+decltype(tipshare_junior) baseline_junior, tuned_junior;
 decltype(tipshare_report) baseline_report, tuned_report;
 }
