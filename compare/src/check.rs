@@ -20,11 +20,12 @@ pub enum Call {
     Quick { mounted: usize, plan: usize, answer: usize },
     Best { mounted: usize, plan: usize, table: usize, answer: usize },
     Check { claim: u32, plan: usize, table: usize, answer: usize },
+    Junior { plan: usize, answer: usize },
     Report { out: usize },
 }
 
 /// The names of the calls, in the order of their columns.
-pub const CALL_NAMES: [&str; 8] = ["read", "common", "keep", "goal", "quick", "best", "check", "report"];
+pub const CALL_NAMES: [&str; 9] = ["read", "common", "keep", "goal", "quick", "best", "check", "junior", "report"];
 
 impl Call {
     /// Where the call stands among the names.
@@ -37,7 +38,8 @@ impl Call {
             Call::Quick { .. } => 4,
             Call::Best { .. } => 5,
             Call::Check { .. } => 6,
-            Call::Report { .. } => 7,
+            Call::Junior { .. } => 7,
+            Call::Report { .. } => 8,
         }
     }
 }
@@ -97,7 +99,7 @@ impl Buffers {
         let (bytes, table, answer) = match *call {
             Call::Read { answer } | Call::Common { answer } => (0, 0, answer),
             Call::Keep { out, answer, .. } | Call::Goal { out, answer, .. } => (out, 0, answer),
-            Call::Quick { plan, answer, .. } => (plan, 0, answer),
+            Call::Quick { plan, answer, .. } | Call::Junior { plan, answer } => (plan, 0, answer),
             Call::Best { plan, table, answer, .. } | Call::Check { plan, table, answer, .. } => (plan, table, answer),
             Call::Report { out } => (out, 0, 0),
         };
@@ -128,6 +130,7 @@ macro_rules! made_by {
             Call::Quick { mounted, .. } => $module::quick(file, mounted, bytes, answer).into(),
             Call::Best { mounted, .. } => $module::best(file, mounted, bytes, table, answer).into(),
             Call::Check { claim, .. } => $module::check(file, bytes, claim, table, answer).into(),
+            Call::Junior { .. } => $module::junior(file, bytes, answer).into(),
             Call::Report { .. } => $module::report(file, bytes) as u64,
         }
     }};

@@ -13,6 +13,7 @@ use crate::damage::{first_to_pass, quantities_in};
 use crate::handed::{keeps, stopping, wrapping, Handed, Rule};
 
 mod goal;
+mod junior;
 
 /// What is wrong, and the call that is wrong in this way.
 pub type Mistake = (&'static str, Caller);
@@ -22,8 +23,9 @@ pub fn mistakes() -> impl Iterator<Item = &'static Mistake> {
     let of_calls = [OF_READING, OF_COMMON, OF_KEEP, OF_QUICK, OF_BEST, OF_ANSWERS, OF_REPORTS];
     let of_quantities = [OF_READING_QUANTITIES, OF_COUNTING_PLACEMENTS, OF_KEEPING_PLACEMENTS, OF_VERSIONS];
     let of_tips = [OF_NAMED_TIPS, OF_REFUSED_MOUNTED_TIPS, OF_MOUNTED_TIPS];
+    let of_later_calls = [goal::OF_GOALS, junior::OF_JUNIOR];
     let of_checks = [OF_CHECKED_PLANS, OF_CHECKED_TABLES, OF_ORDER_IN_CHECKS];
-    of_calls.into_iter().chain(of_quantities).chain(of_tips).chain(of_checks).chain([goal::OF_GOALS]).flatten()
+    of_calls.into_iter().chain(of_quantities).chain(of_tips).chain(of_checks).chain(of_later_calls).flatten()
 }
 
 const OF_READING: &[Mistake] = &[

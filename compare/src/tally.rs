@@ -71,9 +71,23 @@ pub enum Event {
     GoalMissedByOne,
     GoalMissedAndShortOutput,
     GoalMissedAndNoRun,
+    JuniorOfOneTip,
+    JuniorOfTwoTips,
+    JuniorToTheFirst,
+    JuniorToTheSecond,
+    JuniorEqualSides,
+    JuniorSeveralChoices,
+    JuniorLaterChoice,
+    JuniorByQuantities,
+    JuniorFewerThanQuick,
+    JuniorOf64Lines,
+    JuniorOfRack8,
+    JuniorManyLinesAndRack,
+    JuniorRackAndShortPlan,
+    JuniorShortPlanAndNoTips,
 }
 
-const EVENTS: [(Event, &str); 57] = [
+const EVENTS: [(Event, &str); 71] = [
     (Event::RackOf1, "boards with rack 1"),
     (Event::RackOf64, "boards with rack 64"),
     (Event::NoLines, "boards without lines"),
@@ -131,6 +145,20 @@ const EVENTS: [(Event, &str); 57] = [
     (Event::GoalMissedByOne, "goal of one pair more than a best plan has"),
     (Event::GoalMissedAndShortOutput, "goal that no plan meets, and a short output"),
     (Event::GoalMissedAndNoRun, "goal that no plan meets, and a line that is no run"),
+    (Event::JuniorOfOneTip, "junior with one tip for several lines"),
+    (Event::JuniorOfTwoTips, "junior with two tips"),
+    (Event::JuniorToTheFirst, "junior with lines that have both tips on the lower one, which gives more pairs"),
+    (Event::JuniorToTheSecond, "junior with lines that have both tips on the higher one"),
+    (Event::JuniorEqualSides, "junior with lines that have both tips, which give equal pairs"),
+    (Event::JuniorSeveralChoices, "junior where other tips give as many pairs"),
+    (Event::JuniorLaterChoice, "junior where lower tips serve every line with fewer pairs"),
+    (Event::JuniorByQuantities, "junior with another plan than with quantities 1"),
+    (Event::JuniorFewerThanQuick, "junior with fewer pairs than quick"),
+    (Event::JuniorOf64Lines, "junior with 64 lines"),
+    (Event::JuniorOfRack8, "junior with a rack of 8 and its last tip"),
+    (Event::JuniorManyLinesAndRack, "junior with too many lines, and too large a rack"),
+    (Event::JuniorRackAndShortPlan, "junior with too large a rack, and a short plan"),
+    (Event::JuniorShortPlanAndNoTips, "junior with a short plan, and lines that no two tips serve"),
 ];
 
 /// The counts of a run.
@@ -193,6 +221,7 @@ fn needed(column: usize) -> Vec<u32> {
         "quick" => &[4, 16, 100],
         "best" => &[4, 5, 16, 25, 100],
         "check" => &[4, 5, 19, 20, 25, 33, 100],
+        "junior" => &[4, 24, 31, 100],
         "report" => &[SHORT_REPORT],
         _ => &[100],
     };
@@ -246,9 +275,9 @@ mod tests {
     fn what_never_occurred_is_missing() {
         let mut tally = Tally::default();
         let all = tally.missing().len();
-        // 0 and reading's 10 for 8 calls, 100 for 7, the short report; keep's 11, 26, quick's 4, 16, best's 4, 5, 16, 25,
-        // the check's 4, 5, 19, 20, 25, 33, and the goal's 11, 25, 34.
-        assert_eq!(all, 8 * 11 + 7 + 1 + 8 + 6 + 3 + EVENTS.len());
+        // 0 and reading's 10 for 9 calls, 100 for 8, the short report; keep's 11, 26, quick's 4, 16, best's 4, 5, 16, 25,
+        // the check's 4, 5, 19, 20, 25, 33, the goal's 11, 25, 34, and the Junior's 4, 24, 31.
+        assert_eq!(all, 9 * 11 + 8 + 1 + 8 + 6 + 3 + 3 + EVENTS.len());
         tally.count_call(25, 5);
         tally.count_event(Event::NoLines);
         assert_eq!(tally.missing().len(), all - 2);
