@@ -113,6 +113,11 @@ pub fn check(arguments: &[&str]) -> Result<(), Failure> {
     print(checked.as_bytes())
 }
 
+pub fn junior(arguments: &[&str]) -> Result<(), Failure> {
+    let [path] = arguments else { return Err(Failure::Arguments) };
+    print(named(path, input_of(path)?.bytes)?.junior().map_err(|why| about(path, why))?.as_bytes())
+}
+
 pub fn picture(arguments: &[&str]) -> Result<(), Failure> {
     let [path] = arguments else { return Err(Failure::Arguments) };
     print(named(path, input_of(path)?.bytes)?.picture().map_err(|why| about(path, why))?.as_bytes())
