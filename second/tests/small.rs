@@ -33,13 +33,13 @@ fn every_small_board_of_runs() {
 fn every_small_board_with_quantities() {
     let mut boards = 0;
     let cases: [(usize, &[u8], usize); 4] =
-        [(1, &[1, 2, 3, 255], 3), (2, &[1, 2, 3], 4), (3, &[1, 2, 5], 3), (4, &[1, 3], 2)];
+        [(1, &[1, 2, 3, 255], 3), (2, &[1, 2, 3], 4), (3, &[1, 5], 3), (4, &[1, 3], 2)];
     for (rack, quantities, most_lines) in cases {
         for lines in 0..=most_lines {
             boards += every_board(rack, &counted(&all_sets(rack), quantities), lines, &mut check);
         }
     }
-    assert_eq!(boards, 85 + 7381 + 9724 + 931);
+    assert_eq!(boards, 85 + 7381 + 2955 + 931);
 }
 
 #[test]
