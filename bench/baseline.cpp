@@ -393,6 +393,60 @@ void strike(const Lines &lines, Quantities quantities, size_t count, uint32_t go
     }
 }
 
+/* A choice of tips for the Junior: the placements of the lines with the first alone, the second alone, and both. */
+struct Sides {
+    uint32_t first;
+    uint32_t second;
+    uint32_t both;
+
+    uint32_t on_first() const { return pairs_on(first + both) + pairs_on(second); }
+
+    uint32_t on_second() const { return pairs_on(first) + pairs_on(second + both); }
+};
+
+/* Tries each choice of tips, and gives one up at the first line that has neither. */
+template <typename Quantities>
+Junior choose_tips(const uint64_t *sets, Quantities quantities, const Job &job, uint8_t *plan)
+{
+    const unsigned rack = static_cast<unsigned>(job.rack);
+    Junior chosen{0, rack, rack};
+    bool to_first = true;
+    for (unsigned u = 0; u < rack; u++) {
+        for (unsigned v = u; v < rack; v++) {
+            Sides sides{0, 0, 0};
+            for (size_t line = 0; line < job.count; line++) {
+                const uint64_t has_u = sets[line] >> u & 1;
+                const uint64_t has_v = sets[line] >> v & 1;
+                if ((has_u | has_v) == 0) {
+                    goto next;
+                }
+                (has_u & has_v ? sides.both : has_u ? sides.first : sides.second) += quantities[line];
+            }
+            {
+                // With one tip every line has both; with two each must get a line.
+                const bool first = sides.on_first() >= sides.on_second();
+                const uint32_t pairs = first ? sides.on_first() : sides.on_second();
+                const uint32_t on_u = sides.first + (first ? sides.both : 0);
+                const uint32_t on_v = sides.second + (first ? 0 : sides.both);
+                const bool both_used = on_u != 0 && on_v != 0;
+                if ((u == v || both_used) && (chosen.u == rack || pairs > chosen.pairs)) {
+                    chosen = {pairs, u, v};
+                    to_first = first;
+                }
+            }
+        next:;
+        }
+    }
+    if (chosen.u < rack) {
+        const unsigned side = to_first ? chosen.u : chosen.v;
+        const unsigned other = to_first ? chosen.v : chosen.u;
+        for (size_t line = 0; line < job.count; line++) {
+            plan[line] = static_cast<uint8_t>((sets[line] >> side & 1) != 0 ? side : other);
+        }
+    }
+    return chosen;
+}
+
 }  // namespace
 
 extern "C" {
@@ -501,6 +555,20 @@ uint32_t baseline_check(const uint8_t *file, size_t file_len, const uint8_t *pla
     return answer_with(answer, answer_len, read, [&](const Job &job) {
         return answer_check(lines, job, {plan, plan_len, claim, table, table_len}, answer, [&](const Named &named) {
             return no_entry_too_low(Within(lines, job), named, table);
+        });
+    });
+}
+
+uint32_t baseline_junior(const uint8_t *file, size_t file_len, uint8_t *plan, size_t plan_len, uint64_t *answer,
+                         size_t answer_len)
+{
+    Lines lines;
+    const auto read = [&] { return read_sets(file, file_len, lines); };
+    return answer_with(answer, answer_len, read, [&](const Job &job) {
+        return answer_junior(job, plan_len, answer, [&] {
+            return with_quantities(job, lines.quantities, [&](auto quantities) {
+                return choose_tips(lines.sets, quantities, job, plan);
+            });
         });
     });
 }

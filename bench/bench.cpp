@@ -21,7 +21,7 @@ constexpr size_t kMostCalls = 1 << 20;
 constexpr size_t kFilesCounted = 8;
 /* A call that takes longer than a batch is made on so many files, and in fewer rounds: about so many nanoseconds. */
 constexpr size_t kFilesOfSlow = 3;
-constexpr double kSlowRounds = 2e9;
+constexpr double kSlowRounds = 5e8;
 
 /* One implementation of include/tipshare.h. */
 struct Library {
@@ -34,6 +34,7 @@ struct Library {
     decltype(&tipshare_quick) quick;
     decltype(&tipshare_best) best;
     decltype(&tipshare_check) check;
+    decltype(&tipshare_junior) junior;
     decltype(&tipshare_merge) merge;
     decltype(&tipshare_alone) alone;
     decltype(&tipshare_mend) mend;
@@ -43,17 +44,17 @@ struct Library {
 
 const Library kLibraries[] = {
     {"tipshare", "proved", tipshare_read, tipshare_common, tipshare_keep, tipshare_goal, tipshare_quick,
-     tipshare_best, tipshare_check, tipshare_merge, tipshare_alone, tipshare_mend,
-     tipshare_order, tipshare_report},
+     tipshare_best, tipshare_check, tipshare_junior, tipshare_merge, tipshare_alone,
+     tipshare_mend, tipshare_order, tipshare_report},
     {"baseline", "same steps", baseline_read, baseline_common, baseline_keep, baseline_goal, baseline_quick,
-     baseline_best, baseline_check, baseline_merge, baseline_alone, baseline_mend,
-     baseline_order, baseline_report},
+     baseline_best, baseline_check, baseline_junior, baseline_merge, baseline_alone,
+     baseline_mend, baseline_order, baseline_report},
     {"tuned", "tuned", tuned_read, tuned_common, tuned_keep, tuned_goal, tuned_quick, tuned_best, tuned_check,
-     tuned_merge, tuned_alone, tuned_mend, tuned_order, tuned_report},
+     tuned_junior, tuned_merge, tuned_alone, tuned_mend, tuned_order, tuned_report},
 };
 constexpr size_t kNumber = std::size(kLibraries);
 
-enum class Call { read, common, keep, goal, quick, best, check, merge, alone, mend, order, report };
+enum class Call { read, common, keep, goal, quick, best, check, junior, merge, alone, mend, order, report };
 
 struct NamedCall {
     Call call;
@@ -62,8 +63,9 @@ struct NamedCall {
 
 const NamedCall kCalls[] = {{Call::read, "read"},   {Call::common, "common"}, {Call::keep, "keep"},
                             {Call::goal, "goal"},   {Call::quick, "quick"},   {Call::best, "best"},
-                            {Call::check, "check"}, {Call::merge, "merge"},   {Call::alone, "alone"},
-                            {Call::mend, "mend"},   {Call::order, "order"},   {Call::report, "report"}};
+                            {Call::check, "check"}, {Call::junior, "junior"}, {Call::merge, "merge"},
+                            {Call::alone, "alone"}, {Call::mend, "mend"},     {Call::order, "order"},
+                            {Call::report, "report"}};
 
 /* What a call can write to, lent at the lengths that always do. */
 struct Buffers {
@@ -112,6 +114,7 @@ uint64_t make_call(const Library &library, Call call, const File &file, Buffers 
     case Call::check:
         return library.check(bytes, length, file.plan.data(), file.plan.size(), file.claim, file.table.data(),
                              file.table.size(), lent.answer, places);
+    case Call::junior: return library.junior(bytes, length, lent.plan, sizeof lent.plan, lent.answer, places);
     case Call::merge:
         return library.merge(file.halves[0].data(), file.halves[0].size(), file.halves[1].data(), file.halves[1].size(),
                              lent.out, job::kLongestFile, lent.answer, places);
@@ -295,15 +298,17 @@ std::string shown(double nanoseconds)
     return digits;
 }
 
-/* A goal, best sharing and the check refuse a board with a line that is no run, so there is nothing to time; an order is
-   no board. */
+/*
+ * A goal, best sharing and the check refuse a board with a line that is no run, and the Junior what it has no two tips
+ * for, so there is nothing to time; an order is no board.
+ */
 bool is_measured(const NamedCall &named, const Boards &boards, const Settings &settings)
 {
     if (boards.is_order != (named.call == Call::order)) {
         return false;
     }
     const bool needs_runs = named.call == Call::goal || named.call == Call::best || named.call == Call::check;
-    return (!needs_runs || boards.runs) &&
+    return (!needs_runs || boards.runs) && (named.call != Call::junior || boards.junior) &&
            (settings.only_call.empty() || settings.only_call == named.name);
 }
 
@@ -514,7 +519,7 @@ const char kUsage[] =
     "bench [--rounds N] [--json] [--call CALL] [--board BOARD]   time the calls and print tables\n"
     "bench --callgrind CALL BOARD LIBRARY [TIMES]                make one call only, and print how often it was made\n"
     "bench --list                                                the calls and boards\n"
-    "CALL: read, common, keep, goal, quick, best, check, merge, alone, mend, order, report.\n"
+    "CALL: read, common, keep, goal, quick, best, check, junior, merge, alone, mend, order, report.\n"
     "LIBRARY: tipshare, baseline, tuned.\n"
     "With --board the tables of growth are left out.\n";
 

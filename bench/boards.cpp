@@ -58,6 +58,12 @@ uint64_t many_tips(Random &random, size_t rack, size_t)
     return (random.number() & run(0, rack)) | uint64_t{1} << random.from_to(0, rack - 1);
 }
 
+/* Tip 2 or tip 5, and others. */
+uint64_t one_of_two(Random &random, size_t rack, size_t)
+{
+    return (random.number() & run(0, rack)) | (random.from_to(0, 1) == 0 ? 1 << 2 : 1 << 5);
+}
+
 uint64_t all_tips(Random &, size_t rack, size_t) { return run(0, rack); }
 
 uint64_t one_tip_in_turn(Random &, size_t rack, size_t line) { return uint64_t{1} << line % rack; }
@@ -127,6 +133,15 @@ File file_of(const std::vector<uint64_t> &sets, size_t rack, Quantities quantiti
     return {std::move(bytes), least_bound(sets, quantities), TIPSHARE_NO_TIP, {}, 0, {}, {}, {}};
 }
 
+/* Whether the Junior takes the file's board. */
+bool is_planned_for_junior(const File &file)
+{
+    uint8_t plan[TIPSHARE_JUNIOR_LINES];
+    uint64_t answer[TIPSHARE_ANSWER_PLACES];
+    return baseline_junior(file.bytes.data(), file.bytes.size(), plan, sizeof plan, answer, TIPSHARE_ANSWER_PLACES) ==
+           TIPSHARE_ACCEPTED;
+}
+
 /* Puts the best plan of the file's board into it, with its pairs and its table. */
 void put_plan(File &file)
 {
@@ -190,7 +205,7 @@ Boards boards_of(std::string name, std::string description, size_t lines, size_t
                  Quantities quantities_of = nullptr, size_t apart = 1)
 {
     const size_t rack = (tips - 1) * apart + 1;
-    Boards boards{std::move(name), std::move(description), lines, rack, true, {}};
+    Boards boards{std::move(name), std::move(description), lines, rack, true, true, {}};
     for (size_t file = 0; file < kFilesEach; file++) {
         Random random(1000 * file + lines + tips);
         std::vector<uint64_t> sets;
@@ -202,6 +217,7 @@ Boards boards_of(std::string name, std::string description, size_t lines, size_t
         }
         boards.runs = boards.runs && job::Named(sets.data(), lines).first_no_run(sets.data(), lines) == lines;
         boards.files.push_back(file_of(sets, rack, quantities_of, random));
+        boards.junior = boards.junior && is_planned_for_junior(boards.files.back());
     }
     std::for_each(boards.files.begin(), boards.files.end(), put_halves);
     std::for_each(boards.files.begin(), boards.files.end(), put_damaged);
@@ -241,6 +257,8 @@ std::vector<Boards> main_boards()
         boards_of("small-runs", "runs of 1 to 4 tips", 20, 8, run_of(1, 4)),
         eight_tips(1),
         eight_tips(9),
+        boards_of("two-tips", "tip 2 or tip 5 in each line, and each tip with an even chance", 64, 8, one_of_two),
+        boards_of("two-counted", "two-tips with quantities 1 to 7", 64, 8, one_of_two, from_1_to_7),
         boards_of("no-lines", "what a call costs without any line", 0, 64, any_run),
         boards_of("few-counted", "few-tips with quantities 1 to 7, together 2,048 at most", 512, 64, few_tips,
                   from_1_to_7),

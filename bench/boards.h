@@ -33,6 +33,8 @@ struct Boards {
     size_t lines;
     size_t rack;
     bool runs;
+    /* Whether the Junior takes each of them. */
+    bool junior;
     std::vector<File> files;
     // Parts and rules alone, without a job file.
     bool is_order = false;

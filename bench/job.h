@@ -25,7 +25,9 @@ constexpr size_t kLongestFile = kHead + (kSet + 1) * kMostLines;
 constexpr uint32_t kZeroQuantity = 15;
 constexpr uint32_t kForeignTip = 19;
 constexpr uint32_t kWrongClaim = 20;
+constexpr uint32_t kTooManyLines = 24;
 constexpr uint32_t kTooManyPlacements = 30;
+constexpr uint32_t kNoTwoTips = 31;
 constexpr uint32_t kTableFails = 33;
 constexpr uint32_t kGoalMissed = 34;
 
@@ -484,6 +486,34 @@ template <typename Most, typename Strike>
     with_quantities(job, lines.quantities,
                     [&](auto quantities) { write_file(goal.out, job.rack, kept, quantities, job.count); });
     return answered(answer, TIPSHARE_ACCEPTED, 0, written, 0, 0);
+}
+
+/* A choice of tips for the Junior, with the pairs of its plan; without a plan the first tip is past the rack. */
+struct Junior {
+    uint32_t pairs;
+    unsigned u;
+    unsigned v;
+};
+
+/* Answers a plan for the Junior on a good file: refused by its size or a short buffer, else by choose(). */
+template <typename Choose>
+[[gnu::always_inline]] inline uint32_t answer_junior(const Job &job, size_t plan_len, uint64_t *answer,
+                                                     const Choose &choose)
+{
+    if (job.count > TIPSHARE_JUNIOR_LINES) {
+        return refused(answer, kTooManyLines);
+    }
+    if (job.rack > TIPSHARE_JUNIOR_TIPS) {
+        return refused(answer, TIPSHARE_RACK_SIZE);
+    }
+    if (plan_len < job.count) {
+        return refused(answer, TIPSHARE_SHORT_PLAN);
+    }
+    const Junior junior = job.count == 0 ? Junior{0, 0, 0} : choose();
+    if (junior.u >= job.rack) {
+        return refused(answer, kNoTwoTips);
+    }
+    return answered(answer, TIPSHARE_ACCEPTED, 0, junior.pairs, junior.u, junior.v);
 }
 
 /* What other software hands over: a plan, how many pairs it is said to have, and a table. */

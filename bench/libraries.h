@@ -11,6 +11,7 @@ decltype(tipshare_goal) baseline_goal, tuned_goal, anew_goal;
 decltype(tipshare_quick) baseline_quick, tuned_quick;
 decltype(tipshare_best) baseline_best, tuned_best;
 decltype(tipshare_check) baseline_check, tuned_check;
+decltype(tipshare_junior) baseline_junior, tuned_junior;
 decltype(tipshare_merge) baseline_merge, tuned_merge;
 decltype(tipshare_alone) baseline_alone, tuned_alone;
 decltype(tipshare_mend) baseline_mend, tuned_mend;

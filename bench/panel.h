@@ -6,7 +6,6 @@
 namespace job {
 
 constexpr uint32_t kRacksDiffer = 17;
-constexpr uint32_t kTooManyLines = 24;
 
 /* Answers a call on two files: refused where the answer is short or a file not good, the first first, else by work. */
 template <typename ReadFirst, typename ReadSecond, typename Work>

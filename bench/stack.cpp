@@ -49,6 +49,7 @@ static void check_it()
     tipshare_check(file, length, plan, sizeof plan, claim, table, TIPSHARE_MOST_PLACES, answer,
                    TIPSHARE_ANSWER_PLACES);
 }
+static void junior_it() { tipshare_junior(file, length, plan, sizeof plan, answer, TIPSHARE_ANSWER_PLACES); }
 static void merge_it()
 {
     tipshare_merge(half, half_length, half, half_length, out, sizeof out, answer, TIPSHARE_ANSWER_PLACES);
@@ -96,8 +97,9 @@ static const struct {
     void (*make)();
 } calls[] = {{"tipshare_read", read_it},   {"tipshare_common", common_it}, {"tipshare_keep", keep_it},
              {"tipshare_goal", goal_it},   {"tipshare_quick", quick_it},   {"tipshare_best", best_it},
-             {"tipshare_check", check_it}, {"tipshare_merge", merge_it},   {"tipshare_alone", alone_it},
-             {"tipshare_mend", mend_it},   {"tipshare_order", order_it},   {"tipshare_report", report_it}};
+             {"tipshare_check", check_it}, {"tipshare_junior", junior_it}, {"tipshare_merge", merge_it},
+             {"tipshare_alone", alone_it}, {"tipshare_mend", mend_it},     {"tipshare_order", order_it},
+             {"tipshare_report", report_it}};
 enum { CALLS = sizeof calls / sizeof calls[0] };
 
 static __attribute__((noinline)) void paint()

@@ -938,6 +938,82 @@ struct Reach {
     }
 };
 
+/*
+ * The Junior. Each set is one byte, so that the lines of a tip are one word. Where each line has u or v, those without v
+ * have u, and those without u have v: the pairs of a choice follow from the placements that each tip can take.
+ */
+struct Eight {
+    static constexpr size_t kTips = TIPSHARE_JUNIOR_TIPS;
+    // Bytes past the last line are 0.
+    alignas(16) uint8_t sets[64];
+    alignas(16) uint8_t quantities[64];
+    uint64_t lines_of[kTips];
+    uint32_t placements[kTips];
+
+    Eight(const Raw &raw, const Job &job)
+    {
+        memset(sets, 0, sizeof sets);
+        for (size_t line = 0; line < job.count; line++) {
+            sets[line] = raw.sets[kSet * line + kSet - 1];
+        }
+        if (!job.single()) {
+            memset(quantities, 0, sizeof quantities);
+            memcpy(quantities, raw.quantities, job.count);
+        }
+        for (size_t tip = 0; tip < kTips; tip++) {
+            const __m128i bit = _mm_set1_epi8(static_cast<char>(1 << tip));
+            uint64_t lines = 0;
+            __m128i sum = _mm_setzero_si128();
+            for (size_t block = 0; block < 64; block += 16) {
+                const __m128i of_sets = _mm_load_si128(reinterpret_cast<const __m128i *>(sets + block));
+                const __m128i has = _mm_cmpeq_epi8(_mm_and_si128(of_sets, bit), bit);
+                lines |= uint64_t{static_cast<unsigned>(_mm_movemask_epi8(has))} << block;
+                if (!job.single()) {
+                    const __m128i of_lines = _mm_load_si128(reinterpret_cast<const __m128i *>(quantities + block));
+                    sum = _mm_add_epi64(sum, _mm_sad_epu8(_mm_and_si128(has, of_lines), _mm_setzero_si128()));
+                }
+            }
+            lines_of[tip] = lines;
+            placements[tip] = job.single() ? static_cast<uint32_t>(__builtin_popcountll(lines))
+                                           : static_cast<uint32_t>(_mm_cvtsi128_si32(sum) + _mm_extract_epi16(sum, 4));
+        }
+    }
+
+    Junior choose(const Job &job, uint8_t *plan) const
+    {
+        const unsigned rack = static_cast<unsigned>(job.rack);
+        const uint64_t all = ~uint64_t{0} >> (64 - job.count);
+        // The pairs with all lines of a tip on it and the others on one other tip.
+        uint32_t pairs[kTips];
+        for (unsigned tip = 0; tip < rack; tip++) {
+            pairs[tip] = pairs_on(placements[tip]) + pairs_on(job.total - placements[tip]);
+            // One tip for every line has more pairs than two.
+            if (lines_of[tip] == all) {
+                memset(plan, static_cast<int>(tip), job.count);
+                return {pairs[tip], tip, tip};
+            }
+        }
+        Junior chosen{0, rack, rack};
+        for (unsigned u = 0; u < rack; u++) {
+            for (unsigned v = u + 1; v < rack; v++) {
+                const uint32_t most = pairs[u] > pairs[v] ? pairs[u] : pairs[v];
+                if ((lines_of[u] | lines_of[v]) == all && (chosen.u == rack || most > chosen.pairs)) {
+                    chosen = {most, u, v};
+                }
+            }
+        }
+        if (chosen.u < rack) {
+            const bool to_first = pairs[chosen.u] >= pairs[chosen.v];
+            const unsigned side = to_first ? chosen.u : chosen.v;
+            const unsigned other = to_first ? chosen.v : chosen.u;
+            for (size_t line = 0; line < job.count; line++) {
+                plan[line] = static_cast<uint8_t>((sets[line] >> side & 1) != 0 ? side : other);
+            }
+        }
+        return chosen;
+    }
+};
+
 }  // namespace
 
 extern "C" {
@@ -1057,6 +1133,16 @@ uint32_t tuned_check(const uint8_t *file, size_t file_len, const uint8_t *plan, 
             return entries.fill(table, job.rack) ? entries.hold(within, named, job.rack)
                                                  : no_entry_too_low(within, named, table);
         });
+    });
+}
+
+uint32_t tuned_junior(const uint8_t *file, size_t file_len, uint8_t *plan, size_t plan_len, uint64_t *answer,
+                      size_t answer_len)
+{
+    Raw raw;
+    const auto read = [&] { return read_raw(file, file_len, raw); };
+    return answer_with(answer, answer_len, read, [&](const Job &job) {
+        return answer_junior(job, plan_len, answer, [&] { return Eight(raw, job).choose(job, plan); });
     });
 }
 

@@ -25,7 +25,7 @@
  * Every length counts elements, not bytes. No pointer may be null, not even
  * with length 0, each is good for its length, and no two buffers of one call
  * may overlap, but for two that are only read. A call needs up to 70 KB of
- * stack, tipshare_goal up to 110 KB (docs/PERFORMANCE.md), and keeps nothing
+ * stack, tipshare_goal up to 90 KB (docs/PERFORMANCE.md), and keeps nothing
  * after it returns, so calls on different buffers may run at one time. The rules
  * in full are in docs/RULES.md.
  *
@@ -46,7 +46,8 @@
  *
  *   No.  What is wrong                         What to do
  *   ---  ------------------------------------  --------------------------------
- *     1  the rack size is 0 or above 64        put 1 to 64 in byte 5
+ *     1  the rack size is 0 or above 64; for   put 1 to 64 in byte 5, for the
+ *        tipshare_junior also above 8          Junior 1 to 8
  *     2  line answer[0] has no tip             give that line a tip
  *     3  line answer[0] has a tip outside      take it out of that line, or
  *        the rack                              name a larger rack in byte 5
@@ -79,8 +80,9 @@
  *        tip that is not in its set            lines, or wrong
  *    20  claim is not the number of pairs in   count the pairs of placements in
  *        the plan checked                      the plan
- *    24  the two boards to merge have more     make two panels
- *        than 512 lines together
+ *    24  the Junior, and the file has more     split the parts list; for
+ *        than 64 lines; tipshare_merge, and    tipshare_merge make two panels
+ *        both have more than 512 together
  *    25  line answer[0], the first such, is    use tipshare_quick, which takes
  *        no run: it lacks a tip between its    any lines
  *        lowest and its highest that another
@@ -95,6 +97,9 @@
  *        brings the placements past 2048; for  tipshare_merge make two panels
  *        tipshare_merge both boards together
  *        pass 2048, and answer[0] is 0
+ *    31  the Junior, and no two tips serve     split the parts list, or use
+ *        every line                            tipshare_quick for a machine with
+ *                                              a rack
  *    33  the table checked does not show that  have all of its m * m places
  *        the plan has the most pairs           filled, or use tipshare_best
  *    34  no plan has so many pairs as goal     lower the goal to the pairs of
@@ -119,6 +124,8 @@ extern "C" {
 #define TIPSHARE_MOST_PLACEMENTS 2048 /* the most placements of all lines together */
 #define TIPSHARE_MOST_PAIRS 2096128   /* the most pairs: all placements on one tip */
 #define TIPSHARE_MOST_PLACES 4096     /* a table that always does */
+#define TIPSHARE_JUNIOR_TIPS 8        /* the largest rack that is planned for the Junior */
+#define TIPSHARE_JUNIOR_LINES 64      /* the most lines that are, and a plan that always does for it */
 #define TIPSHARE_LONGEST_FILE 4616    /* the longest good job file, in bytes, and an out that always does */
 #define TIPSHARE_CHANGE 3             /* the bytes of a change that a mending tells */
 #define TIPSHARE_LONGEST_CHANGES 3081 /* the longest report of a mending, in bytes, and a report that always does */
@@ -163,6 +170,7 @@ extern "C" {
 #define TIPSHARE_NO_PLAN 26
 #define TIPSHARE_NO_ORDER 29
 #define TIPSHARE_TOO_MANY_PLACEMENTS 30
+#define TIPSHARE_NO_TWO_TIPS 31
 #define TIPSHARE_WRONG_TABLE 33
 #define TIPSHARE_GOAL_MISSED 34
 #define TIPSHARE_SHORT_ANSWER 100
@@ -293,6 +301,25 @@ uint32_t tipshare_check(const uint8_t *file, size_t file_len,
                         const uint8_t *plan, size_t plan_len, uint32_t claim,
                         const uint32_t *table, size_t table_len,
                         uint64_t *answer, size_t answer_len);
+
+/*
+ * Plans for the Junior, the small model, which carries two tips at once: with
+ * one tip u for all lines, or with two, u below v, each with a line. The plan
+ * has the most pairs of all such plans; where several choices of tips reach
+ * them, it is the one with the lowest u, then with the lowest v. Lines that have
+ * both tips are all on the one that gives more pairs, on u where that is equal.
+ * file: file_len bytes, any number. plan: at least n bytes. answer: at least 4
+ * places.
+ * Accepted: plan[i] is the tip of line i, for i below n, the rest of plan is
+ * untouched; answer is 0, the number of pairs in the plan (2096128 at most), u,
+ * v; u is v where one tip serves every line, and all are 0 without lines.
+ * Refused (1, 2, 3, 6 to 10, 15, 30, then 24 with more than 64 lines, 1 with a
+ * rack above 8, 4, 31): plan is untouched; answer is the line, 0, 0, 0, and with
+ * 24, this 1, 4 and 31 it is 0, 0, 0, 0.
+ */
+uint32_t tipshare_junior(const uint8_t *file, size_t file_len,
+                         uint8_t *plan, size_t plan_len,
+                         uint64_t *answer, size_t answer_len);
 
 /*
  * Merges two boards of one rack into one, for two boards on one panel, and

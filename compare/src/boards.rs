@@ -75,6 +75,11 @@ fn fixed_single_boards() -> Vec<Board> {
         lines[511] = last_line;
         boards.push(Board::of_sets(64, &lines));
     }
+    // As many lines as the Junior takes, and one more, in racks that it takes and not.
+    for lines in [64, 65] {
+        boards.push(Board::of_sets(8, &[[0b1000_0001; 63].as_slice(), &[1 << 7; 2][..lines - 63]].concat()));
+        boards.push(Board::of_sets(9, &vec![0b1; lines]));
+    }
     // A tie in a rack of a size that few boards have.
     boards.push(Board::of_sets(37, &[1 << 30 | 1 << 5, 1 << 36]));
     // A goal strikes from the last of many lines on few tips.
@@ -97,6 +102,15 @@ fn fixed_counted_boards() -> Vec<Board> {
         // Keep strikes up to margin 2; in the next it keeps more than the common tip and spares the last line.
         counted(2, &[(0b01, 5), (0b11, 3), (0b10, 1)]),
         counted(3, &[(0b111, 4), (0b001, 3), (0b010, 2), (0b111, 1)]),
+        // The Junior takes the second choice of tips that serves every line, the higher tip, and neither by lines.
+        counted(3, &[(0b011, 2), (0b110, 1), (0b100, 1)]),
+        counted(2, &[(0b01, 1), (0b10, 2), (0b11, 1)]),
+        counted(2, &[(0b01, 1), (0b01, 1), (0b10, 3), (0b11, 1)]),
+        counted(8, &[(0b1000_0000, 1), (0b1100_0000, 2), (0b0000_0001, 1)]),
+        counted(9, &[(0b1_0000_0000, 1)]),
+        // Both tips suit the last line as well, and no two serve all lines.
+        counted(2, &[(0b01, 1), (0b10, 1), (0b11, 1)]),
+        counted(3, &[(0b001, 1), (0b010, 1), (0b100, 1)]),
         // By lines best takes another plan.
         counted(3, &[(0b001, 1), (0b011, 2), (0b110, 2), (0b100, 3)]),
         counted(3, &[(0b001, 1), (0b011, 4), (0b110, 4), (0b100, 1)]),
@@ -189,6 +203,8 @@ pub fn every_board<E>(
 pub enum Size {
     Small,
     Middle,
+    /// About as large as the Junior takes, mostly on two tips that serve every line.
+    Junior,
     /// Many lines on few tips.
     Long,
     Large,
@@ -202,6 +218,10 @@ pub fn seeded_board(random: &mut Random, size: Size) -> Board {
             let any = random.from_to(1, 64);
             (random.one_of(&[1, 2, 8, 63, 64, any, any, any]), random.from_to(0, 48))
         }
+        Size::Junior => {
+            let lines = random.from_to(1, 66);
+            (random.from_to(2, 9), random.one_of(&[3, 5, 8, lines, lines, 64, 65]))
+        }
         Size::Long => (random.from_to(1, 12), random.from_to(49, 512)),
         Size::Large => {
             let any = random.from_to(1, 64);
@@ -209,7 +229,9 @@ pub fn seeded_board(random: &mut Random, size: Size) -> Board {
             (random.one_of(&[1, 64, any, any]), random.one_of(&[0, 511, 512, 512, lines, lines, lines]))
         }
     };
-    let sets = if random.once_in(3) {
+    let sets = if size == Size::Junior {
+        seeded_sets_on_two_tips(random, rack, count)
+    } else if random.once_in(3) {
         seeded_sets_with_absent_tips(random, rack, count)
     } else {
         seeded_sets(random, rack, count)
@@ -317,6 +339,22 @@ fn seeded_sets_with_absent_tips(random: &mut Random, rack: usize, count: usize) 
     sets
 }
 
+/// Sets that each have one of a few pairs of tips; sometimes one line has neither of the first pair.
+fn seeded_sets_on_two_tips(random: &mut Random, rack: usize, count: usize) -> Vec<u64> {
+    let (u, v) = (random.below(rack), random.below(rack));
+    let density = random.below(5);
+    let chance = random.from_to(1, 4);
+    let mut sets = Vec::with_capacity(count);
+    for _ in 0..count {
+        let own = if random.below(5) < chance { u } else { v };
+        sets.push(1 << own | if density == 0 { 0 } else { any_set(random, rack, density) });
+    }
+    if count > 0 && random.once_in(8) {
+        sets[random.below(count)] = 1 << random.below(rack);
+    }
+    sets
+}
+
 /// A set that is not empty, each tip being in it with this many chances of 8.
 fn any_set(random: &mut Random, rack: usize, density: usize) -> u64 {
     let mut set = 1 << random.below(rack);
@@ -348,7 +386,7 @@ mod tests {
 
     #[test]
     fn seeded_boards_are_sound_and_the_same_for_one_seed() {
-        for size in [Size::Small, Size::Middle, Size::Long, Size::Large] {
+        for size in [Size::Small, Size::Middle, Size::Junior, Size::Long, Size::Large] {
             for seed in 0..500 {
                 let board = seeded_board(&mut Random::new(seed), size);
                 assert!(board.is_sound());

@@ -20,6 +20,7 @@ pub enum Call {
     Quick { mounted: usize, plan: usize, answer: usize },
     Best { mounted: usize, plan: usize, table: usize, answer: usize },
     Check { claim: u32, plan: usize, table: usize, answer: usize },
+    Junior { plan: usize, answer: usize },
     Merge { out: usize, answer: usize },
     Alone { plan: usize, answer: usize },
     Mend { out: usize, report: usize, answer: usize },
@@ -27,8 +28,8 @@ pub enum Call {
 }
 
 /// The names of the calls, in the order of their columns.
-pub const CALL_NAMES: [&str; 11] =
-    ["read", "common", "keep", "goal", "quick", "best", "check", "merge", "alone", "mend", "report"];
+pub const CALL_NAMES: [&str; 12] =
+    ["read", "common", "keep", "goal", "quick", "best", "check", "junior", "merge", "alone", "mend", "report"];
 
 impl Call {
     /// Where the call stands among the names.
@@ -41,10 +42,11 @@ impl Call {
             Call::Quick { .. } => 4,
             Call::Best { .. } => 5,
             Call::Check { .. } => 6,
-            Call::Merge { .. } => 7,
-            Call::Alone { .. } => 8,
-            Call::Mend { .. } => 9,
-            Call::Report { .. } => 10,
+            Call::Junior { .. } => 7,
+            Call::Merge { .. } => 8,
+            Call::Alone { .. } => 9,
+            Call::Mend { .. } => 10,
+            Call::Report { .. } => 11,
         }
     }
 }
@@ -108,7 +110,7 @@ impl Buffers {
         let (bytes, table, answer) = match *call {
             Call::Read { answer } | Call::Common { answer } => (0, 0, answer),
             Call::Keep { out, answer, .. } | Call::Goal { out, answer, .. } => (out, 0, answer),
-            Call::Quick { plan, answer, .. } => (plan, 0, answer),
+            Call::Quick { plan, answer, .. } | Call::Junior { plan, answer } => (plan, 0, answer),
             Call::Best { plan, table, answer, .. } | Call::Check { plan, table, answer, .. } => (plan, table, answer),
             Call::Merge { out, answer } => (out, 0, answer),
             Call::Alone { plan, answer } => (plan, 0, answer),
@@ -149,6 +151,7 @@ macro_rules! made_by {
             Call::Quick { mounted, .. } => $module::quick(file, mounted, bytes, answer).into(),
             Call::Best { mounted, .. } => $module::best(file, mounted, bytes, table, answer).into(),
             Call::Check { claim, .. } => $module::check(file, bytes, claim, table, answer).into(),
+            Call::Junior { .. } => $module::junior(file, bytes, answer).into(),
             Call::Merge { .. } => $module::merge(file, other, bytes, answer).into(),
             Call::Alone { .. } => $module::alone(file, other, bytes, answer).into(),
             Call::Mend { .. } => $module::mend(file, bytes, other, answer).into(),

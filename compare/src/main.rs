@@ -12,7 +12,7 @@ use compare::orders::Orders;
 use compare::run::{compare_program, Run};
 
 const DEFAULT_CASES: u64 = 440_000;
-/// The fixed and the small boards take some 355,000; with fewer there would be no seeded ones.
+/// The fixed and the small boards take some 340,000; with fewer there would be no seeded ones.
 const LEAST_CASES: u64 = 380_000;
 const DEFAULT_FILES: u64 = 2_000;
 const LEAST_FILES: u64 = 1_000;

@@ -13,6 +13,7 @@ use crate::damage::{first_to_pass, quantities_in};
 use crate::handed::{keeps, stopping, wrapping, Handed, Rule};
 
 mod goal;
+mod junior;
 mod mending;
 mod panels;
 
@@ -24,9 +25,9 @@ pub fn mistakes() -> impl Iterator<Item = &'static Mistake> {
     let of_calls = [OF_READING, OF_COMMON, OF_KEEP, OF_QUICK, OF_BEST, OF_ANSWERS, OF_REPORTS];
     let of_quantities = [OF_READING_QUANTITIES, OF_COUNTING_PLACEMENTS, OF_KEEPING_PLACEMENTS, OF_VERSIONS];
     let of_tips = [OF_NAMED_TIPS, OF_REFUSED_MOUNTED_TIPS, OF_MOUNTED_TIPS];
+    let of_later_calls = [goal::OF_GOALS, junior::OF_JUNIOR];
     let of_checks = [OF_CHECKED_PLANS, OF_CHECKED_TABLES, OF_ORDER_IN_CHECKS];
-    let of_goals = [goal::OF_GOALS];
-    of_calls.into_iter().chain(of_quantities).chain(of_tips).chain(of_checks).chain(of_goals).flatten()
+    of_calls.into_iter().chain(of_quantities).chain(of_tips).chain(of_checks).chain(of_later_calls).flatten()
 }
 
 /// Mistakes of the calls on two boards, and of mending.

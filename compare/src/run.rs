@@ -6,7 +6,8 @@ use std::process::{Command, Stdio};
 use std::{fs, io, thread};
 
 use second::interface::{ANSWER_PLACES, NO_TIP, REPORT_SPACE};
-use second::{number_of_plans, pairs_in, read, try_every_plan, Board, Version, MOST_PLACEMENTS};
+use second::{number_of_plans, pairs_in, read, try_every_plan, Board, Version};
+use second::{JUNIOR_LINES, JUNIOR_TIPS, MOST_PLACEMENTS};
 
 use crate::boards::{every_board, fixed_boards, is_counted, is_unbroken, seeded_board, seeded_file, single, Size};
 use crate::check::{call_library, compare, Call, Caller, Difference, Given, Outcome};
@@ -16,6 +17,7 @@ use crate::random::Random;
 use crate::tally::{Event, Tally, SHORT_REPORT};
 
 mod goal;
+mod junior;
 mod mending;
 mod panels;
 
@@ -130,6 +132,7 @@ impl Run {
         self.each_length(board, file)?;
         self.each_check(board, file, turn)?;
         self.each_goal(board, file)?;
+        self.each_junior(board, file)?;
         self.try_plans(board, file)?;
         let is_short = file.len() < 100;
         // Every cut of a short file, and some of a long one.
@@ -203,7 +206,12 @@ impl Run {
         for mounted in numbers_outside(rack) {
             for (plan, table) in short {
                 self.case(file, Call::Quick { mounted, plan, answer: ANSWER_PLACES })?;
-                self.case(file, Call::Best { mounted, plan, table, answer: ANSWER_PLACES })?;
+                let call = Call::Best { mounted, plan, table, answer: ANSWER_PLACES };
+                self.case(file, call)?;
+                // On short files alone, for it takes long.
+                if file.len() < 100 {
+                    self.count_outside(board, call);
+                }
             }
         }
         Ok(())
@@ -246,6 +254,7 @@ impl Run {
             0 => Size::Large,
             1..=4 => Size::Long,
             5..=24 => Size::Middle,
+            25..=39 => Size::Junior,
             _ => Size::Small,
         };
         let board = seeded_board(&mut self.random, size);
@@ -336,6 +345,7 @@ impl Run {
         }
 
         self.goals(board, file, &best)?;
+        self.juniors(board, file, &quick)?;
 
         let any = self.random.below(100);
         let out = self.random.one_of(&[REPORT_SPACE, REPORT_SPACE, REPORT_SPACE + any, REPORT_SPACE - 1, any]);
@@ -370,6 +380,8 @@ impl Run {
         let claim = self.random.number() as u32;
         let [plan, table, answer] = self.check_lengths(count, rack * rack);
         self.case(file, Call::Check { claim, plan, table, answer })?;
+        let (plan, answer) = (self.length_around(count), self.answer_length());
+        self.case(file, Call::Junior { plan, answer })?;
         let out = self.random.one_of(&[REPORT_SPACE, REPORT_SPACE, REPORT_SPACE, REPORT_SPACE - 1]);
         self.case(file, Call::Report { out })?;
         Ok(())
@@ -658,6 +670,23 @@ fn against_every_plan(board: &Board) -> Result<(), String> {
         if !right {
             return Err(format!("goal of {goal} pairs, every plan {tried:?}"));
         }
+    }
+    let mut plan = vec![0; count];
+    let junior = board.clone().junior(&mut plan);
+    let (pairs, tips) = (junior.value.pairs, (junior.value.u, junior.value.v));
+    let right = match tried.with_two_tips() {
+        Some(most) => {
+            let has_both = |line: usize| [tips.0, tips.1].iter().all(|tip| board.sets[line] >> tip & 1 == 1);
+            let on_one = |tip: usize| (0..count).all(|line| !has_both(line) || usize::from(plan[line]) == tip);
+            (pairs, tips) == most
+                && is_own_plan(board, &plan)
+                && pairs_in(&board.placed(&plan)) == pairs
+                && (on_one(tips.0) || on_one(tips.1))
+        }
+        None => matches!((junior.number, count), (31, _) | (0, 0)),
+    };
+    if board.rack <= JUNIOR_TIPS && count <= JUNIOR_LINES && !right {
+        return Err(format!("junior {plan:?} with {pairs} pairs on {tips:?}, every plan {tried:?}"));
     }
     // Both rules, whichever tip is mounted.
     for mounted in [None].into_iter().chain((0..board.rack).map(Some)) {

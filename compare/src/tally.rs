@@ -71,6 +71,20 @@ pub enum Event {
     GoalMissedByOne,
     GoalMissedAndShortOutput,
     GoalMissedAndNoRun,
+    JuniorOfOneTip,
+    JuniorOfTwoTips,
+    JuniorToTheFirst,
+    JuniorToTheSecond,
+    JuniorEqualSides,
+    JuniorSeveralChoices,
+    JuniorLaterChoice,
+    JuniorByQuantities,
+    JuniorFewerThanQuick,
+    JuniorOf64Lines,
+    JuniorOfRack8,
+    JuniorManyLinesAndRack,
+    JuniorRackAndShortPlan,
+    JuniorShortPlanAndNoTips,
     FirstBoardBad,
     SecondBoardBad,
     BothBoardsBad,
@@ -106,7 +120,7 @@ pub enum Event {
     ShortReportAlone,
 }
 
-const EVENTS: [(Event, &str); 90] = [
+const EVENTS: [(Event, &str); 104] = [
     (Event::RackOf1, "boards with rack 1"),
     (Event::RackOf64, "boards with rack 64"),
     (Event::NoLines, "boards without lines"),
@@ -164,6 +178,20 @@ const EVENTS: [(Event, &str); 90] = [
     (Event::GoalMissedByOne, "goal of one pair more than a best plan has"),
     (Event::GoalMissedAndShortOutput, "goal that no plan meets, and a short output"),
     (Event::GoalMissedAndNoRun, "goal that no plan meets, and a line that is no run"),
+    (Event::JuniorOfOneTip, "junior with one tip for several lines"),
+    (Event::JuniorOfTwoTips, "junior with two tips"),
+    (Event::JuniorToTheFirst, "junior with lines that have both tips on the lower one, which gives more pairs"),
+    (Event::JuniorToTheSecond, "junior with lines that have both tips on the higher one"),
+    (Event::JuniorEqualSides, "junior with lines that have both tips, which give equal pairs"),
+    (Event::JuniorSeveralChoices, "junior where other tips give as many pairs"),
+    (Event::JuniorLaterChoice, "junior where lower tips serve every line with fewer pairs"),
+    (Event::JuniorByQuantities, "junior with another plan than with quantities 1"),
+    (Event::JuniorFewerThanQuick, "junior with fewer pairs than quick"),
+    (Event::JuniorOf64Lines, "junior with 64 lines"),
+    (Event::JuniorOfRack8, "junior with a rack of 8 and its last tip"),
+    (Event::JuniorManyLinesAndRack, "junior with too many lines, and too large a rack"),
+    (Event::JuniorRackAndShortPlan, "junior with too large a rack, and a short plan"),
+    (Event::JuniorShortPlanAndNoTips, "junior with a short plan, and lines that no two tips serve"),
     (Event::FirstBoardBad, "two boards, the first refused and the second good"),
     (Event::SecondBoardBad, "two boards, the first good and the second refused"),
     (Event::BothBoardsBad, "two boards, both refused, with different numbers"),
@@ -262,6 +290,7 @@ fn needed(column: usize) -> Vec<u32> {
         "quick" => &[4, 16, 100],
         "best" => &[4, 5, 16, 25, 100],
         "check" => &[4, 5, 19, 20, 25, 33, 100],
+        "junior" => &[4, 24, 31, 100],
         "merge" => &[11, 17, 24, 100],
         "alone" => &[4, 100],
         "mend" => &[1, 6, 7, 8, 11, 100],
@@ -318,10 +347,10 @@ mod tests {
     fn what_never_occurred_is_missing() {
         let mut tally = Tally::default();
         let all = tally.missing().len();
-        // 0 and reading's 10 for 10 calls, 100 for 9, the short report; keep's 11, 26, quick's 4, 16, best's 4, 5, 16, 25,
-        // the check's 4, 5, 19, 20, 25, 33, the goal's 11, 25, 34, merge's 11, 17, 24, alone's 4; mend's 0, 1, 6, 7, 8, 11,
-        // 100.
-        assert_eq!(all, 10 * 11 + 9 + 1 + 8 + 6 + 3 + 4 + 7 + EVENTS.len());
+        // 0 and reading's 10 for 11 calls, 100 for 10, the short report; keep's 11, 26, quick's 4, 16, best's 4, 5, 16, 25,
+        // the check's 4, 5, 19, 20, 25, 33, the goal's 11, 25, 34, the Junior's 4, 24, 31, merge's 11, 17, 24, alone's 4;
+        // mend's 0, 1, 6, 7, 8, 11, 100.
+        assert_eq!(all, 11 * 11 + 10 + 1 + 8 + 6 + 3 + 3 + 4 + 7 + EVENTS.len());
         tally.count_call(25, 5);
         tally.count_event(Event::NoLines);
         assert_eq!(tally.missing().len(), all - 2);

@@ -10,6 +10,8 @@ fn limits_are_the_same() {
     let of_second = [ANSWER_PLACES, REPORT_SPACE, second::LONGEST_FILE, NO_TIP];
     assert_eq!(of_library, of_second);
     assert_eq!(library::MOST_PARTS, second::MOST_PARTS);
+    let of_junior = [library::JUNIOR_TIPS, library::JUNIOR_LINES];
+    assert_eq!(of_junior, [second::JUNIOR_TIPS, second::JUNIOR_LINES]);
 }
 
 #[test]

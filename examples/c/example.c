@@ -75,7 +75,7 @@ static void print_plan(const uint8_t *plan, size_t lines)
 static const char *in_words(uint32_t number)
 {
     switch (number) {
-    case TIPSHARE_RACK_SIZE: return "the rack size is 0 or above 64";
+    case TIPSHARE_RACK_SIZE: return "the rack size is 0 or above 64, for the Junior above 8";
     case TIPSHARE_EMPTY_LINE: return "the line has no tip";
     case TIPSHARE_TIP_OUTSIDE: return "the line has a tip outside the rack";
     case TIPSHARE_SHORT_PLAN: return "the plan buffer is too short";
@@ -92,13 +92,14 @@ static const char *in_words(uint32_t number)
     case TIPSHARE_ZERO_QUANTITY: return "the line has quantity 0";
     case TIPSHARE_MOUNTED_OUTSIDE: return "the mounted tip is outside the rack";
     case TIPSHARE_RACKS_DIFFER: return "the racks of the two boards differ";
-    case TIPSHARE_TOO_MANY_LINES: return "the two boards have more than 512 lines together";
+    case TIPSHARE_TOO_MANY_LINES: return "two boards have more than 512 lines together, or the Junior more than 64";
     case TIPSHARE_FOREIGN_TIP: return "a line is on a tip that it has not";
     case TIPSHARE_WRONG_CLAIM: return "the plan has another number of pairs";
     case TIPSHARE_NO_RUN: return "the line is no run";
     case TIPSHARE_NO_PLAN: return "no plan meets the bound";
     case TIPSHARE_NO_ORDER: return "no order obeys";
     case TIPSHARE_TOO_MANY_PLACEMENTS: return "the line brings the placements past 2048";
+    case TIPSHARE_NO_TWO_TIPS: return "no two tips serve every line";
     case TIPSHARE_WRONG_TABLE: return "the table does not show that the plan is a best one";
     case TIPSHARE_GOAL_MISSED: return "no plan has so many pairs";
     case TIPSHARE_SHORT_ANSWER: return "the answer has fewer than 4 places";
@@ -212,6 +213,21 @@ static void print_plans(const uint8_t *file, size_t file_len, size_t rack, size_
     }
 }
 
+/* Prints a plan for the Junior, which carries two tips at once. */
+static void print_junior(const uint8_t *file, size_t file_len, size_t lines)
+{
+    uint8_t plan[TIPSHARE_JUNIOR_LINES];
+    uint64_t answer[TIPSHARE_ANSWER_PLACES];
+    uint32_t number = tipshare_junior(file, file_len, plan, sizeof plan, answer, TIPSHARE_ANSWER_PLACES);
+    if (number != TIPSHARE_ACCEPTED) {
+        print_refusal("junior", number, answer[0]);
+        return;
+    }
+    printf("junior: %" PRIu64 " pairs on tips %" PRIu64 " and %" PRIu64 ", plan", answer[1], answer[2], answer[3]);
+    print_plan(plan, lines);
+    printf("\n");
+}
+
 /* Prints two boards on one panel: merged, and each planned alone. */
 static void print_panel(const uint8_t *first, size_t first_len, const uint8_t *second, size_t second_len)
 {
@@ -322,6 +338,7 @@ static void print_all(const uint8_t *file, size_t file_len)
     print_keep(file, file_len, (uint16_t)(least_off + 1));
 
     print_plans(file, file_len, rack, lines, TIPSHARE_NO_TIP);
+    print_junior(file, file_len, lines);
 
     size_t length = tipshare_report(file, file_len, text, sizeof text);
     printf("report:\n");

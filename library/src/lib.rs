@@ -6,6 +6,10 @@ use std::fmt;
 pub const ANSWER_PLACES: usize = 4;
 /// The bytes that a report needs lent.
 pub const REPORT_SPACE: usize = 16_384;
+/// The largest rack that is planned for the Junior.
+pub const JUNIOR_TIPS: usize = 8;
+/// The most lines that are planned for the Junior.
+pub const JUNIOR_LINES: usize = 64;
 /// The longest good job file: an output of keep, goal, merge or mend that always does.
 pub const LONGEST_FILE: usize = 4_616;
 /// The longest report of a mending: one that always does.
@@ -73,6 +77,14 @@ pub struct Kept {
     pub bytes: u64,
 }
 
+/// A plan of the Junior: its pairs of placements, and its two tips, which are equal where one serves every line.
+#[derive(Clone, Copy, PartialEq, Eq, Debug)]
+pub struct Junior {
+    pub pairs: u64,
+    pub u: u64,
+    pub v: u64,
+}
+
 /// The answer of a call whose answer buffer has its 4 places.
 fn answer_of(call: impl FnOnce(&mut [u64]) -> u32) -> Result<[u64; ANSWER_PLACES], Refusal> {
     let mut answer = [0; ANSWER_PLACES];
@@ -127,6 +139,12 @@ pub fn best(file: &[u8], mounted: Option<usize>, plan: &mut [u8], table: &mut [u
 pub fn check(file: &[u8], plan: &[u8], claim: u32, table: &[u32]) -> Result<(), Refusal> {
     answer_of(|answer| on_slices::check(file, plan, claim, table, answer))?;
     Ok(())
+}
+
+/// Plans for the Junior, with one tip or two and the most pairs of placements of all such plans.
+pub fn junior(file: &[u8], plan: &mut [u8]) -> Result<Junior, Refusal> {
+    let answer = answer_of(|answer| on_slices::junior(file, plan, answer))?;
+    Ok(Junior { pairs: answer[1], u: answer[2], v: answer[3] })
 }
 
 /// Merges two boards of one rack and writes the panel to out, the lines of the first and then those of the second, as
@@ -262,6 +280,19 @@ pub mod on_slices {
         }
     }
 
+    pub fn junior(file: &[u8], plan: &mut [u8], answer: &mut [u64]) -> u32 {
+        unsafe {
+            declared::tipshare_junior(
+                file.as_ptr(),
+                file.len(),
+                plan.as_mut_ptr(),
+                plan.len(),
+                answer.as_mut_ptr(),
+                answer.len(),
+            )
+        }
+    }
+
     pub fn merge(first: &[u8], second: &[u8], out: &mut [u8], answer: &mut [u64]) -> u32 {
         unsafe {
             declared::tipshare_merge(
@@ -378,6 +409,14 @@ mod declared {
             claim: u32,
             table: *const u32,
             table_len: usize,
+            answer: *mut u64,
+            answer_len: usize,
+        ) -> u32;
+        pub fn tipshare_junior(
+            file: *const u8,
+            file_len: usize,
+            plan: *mut u8,
+            plan_len: usize,
             answer: *mut u64,
             answer_len: usize,
         ) -> u32;

@@ -1,8 +1,8 @@
 //! The linked library through its safe form.
 
 use library::{
-    alone, best, check, common, goal, keep, mend, merge, quick, read, report, CommonTip, Job, Kept, Mended, Refusal,
-    LONGEST_CHANGES, LONGEST_FILE,
+    alone, best, check, common, goal, junior, keep, mend, merge, quick, read, report, CommonTip, Job, Junior, Kept,
+    Mended, Refusal, LONGEST_CHANGES, LONGEST_FILE,
 };
 
 /// The example of the rules: rack 3, lines {0} and {1,2}.
@@ -105,6 +105,34 @@ fn goals_strike_what_no_plan_with_so_many_pairs_uses() {
     assert_eq!(goal(&file, 9, &mut []), Err(refused(25, 1, 0)));
     assert_eq!(goal(&file[..7], 9, &mut []), Err(refused(6, 0, 0)));
     assert_eq!(refused(34, 0, 0).to_string(), "refused 34");
+}
+
+#[test]
+fn junior_has_two_tips() {
+    // {0} of 2 placements and {1,2} of 3.
+    let mut plan = [7; 3];
+    assert_eq!(junior(&COUNTED, &mut plan), Ok(Junior { pairs: 4, u: 0, v: 1 }));
+    assert_eq!(plan, [0, 1, 7]);
+    // {0,1} instead of {0}: tip 1 serves both lines.
+    let mut file = COUNTED;
+    file[15] = 0b011;
+    assert_eq!(junior(&file, &mut plan), Ok(Junior { pairs: 10, u: 1, v: 1 }));
+    assert_eq!(plan, [1, 1, 7]);
+    // No lines.
+    let mut plan = [7; 3];
+    assert_eq!(junior(b"TIP\0\x01\x08\0\0", &mut plan), Ok(Junior { pairs: 0, u: 0, v: 0 }));
+    assert_eq!(junior(&COUNTED, &mut plan[..1]), Err(refused(4, 0, 0)));
+    assert_eq!(junior(b"TIP\0\x01\x09\0\0", &mut plan), Err(refused(1, 0, 0)));
+    // {0}, {1}, {2}.
+    let mut three = EXAMPLE[..16].to_vec();
+    three[7] = 3;
+    three.extend(b"\0\0\0\0\0\0\0\x02\0\0\0\0\0\0\0\x04");
+    assert_eq!(junior(&three, &mut plan), Err(refused(31, 0, 0)));
+    let mut many = [&EXAMPLE[..8], &[0, 0, 0, 0, 0, 0, 0, 1].repeat(65)].concat();
+    (many[5], many[7]) = (9, 65);
+    assert_eq!(junior(&many, &mut []), Err(refused(24, 0, 0)));
+    assert_eq!(plan, [7; 3]);
+    assert_eq!(refused(31, 0, 0).to_string(), "refused 31");
 }
 
 #[test]

@@ -115,6 +115,11 @@ pub fn check(arguments: &[&str]) -> Result<(), Failure> {
     print(checked.as_bytes())
 }
 
+pub fn junior(arguments: &[&str]) -> Result<(), Failure> {
+    let [path] = arguments else { return Err(Failure::Arguments) };
+    print(named(path, input_of(path)?.bytes)?.junior().map_err(|why| about(path, why))?.as_bytes())
+}
+
 pub fn panel(arguments: &[&str]) -> Result<(), Failure> {
     let (paths, job) = match *arguments {
         [first, second] => ([first, second], None),

@@ -16,7 +16,7 @@ pub struct Command {
     run: fn(&[&str]) -> Result<(), Failure>,
 }
 
-const COMMANDS: [Command; 11] = [
+const COMMANDS: [Command; 12] = [
     Command {
         name: "make",
         arguments: "LIST",
@@ -106,6 +106,19 @@ const COMMANDS: [Command; 11] = [
                Example: parts check board.txt plan.txt\n",
         options: &[],
         run: commands::check,
+    },
+    Command {
+        name: "junior",
+        arguments: "FILE",
+        does: "print a plan for the Junior, which carries two tips at once: the tips of its holders,\n\
+               and the tip of each part",
+        more: "The plan has the most pairs of all plans with one tip or two, a pair being two placements on one tip.\n\
+               Where several choices of tips have as many, the lowest first tip is taken, then the lowest second.\n\
+               Parts that both tips can pick are all on the one that gives more pairs, on the lower where that is equal.\n\
+               It takes lists of 64 parts and 8 tips at most.\n\
+               Example: parts junior board.txt\n",
+        options: &[],
+        run: commands::junior,
     },
     Command {
         name: "panel",

@@ -5,6 +5,7 @@ pub mod files;
 pub mod goal;
 pub mod handed;
 pub mod job;
+pub mod junior;
 pub mod list;
 pub mod mending;
 pub mod ordering;

@@ -178,7 +178,7 @@ fn help_and_version_are_printed() {
     assert_eq!(run(&["--version"], b""), given(version.as_bytes()));
 }
 
-const COMMANDS: [&str; 8] = ["make", "show", "sort", "keep", "goal", "plan", "check", "picture"];
+const COMMANDS: [&str; 9] = ["make", "show", "sort", "keep", "goal", "plan", "check", "junior", "picture"];
 
 #[test]
 fn every_command_has_a_page() {
@@ -195,7 +195,7 @@ fn every_command_has_a_page() {
 
 #[test]
 fn wrong_arguments_print_the_usage_of_their_command() {
-    let cases: [(&[&str], &str); 21] = [
+    let cases: [(&[&str], &str); 23] = [
         (&["make"], "make LIST"),
         (&["make", "a", "b"], "make LIST"),
         (&["make", "--list", "a"], "make LIST"),
@@ -210,6 +210,8 @@ fn wrong_arguments_print_the_usage_of_their_command() {
         (&["keep", "1", "a", "--job", "b"], "keep K FILE [JOB] [--list LIST]"),
         (&["goal", "1"], "goal K FILE [JOB] [--list LIST]"),
         (&["goal", "1", "a", "b", "c"], "goal K FILE [JOB] [--list LIST]"),
+        (&["junior"], "junior FILE"),
+        (&["junior", "a", "b"], "junior FILE"),
         (&["plan"], "plan FILE [--mounted T]"),
         (&["plan", "a", "b"], "plan FILE [--mounted T]"),
         (&["plan", "a", "--mounted"], "plan FILE [--mounted T]"),
@@ -480,7 +482,7 @@ fn goal_writes_the_job_file_and_the_list() {
     let list = b"# board\nrack 2\nA x2 : 0\nB : 0-1 # either\n";
     let text = b"best 3 goal 3\nB keeps 0 struck 1\nno tip struck from 1 part\n";
     assert_eq!(run(&["goal", "3", "-", &job, "--list", &kept], list), given(text));
-    assert_eq!(fs::read(&kept).unwrap(), b"# board\nrack 2\nA x2 : 0\nB : 0 # either\n");
+    assert_eq!(fs::read(&kept).unwrap(), b"# board\nrack 2\nA x2 : 0\nB : 0   # either\n");
     assert_eq!(run(&["show", &job], b""), given(b"rack 2\n0 x2 : 0\n1 : 0\n"));
     let why = "-: refused 34: no plan has 4 pairs; the most is 3, name a goal from 0 to 3";
     assert_eq!(run(&["goal", "4", "-", &job], list), refused(why));
@@ -489,6 +491,16 @@ fn goal_writes_the_job_file_and_the_list() {
         let why = format!("a goal is a number from 0 to 4294967295, and not {goal}");
         assert_eq!(run(&["goal", goal, "-"], list), wrong_argument(&why));
     }
+}
+
+#[test]
+fn junior_takes_lists_and_job_files() {
+    let of_list = b"lines 2 rack 3\nholders tip 0 and tip 1\npairs 0\nC1 tip 0\nC2 tip 1\n";
+    assert_eq!(run(&["junior", "-"], LIST.as_bytes()), given(of_list));
+    let of_file = b"lines 2 rack 3\nholders tip 0 and tip 1\npairs 0\nline 0 tip 0\nline 1 tip 1\n";
+    assert_eq!(run(&["junior", "-"], &EXAMPLE), given(of_file));
+    let why = "-: refused 1: a rack of 9; the Junior takes 8 tips at most, name a smaller rack";
+    assert_eq!(run(&["junior", "-"], b"rack 9\nA : 0\n"), refused(why));
 }
 
 #[test]

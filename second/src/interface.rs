@@ -2,6 +2,7 @@
 
 use crate::board::{Answer, Board};
 use crate::file::read as read_file;
+use crate::junior::Junior;
 use crate::placing::{order_parts, Part, Placing, Rule};
 use crate::refusal;
 
@@ -101,6 +102,15 @@ pub fn best(file: &[u8], mounted: usize, plan: &mut [u8], table: &mut [u32], ans
 /// The check of a plan from other software: place, 0, 0, 0.
 pub fn check(file: &[u8], plan: &[u8], claim: u32, table: &[u32], answer: &mut [u64]) -> u32 {
     on_board(file, answer, |board, answer| refused(answer, &board.check(plan, claim, table)))
+}
+
+/// Plans for the Junior: place, pairs, the lower tip, the other tip.
+pub fn junior(file: &[u8], plan: &mut [u8], answer: &mut [u64]) -> u32 {
+    on_board(file, answer, |board, answer| {
+        let planned = board.junior(plan);
+        let Junior { pairs, u, v } = planned.value;
+        answered(answer, planned.number, [planned.place as u64, pairs.into(), u as u64, v as u64])
+    })
 }
 
 /// Answers by the call on the boards of both files, unless the answer is short or one of them is refused, the first first.

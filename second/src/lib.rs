@@ -7,6 +7,7 @@ mod board;
 mod checking;
 mod common;
 mod goal;
+mod junior;
 mod mending;
 mod panel;
 mod placing;
@@ -22,6 +23,7 @@ pub use board::{Answer, Board, Line, Stage, MOST_LINES, MOST_PLACEMENTS, MOST_TI
 pub use checking::TableFault;
 pub use common::CommonTip;
 pub use file::{read, Version, LONGEST_FILE};
+pub use junior::{Junior, JUNIOR_LINES, JUNIOR_TIPS};
 pub use mending::{mend, mended, Change, Mended, Mending, What, CHANGE, WHOLE_FILE};
 pub use panel::{Alone, Merged};
 pub use placing::{

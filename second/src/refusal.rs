@@ -3,7 +3,7 @@
 /// The call was accepted.
 pub const NONE: u32 = 0;
 
-/// The rack size is 0 or above 64.
+/// The rack size is 0 or above 64, or for the Junior above 8.
 pub const RACK_SIZE: u32 = 1;
 /// A line's set is empty.
 pub const EMPTY_LINE: u32 = 2;
@@ -48,7 +48,7 @@ pub const OUT_OF_RANGE: u32 = 21;
 pub const CLOSED: u32 = 22;
 /// Common tip, keep, a plan or write on an open board.
 pub const OPEN: u32 = 23;
-/// Add on a board of 512 lines, or merging with more than 512 together.
+/// Add on a board of 512 lines, the Junior on one of more than 64, or merging with more than 512 together.
 pub const FULL: u32 = 24;
 /// Best sharing, a goal or a check, and some line misses a named tip between its lowest and its highest.
 pub const NO_RUN: u32 = 25;
@@ -62,6 +62,8 @@ pub const LEFT_OVER: u32 = 28;
 pub const NO_ORDER: u32 = 29;
 /// The lines stand for more than 2,048 placements, those of both boards where they are merged.
 pub const TOO_MANY_PLACEMENTS: u32 = 30;
+/// The Junior, and no two tips serve every line.
+pub const NO_TWO_TIPS: u32 = 31;
 /// The table does not show that the checked plan has the most pairs.
 pub const TABLE_FAILS: u32 = 33;
 /// A goal of pairs, and no plan has so many.

@@ -14,6 +14,8 @@ pub struct Tried {
     by_off: BTreeMap<usize, Alike>,
     /// For each number of pairs that a plan has, the tips that such plans use, line by line.
     by_pairs: BTreeMap<u32, Vec<u64>>,
+    /// The most pairs of the plans with one tip or two, and the lowest such tips that reach them.
+    with_two_tips: Option<(u32, (usize, usize))>,
 }
 
 /// The plans with one number of placements off.
@@ -57,6 +59,11 @@ impl Tried {
     /// For each line, the tips that plans with at least so many pairs use there; nothing where there is no such plan.
     pub fn used_with(&self, pairs: u32) -> Option<Vec<u64>> {
         joined(self.by_pairs.range(pairs..).map(|(_, used)| used))
+    }
+
+    /// The most pairs of a plan with one tip or two, and of its tips the lowest first one, then the lowest second.
+    pub fn with_two_tips(&self) -> Option<(u32, (usize, usize))> {
+        self.with_two_tips
     }
 
     /// The numbers of pairs that plans have, the lowest first.
@@ -104,7 +111,7 @@ fn next_plan(sets: &[u64], plan: &mut [u8]) -> bool {
 pub fn try_every_plan(board: &Board) -> Tried {
     let count = board.count;
     let sets = &board.sets[..count];
-    let mut tried = Tried { most_pairs: 0, by_off: BTreeMap::new(), by_pairs: BTreeMap::new() };
+    let mut tried = Tried { most_pairs: 0, by_off: BTreeMap::new(), by_pairs: BTreeMap::new(), with_two_tips: None };
     let mut plan = vec![0; count];
     for line in 0..count {
         plan[line] = tip_from(sets[line], 0).expect("a line has a tip") as u8;
@@ -120,6 +127,14 @@ pub fn try_every_plan(board: &Board) -> Tried {
         let mut placements_on = [0; MOST_TIPS];
         for &tip in &placed {
             placements_on[usize::from(tip)] += 1;
+        }
+        let used: Vec<usize> = (0..MOST_TIPS).filter(|&tip| placements_on[tip] > 0).collect();
+        if let [u] | [u, _] = used[..] {
+            let choice = (pairs, (u, used[used.len() - 1]));
+            let is_better = |best: (u32, (usize, usize))| pairs > best.0 || pairs == best.0 && choice.1 < best.1;
+            if tried.with_two_tips.is_none_or(is_better) {
+                tried.with_two_tips = Some(choice);
+            }
         }
         let largest = *placements_on.iter().max().unwrap();
         let unused = Alike { plans: 0, tips: 0, used: vec![0; count] };

@@ -1,6 +1,6 @@
 //! Every refusal of every call, with its place, and that nothing else changes.
 
-use second::{interface, read, Answer, Board, Line, Stage, Version, LONGEST_FILE};
+use second::{interface, read, Answer, Board, Junior, Line, Stage, Version, LONGEST_FILE};
 
 /// A closed board of rack 3 with the lines {0}, {1,2}.
 fn closed_board() -> Board {
@@ -119,6 +119,7 @@ fn assert_closed_calls_refused(board: &Board, number: u32, place: usize) {
         assert_refused(board.clone().common_tip(), board, number, place, Default::default());
         assert_refused(board.clone().keep_within(0), board, number, place, 0);
         assert_refused(board.clone().keep_within(u16::MAX), board, number, place, 0);
+        assert_refused(board.clone().junior(&mut plan), board, number, place, Junior::default());
         assert_refused(board.clone().goal(0), board, number, place, ());
         assert_refused(board.clone().goal(u32::MAX), board, number, place, ());
         assert_refused(board.clone().quick(None, &mut plan), board, number, place, 0);
@@ -305,7 +306,9 @@ fn assert_not_read(file: &[u8], number: u32, place: usize) {
         let mut other_plan = plan.clone();
         let (other, others) = (vec![7; length], vec![7; length]);
         let mut other_out = out.clone();
-        let calls: [Call; 7] = [
+        let mut junior_plan = plan.clone();
+        let calls: [Call; 8] = [
+            &mut |answer| interface::junior(file, &mut junior_plan, answer),
             &mut |answer| interface::goal(file, u32::MAX, &mut other_out, answer),
             &mut |answer| interface::check(file, &other, 7, &others, answer),
             &mut |answer| interface::read(file, answer),
@@ -319,7 +322,7 @@ fn assert_not_read(file: &[u8], number: u32, place: usize) {
             assert_eq!(call(&mut answer), number);
             assert_eq!(answer, [place as u64, 0, 0, 0, 9, 9]);
         }
-        assert_eq!((plan, other_plan), (vec![7; length], vec![7; length]));
+        assert_eq!((plan, other_plan, junior_plan), (vec![7; length], vec![7; length], vec![7; length]));
         assert_eq!((out, other_out, table), (vec![7; length], vec![7; length], vec![7; length]));
     }
 }
@@ -493,6 +496,7 @@ fn interface_answers() {
             assert_eq!(interface::common(input, &mut answer), 100);
             assert_eq!(interface::keep(input, 1, &mut out, &mut answer), 100);
             assert_eq!(interface::goal(input, 1, &mut out, &mut answer), 100);
+            assert_eq!(interface::junior(input, &mut plan, &mut answer), 100);
             assert_eq!(interface::quick(input, interface::NO_TIP, &mut plan, &mut answer), 100);
             assert_eq!(interface::best(input, interface::NO_TIP, &mut plan, &mut table, &mut answer), 100);
             assert_eq!(interface::check(input, &plan, 0, &table, &mut answer), 100);
@@ -547,6 +551,12 @@ fn interface_answers() {
     let mut out = [7; 25];
     assert_eq!(interface::goal(&in_second, 0, &mut out[..24], &mut answer), 0);
     assert_eq!((answer, &out[..24], out[24]), ([0, 24, 0, 0, 9], &file[..], 7));
+    // {0} of 2 and {1,2} of 3 placements.
+    let mut plan = [7; 3];
+    assert_eq!(interface::junior(&counted, &mut plan, &mut answer), 0);
+    assert_eq!((answer, plan), ([0, 4, 0, 1, 9], [0, 1, 7]));
+    assert_eq!(interface::junior(&counted, &mut plan[..1], &mut answer), 4);
+    assert_eq!((answer, plan), ([0, 0, 0, 0, 9], [0, 1, 7]));
     let mut text = vec![7; interface::REPORT_SPACE];
     assert_eq!(interface::report(&file, &mut text[1..]), 0);
     assert!(text.iter().all(|&byte| byte == 7));

@@ -10,36 +10,36 @@ mod every_plan;
 #[test]
 fn every_small_board() {
     let mut boards = 0;
-    for (rack, most_lines) in [(1, 6), (2, 5), (3, 4), (4, 3), (5, 2), (6, 2)] {
+    for (rack, most_lines) in [(1, 6), (2, 5), (3, 4), (4, 3), (5, 2)] {
         for lines in 0..=most_lines {
             boards += every_board(rack, &single(&all_sets(rack)), lines, &mut check);
         }
     }
-    assert_eq!(boards, 7 + 364 + 2801 + 3616 + 993 + 4033);
+    assert_eq!(boards, 7 + 364 + 2801 + 3616 + 993);
 }
 
 #[test]
 fn every_small_board_of_runs() {
     let mut boards = 0;
-    for (rack, most_lines) in [(3, 5), (4, 4), (5, 3), (6, 3)] {
+    for (rack, most_lines) in [(3, 5), (4, 4), (5, 3), (6, 2)] {
         for lines in 0..=most_lines {
             boards += every_board(rack, &single(&all_runs(rack)), lines, &mut check);
         }
     }
-    assert_eq!(boards, 9331 + 11111 + 3616 + 9724);
+    assert_eq!(boards, 9331 + 11111 + 3616 + 463);
 }
 
 #[test]
 fn every_small_board_with_quantities() {
     let mut boards = 0;
     let cases: [(usize, &[u8], usize); 4] =
-        [(1, &[1, 2, 3, 255], 3), (2, &[1, 2, 3], 4), (3, &[1, 2, 5], 3), (4, &[1, 3], 2)];
+        [(1, &[1, 2, 3, 255], 3), (2, &[1, 2, 3], 4), (3, &[1, 5], 3), (4, &[1, 3], 2)];
     for (rack, quantities, most_lines) in cases {
         for lines in 0..=most_lines {
             boards += every_board(rack, &counted(&all_sets(rack), quantities), lines, &mut check);
         }
     }
-    assert_eq!(boards, 85 + 7381 + 9724 + 931);
+    assert_eq!(boards, 85 + 7381 + 2955 + 931);
 }
 
 #[test]

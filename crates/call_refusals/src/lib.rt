@@ -11,6 +11,10 @@ ghost use Rattle.call_refusals.specs.Calls.{planRefusal, runRefusal, bes
 use head::Mounted;
 use refusal::Refusal;
 
+mod junior_call;
+
+pub use junior_call::junior_refusal;
+
 pub enum Stage {
     Open,
     Closed,

@@ -7,3 +7,4 @@ pub mod AsBoard
 pub mod GoalAsBoard
 pub mod TwoFiles
 pub mod PanelAsBoard
+pub mod JuniorIn

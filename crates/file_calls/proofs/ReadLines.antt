@@ -33,7 +33,7 @@ pub same-lines : {file : List ℕ} {m n : ℕ} {old-sets sets old-qs qs : List �
 same-lines l = (l .rack-is, first-quantities l, first-sets l)
 
 -- the same after the refusal that the definition has
-of-file : (file : List ℕ) {d r : Refusal} → d ≡ r → {A : Type 0} (f : Refusal → ℕ → List ℕ → List ℕ → A)
+pub of-file : (file : List ℕ) {d r : Refusal} → d ≡ r → {A : Type 0} (f : Refusal → ℕ → List ℕ → List ℕ → A)
     → f d (rackIn file) (quantitiesIn file) (setsIn file) ≡ f r (rackIn file) (quantitiesIn file) (setsIn file)
 of-file file e f = ap (λ r. f r (rackIn file) (quantitiesIn file) (setsIn file)) e
 

@@ -13,9 +13,11 @@ use line_calls::PlanAnswer;
 use refusal::Refusal;
 
 mod goal_call;
+mod junior_call;
 mod panel_calls;
 
 pub use goal_call::goal_outcome;
+pub use junior_call::junior_outcome;
 pub use panel_calls::alone_outcome;
 pub use panel_calls::merge_outcome;
 

@@ -5,3 +5,4 @@ pub mod JobFile
 pub mod Refused
 pub mod Checked
 pub mod PairGoal
+pub mod JuniorPlan

@@ -36,7 +36,7 @@ module _ {d r : Refusal} (e : d ≡ r) where
   plan-accepted z p q = rw (e, q, accepted p 0 e z) refl
 
 -- a valid plan at the front of the buffer is handed out with its pairs
-handed-out : (qs : List ℕ) {lines new : List ℕ} (n : ℕ) → n ≡ length lines → (old : List ℕ) (x : ℕ)
+pub handed-out : (qs : List ℕ) {lines new : List ℕ} (n : ℕ) → n ≡ length lines → (old : List ℕ) (x : ℕ)
     → Valid lines new → x ≡ pairs (repeated qs new) → HandedOut qs lines (new ++ drop n old) x
 handed-out qs {lines} {new} n size old x v p =
     let front = take-at new (drop n old) (length lines) (valid-length v) in

@@ -10,8 +10,10 @@ use Rattle.refusal.specs.declared.Refusal.{Refusal}
 use Rattle.refusal.specs.Refusal.{accepts}
 use Rattle.refusal.proofs.Laws.{or-first}
 use Rattle.call_refusals.specs.Calls.{planRefusal, bestRefusal}
+use Rattle.call_refusals.specs.Junior
 use Rattle.line_calls.specs.Lines.{commonOf, keepOf, quickOf, quickBuffer, bestOf, bestBuffer, bestTable, checkOf, writeOf, writeBuffer}
 use Rattle.line_calls.specs.Goal.{goalOf}
+use Rattle.line_calls.specs.Junior.{juniorOf, juniorBuffer}
 use Rattle.line_calls.specs.Rules.{CommonRule, HalfRule, BestRule}
 use Rattle.line_calls.proofs.CommonTip.{common-refused}
 use Rattle.line_calls.proofs.KeepWithin.{keep-stopped}
@@ -19,6 +21,7 @@ use Rattle.line_calls.proofs.Plans.{quick-refused, best-refused}
 use Rattle.line_calls.proofs.Checked.{check-first}
 use Rattle.line_calls.proofs.PairGoal.{asked-earlier, goal-stopped}
 use Rattle.line_calls.proofs.JobFile.{write-stopped}
+use Rattle.line_calls.proofs.JuniorPlan.{junior-refused}
 
 module _ (earlier : Refusal) (h : earlier .number ≡ 0 → ⊥) (m : ℕ) (lines : List ℕ) where
   plan-stopped : (room : ℕ) → earlier ≡ planRefusal earlier (length lines) room
@@ -28,6 +31,10 @@ module _ (earlier : Refusal) (h : earlier .number ≡ 0 → ⊥) (m : ℕ) (line
   best-stopped : (room places : ℕ) → earlier ≡ bestRefusal earlier m lines room places
   unfolding bestRefusal
   best-stopped room places = or-first (plan-stopped room) _ h
+
+  junior-stopped : (room : ℕ) → earlier ≡ Junior.juniorRefusal earlier m (length lines) room
+  unfolding Junior.juniorRefusal
+  junior-stopped room = or-first {d = earlier} refl _ h
 
 -- rack, quantities and lines that are equal to others
 abbrev pub Same : ℕ → ℕ → List ℕ → List ℕ → List ℕ → List ℕ → Type 0
@@ -67,6 +74,16 @@ module _ (earlier : Refusal) {m n : ℕ} {qs rs lines others : List ℕ} (same :
     quick-buffer-same mounted =
         by-earlier (λ k q l. quickBuffer earlier k mounted q l plan)
         (λ h k q l. quick-refused earlier k mounted q l plan (plan-stopped earlier h k l (length plan)) (λ _. refl) h .1 .0)
+
+    pub junior-same : juniorOf earlier m qs lines (length plan) ≡ juniorOf earlier n rs others (length plan)
+    junior-same =
+        by-earlier (λ k q l. juniorOf earlier k q l (length plan))
+        (λ h k q l. junior-refused earlier k q l plan (junior-stopped earlier h k l (length plan)) h .0)
+
+    pub junior-buffer-same : juniorBuffer earlier m qs lines plan ≡ juniorBuffer earlier n rs others plan
+    junior-buffer-same =
+        by-earlier (λ k q l. juniorBuffer earlier k q l plan)
+        (λ h k q l. junior-refused earlier k q l plan (junior-stopped earlier h k l (length plan)) h .1 .0)
 
     module _ (cells : List ℕ) where
       pub best-same : bestOf earlier m qs lines (length plan) (length cells) ≡ bestOf earlier n rs others (length plan) (length cells)

@@ -11,8 +11,10 @@ use head::Mounted;
 use refusal::Refusal;
 
 mod goal_call;
+mod junior_call;
 
 pub use goal_call::goal;
+pub use junior_call::junior;
 
 // The most placements that allow one tip, the least number of placements off the common tip, and the set W of the tips that reach top.
 pub struct CommonAnswer {
@@ -32,6 +34,14 @@ pub struct KeepAnswer {
 pub struct PlanAnswer {
     pub refusal: Refusal,
     pub pairs: u32,
+}
+
+// The plan's pairs, and the tips u and v that it is on.
+pub struct JuniorAnswer {
+    pub refusal: Refusal,
+    pub pairs: u32,
+    pub u: usize,
+    pub v: usize,
 }
 
 // The bytes of the job file that is written.

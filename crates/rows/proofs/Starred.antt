@@ -24,9 +24,13 @@ use Rattle.checking.specs.Checking.{claimRefusal, tableOk, checkRefusal}
 use Rattle.striking.specs.Striking.{goalRefusal}
 use Rattle.line_calls.specs.Lines
 use Rattle.line_calls.specs.Goal
+use Rattle.call_refusals.specs.Junior.{juniorRefusal}
+use Rattle.holders.specs.Holders.{isServed, firstTip, secondTip, juniorPlan, linePlan, chosen, score, isChoice, serves, twoPlan, toFirst, gathered}
+use Rattle.line_calls.specs.Junior as LinesJunior
 use Rattle.board.specs.Board.{noSets, noQuantities, addOf, closeOf}
 use Rattle.board.specs.Common.{commonOf, keepOf}
 use Rattle.board.specs.Sharing.{quickOf, quickBuffer, bestOf, bestBuffer, bestTable}
+use Rattle.board.specs.Junior.{juniorOf, juniorBuffer}
 use Rattle.board.specs.JobFile.{readOf, writeOf, writeBuffer}
 use Rattle.board.specs.Check.{checkOf}
 use Rattle.board.specs.Goal.{goalOf}
@@ -41,7 +45,9 @@ use Rattle.rows.specs.Rows.{B36-quick-2, B36-best-1, B36-best-2, B37-qui
 use Rattle.rows.specs.Rows.{B41-quick, B41-best, B41-open, B42-check, B43-foreign, B43-64, B43-255, B44-more, B44-most, B45-whole, B45-less}
 use Rattle.rows.specs.Rows.{B46-exact, B46-less, B46-huge, B47-huge, B48-open, B48-short, B48-few, B48-run, B48-none, B49-none, B49-14}
 use Rattle.rows.specs.Rows.{B49-17, B50-18, B50-20, B51-21, B51-most, B51-empty-0, B51-empty-1, B52-goal, B53-all, B53-gap, B53-best, B54-2}
-use Rattle.rows.specs.Rows.{B54-3, B54-4, B55-open, B55-run, B55-most}
+use Rattle.rows.specs.Rows.{B54-3, B54-4, B55-open, B55-run, B55-most, B56-junior, B57-tied, B57-later, B58-first, B58-second, B58-equal}
+use Rattle.rows.specs.Rows.{B59-junior, B60-junior, B61-junior, B62-most, B62-over, B63-most, B63-over, B63-both, B64-none, B64-rack}
+use Rattle.rows.specs.Rows.{B65-open, B65-short}
 
 pub starred : All Gives rows
 unfolding run addOf closeOf commonOf keepOf quickOf quickBuffer bestOf bestBuffer bestTable checkOf Lines.checkOf checkRefusal claimRefusal
@@ -53,6 +59,8 @@ unfolding run addOf closeOf commonOf keepOf quickOf quickBuffer bestOf bestBuffe
     writeOf writeBuffer Lines.writeOf Lines.writeBuffer writeRefusal readRefusal headerNumber startNumber sizeNumber versionOk lineNumbers setsIn
     quantitiesIn numberAt numberOf bytesOf lineLength headerOf lineOf bytesOfLines fileOf versionFor paired noSets noQuantities
     goalOf Goal.goalOf Goal.goalAsked Goal.struckSets goalRefusal strike goalTips only
+    juniorOf juniorBuffer LinesJunior.juniorOf LinesJunior.juniorBuffer LinesJunior.juniorRefusal juniorRefusal isServed firstTip secondTip
+    juniorPlan linePlan chosen score isChoice serves twoPlan toFirst gathered
 starred =
     more {x = B1-common} refl
     (more {x = B1-keep} refl
@@ -163,7 +171,26 @@ starred =
     (more {x = B54-4} refl
     (more {x = B55-open} refl
     (more {x = B55-run} refl
-    (more {x = B55-most} refl none)))))))))))))))))))))))))))))))))))))))))))))))))))))))))))))))))))))))))))))))))))))))))))))))))))))))))))))
+    (more {x = B55-most} refl
+    (more {x = B56-junior} refl
+    (more {x = B57-tied} refl
+    (more {x = B57-later} refl
+    (more {x = B58-first} refl
+    (more {x = B58-second} refl
+    (more {x = B58-equal} refl
+    (more {x = B59-junior} refl
+    (more {x = B60-junior} refl
+    (more {x = B61-junior} refl
+    (more {x = B62-most} refl
+    (more {x = B62-over} refl
+    (more {x = B63-most} refl
+    (more {x = B63-over} refl
+    (more {x = B63-both} refl
+    (more {x = B64-none} refl
+    (more {x = B64-rack} refl
+    (more {x = B65-open} refl
+    (more {x = B65-short} refl none
+    )))))))))))))))))))))))))))))))))))))))))))))))))))))))))))))))))))))))))))))))))))))))))))))))))))))))))))))))))))))))))))))))
 
 pub half-reached : HalfReached
 unfolding has pairs uses count

@@ -1,6 +1,6 @@
 //! Small boards, and every call on them held to every plan.
 
-use second::{pairs_in, try_every_plan, Answer, Board, Line, Tried};
+use second::{pairs_in, try_every_plan, Answer, Board, Junior, Line, Tried};
 
 /// Runs the check on every board of this many lines, each line being one of those given.
 pub fn every_board(rack: usize, choices: &[Line], lines: usize, check: &mut dyn FnMut(&Board)) -> usize {
@@ -55,6 +55,7 @@ pub fn check(board: &Board) {
     }
     check_quick(board, &tried);
     check_best(board, &tried);
+    check_junior(board);
     check_files(board);
 }
 
@@ -139,6 +140,58 @@ fn check_goal(board: &Board, tried: &Tried, goal: u32) {
     expected.sets[..board.count].copy_from_slice(&used);
     assert_answer(&kept, &expected, 0, 0);
     assert!(goal <= tried.most_pairs && (goal > 0 || expected == *board));
+}
+
+/// The choice of tips against every plan with at most two: the most pairs, the lowest tips that reach them, and the lines
+/// that have both tips all on one.
+fn check_junior(board: &Board) {
+    let mut plan = junk_plan(board);
+    let answer = board.clone().junior(&mut plan);
+    let mut most: Option<(u32, Vec<(usize, usize)>)> = None;
+    every_plan_of(board, &mut |plan| {
+        let used: Vec<usize> = (0..board.rack).filter(|&tip| plan.contains(&(tip as u8))).collect();
+        if used.is_empty() || used.len() > 2 {
+            return;
+        }
+        let (pairs, choice) = (pairs_in(&board.placed(plan)), (used[0], used[used.len() - 1]));
+        match &mut most {
+            Some((best, choices)) if *best == pairs => choices.push(choice),
+            Some((best, _)) if *best > pairs => {}
+            _ => most = Some((pairs, vec![choice])),
+        }
+    });
+    let Some((pairs, choices)) = most else {
+        assert_answer(&answer, board, if board.count == 0 { 0 } else { 31 }, 0);
+        assert!(answer.value == Junior::default() && plan.iter().all(|&byte| byte == JUNK_BYTE));
+        return;
+    };
+    assert_answer(&answer, board, 0, 0);
+    check_plan(board, &plan, pairs);
+    let Junior { u, v, .. } = answer.value;
+    assert_eq!((answer.value.pairs, (u, v)), (pairs, *choices.iter().min().expect("a choice")));
+    // All lines that have both tips are on one of them: on u, unless v gives more pairs.
+    let has_both = |line: &Line| u != v && line.set >> u & 1 == 1 && line.set >> v & 1 == 1;
+    let with_both_on = |tip: usize| -> Vec<u8> {
+        board.lines().zip(&plan).map(|(line, &laid)| if has_both(&line) { tip as u8 } else { laid }).collect()
+    };
+    let [on_u, on_v] = [u, v].map(with_both_on);
+    let more_on_v = pairs_in(&board.placed(&on_v)) > pairs_in(&board.placed(&on_u));
+    assert_eq!(&plan[..board.count], if more_on_v { on_v } else { on_u });
+}
+
+/// Hands on every plan of the board.
+fn every_plan_of(board: &Board, hand_on: &mut dyn FnMut(&[u8])) {
+    let choices: Vec<Vec<usize>> = board.lines().map(|line| tips_in(line.set).collect()).collect();
+    let mut chosen = vec![0; board.count];
+    loop {
+        let plan: Vec<u8> = chosen.iter().zip(&choices).map(|(&at, tips)| tips[at] as u8).collect();
+        hand_on(&plan);
+        let Some(line) = (0..board.count).find(|&line| chosen[line] + 1 < choices[line].len()) else {
+            return;
+        };
+        chosen[..line].fill(0);
+        chosen[line] += 1;
+    }
 }
 
 /// No tip.

@@ -1,0 +1,5 @@
+pub mod Two
+pub mod Choice
+pub mod Counts
+pub mod Holders
+pub mod Junior

@@ -1,0 +1,4 @@
+pub mod Sides
+pub mod Search
+pub mod Passed
+pub mod Laid
