@@ -1,7 +1,7 @@
 # make                  builds the proved library, the programs tipshare and parts
 # make check            proves and tests everything (.ci/run)
 # make checklist        builds, then runs the checklist
-# make bench            builds, then times every call
+# make bench            builds, checks the hand-written C++, then times every call
 # make example          builds the C example, then runs it
 # make install          copies programs, library and header to PREFIX (/usr/local), below DESTDIR if that is set
 # make clean            removes all that was built
@@ -47,6 +47,7 @@ checklist: all
 	checklist/run
 
 bench: all
+	bench/check
 	bench/run
 
 example: $(example)
