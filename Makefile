@@ -14,6 +14,8 @@ CFLAGS = -std=c11 -Wall -Wextra -Werror -O2
 
 version := $(shell sed -n 's/^version = "\(.*\)"/\1/p' Cargo.toml)
 library := target/staticlib/libtipshare_c.a
+# The crates whose functions the library exports.
+exported := c_boards c_plans c_mend c_order
 tipshare := target/bin/tipshare
 example := target/example
 parts := target-rust/release/parts
@@ -22,12 +24,16 @@ sources := crates.txt $(shell find crates \( -path 'crates/try_*' -o -name must-
 
 all: $(library) $(tipshare) parts
 
-# rt check proves crates side by side, rt staticlib one after the other.
+# rt check proves crates side by side; of each crate that exports functions there is then a static library, whose object
+# has no other name that is seen outside.
 $(library): $(sources)
-	rt check tipshare_c
+	rt check $(exported)
 	mkdir -p $(@D)
-	rt staticlib tipshare_c > $(@D)/report || { cat $(@D)/report; exit 1; }
-	tools/no-axioms $(@D)/report
+	for crate in $(exported); do rt staticlib $$crate > $(@D)/$$crate.report || { cat $(@D)/$$crate.report; exit 1; }; done
+	tools/no-axioms $(exported:%=$(@D)/%.report)
+	rm -f $@
+	cd $(@D) && for crate in $(exported); do ar x lib$$crate.a; done
+	cd $(@D) && ar rcs $(@F) $(exported:%=%.o)
 
 $(example): examples/c/example.c include/tipshare.h $(library)
 	$(CC) $(CFLAGS) -Iinclude examples/c/example.c $(library) -o $@
