@@ -4,6 +4,7 @@ pub mod checking;
 pub mod files;
 pub mod goal;
 pub mod handed;
+pub mod import;
 pub mod job;
 pub mod junior;
 pub mod list;
