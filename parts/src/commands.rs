@@ -237,6 +237,15 @@ pub fn picture(arguments: &[&str]) -> Result<(), Failure> {
     print(named(path, input_of(path)?.bytes)?.picture().map_err(|why| about(path, why))?.as_bytes())
 }
 
+pub fn page(arguments: &[&str]) -> Result<(), Failure> {
+    let (arguments, k) = option("--keep", arguments)?;
+    let [path] = arguments[..] else { return Err(Failure::Arguments) };
+    let k = k.map(|word| number_of(word).ok_or_else(|| Failure::Argument(format!("{K}, and not {word}"))));
+    let title = if path == "-" { "standard input" } else { path };
+    let page = named(path, input_of(path)?.bytes)?.page(title, k.transpose()?);
+    print(page.map_err(|why| about(path, why))?.as_bytes())
+}
+
 /// The arguments but this option, and the word behind it.
 fn option<'a>(name: &str, arguments: &[&'a str]) -> Result<(Vec<&'a str>, Option<&'a str>), Failure> {
     let mut others = Vec::new();

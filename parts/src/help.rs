@@ -19,7 +19,7 @@ pub struct Command {
 }
 
 /// The commands, in the order of the page.
-pub const COMMANDS: [Command; 15] = [
+pub const COMMANDS: [Command; 16] = [
     Command {
         name: "import kicad",
         arguments: "POS --tips TABLE [--side SIDE]",
@@ -221,6 +221,17 @@ pub const COMMANDS: [Command; 15] = [
         example: "parts picture board.txt > board.svg",
         options: &[],
         run: commands::picture,
+    },
+    Command {
+        name: "page",
+        arguments: "FILE [--keep K]",
+        does: "print a page with the drawing of both plans and of the tips that a keep leaves,\n\
+               a table of the parts, and tips used and changes, as HTML",
+        more: "The page needs no network and prints well; a click on the name of a column sorts by it.\n\
+               K is the bound of the keep, the least one where it is left out. What is refused is told on the page.\n",
+        example: "parts page board.txt > plan.html",
+        options: &["--keep"],
+        run: commands::page,
     },
 ];
 

@@ -10,6 +10,7 @@ pub mod junior;
 pub mod list;
 pub mod mending;
 pub mod ordering;
+pub mod page;
 pub mod panel;
 pub mod picture;
 pub mod planning;

@@ -182,7 +182,7 @@ fn help_and_version_are_printed() {
     assert_eq!(run(&["--version"], b""), given(version.as_bytes()));
 }
 
-const COMMANDS: [&str; 15] = [
+const COMMANDS: [&str; 16] = [
     "import kicad",
     "import openpnp",
     "import csv",
@@ -198,6 +198,7 @@ const COMMANDS: [&str; 15] = [
     "mend",
     "order",
     "picture",
+    "page",
 ];
 
 #[test]
@@ -220,7 +221,10 @@ fn every_command_has_a_page() {
 
 #[test]
 fn wrong_arguments_print_the_usage_of_their_command() {
-    let cases: [(&[&str], &str); 25] = [
+    let cases: [(&[&str], &str); 28] = [
+        (&["page"], "page FILE [--keep K]"),
+        (&["page", "a", "--keep"], "page FILE [--keep K]"),
+        (&["page", "a", "--k", "1"], "page FILE [--keep K]"),
         (&["order"], "order LIST"),
         (&["junior", "--side", "top"], "junior FILE"),
         (&["make"], "make LIST"),
@@ -275,7 +279,8 @@ fn wrong_arguments_print_the_usage_of_their_command() {
 }
 
 /// The commands that print, with what each is given.
-const PRINTING: [(&[&str], &[u8]); 9] = [
+const PRINTING: [(&[&str], &[u8]); 10] = [
+    (&["page", "-"], LIST.as_bytes()),
     (&["--help"], b""),
     (&["--version"], b""),
     (&["make", "--help"], b""),
