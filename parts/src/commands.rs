@@ -19,6 +19,8 @@ use parts::panel::Panel;
 use parts::planning::{Kept, Named};
 use parts::MOST_TIPS;
 
+use crate::completion;
+
 /// The most faults of a list that are printed.
 const MOST_FAULTS: usize = 20;
 
@@ -244,6 +246,11 @@ pub fn page(arguments: &[&str]) -> Result<(), Failure> {
     let title = if path == "-" { "standard input" } else { path };
     let page = named(path, input_of(path)?.bytes)?.page(title, k.transpose()?);
     print(page.map_err(|why| about(path, why))?.as_bytes())
+}
+
+pub fn completion(arguments: &[&str]) -> Result<(), Failure> {
+    let [] = arguments else { return Err(Failure::Arguments) };
+    print(completion::bash().as_bytes())
 }
 
 /// The arguments but this option, and the word behind it.

@@ -19,7 +19,7 @@ pub struct Command {
 }
 
 /// The commands, in the order of the page.
-pub const COMMANDS: [Command; 16] = [
+pub const COMMANDS: [Command; 17] = [
     Command {
         name: "import kicad",
         arguments: "POS --tips TABLE [--side SIDE]",
@@ -232,6 +232,16 @@ pub const COMMANDS: [Command; 16] = [
         example: "parts page board.txt > plan.html",
         options: &["--keep"],
         run: commands::page,
+    },
+    Command {
+        name: "completion bash",
+        arguments: "",
+        does: "print what has bash complete the commands and options of parts",
+        more: "Files of the current folder are completed as ever.\n\
+               For every new shell: parts completion bash > ~/.local/share/bash-completion/completions/parts\n",
+        example: "source <(parts completion bash)",
+        options: &[],
+        run: commands::completion,
     },
 ];
 

@@ -1,6 +1,7 @@
 //! Turns text parts lists into job files and back, sorts them, and shows what the proved library says of them.
 
 mod commands;
+mod completion;
 mod help;
 
 use std::env;

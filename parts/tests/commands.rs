@@ -182,7 +182,7 @@ fn help_and_version_are_printed() {
     assert_eq!(run(&["--version"], b""), given(version.as_bytes()));
 }
 
-const COMMANDS: [&str; 16] = [
+const COMMANDS: [&str; 17] = [
     "import kicad",
     "import openpnp",
     "import csv",
@@ -199,6 +199,7 @@ const COMMANDS: [&str; 16] = [
     "order",
     "picture",
     "page",
+    "completion bash",
 ];
 
 #[test]
@@ -279,8 +280,9 @@ fn wrong_arguments_print_the_usage_of_their_command() {
 }
 
 /// The commands that print, with what each is given.
-const PRINTING: [(&[&str], &[u8]); 10] = [
+const PRINTING: [(&[&str], &[u8]); 11] = [
     (&["page", "-"], LIST.as_bytes()),
+    (&["completion", "bash"], b""),
     (&["--help"], b""),
     (&["--version"], b""),
     (&["make", "--help"], b""),
@@ -590,4 +592,34 @@ fn every_package_without_a_row_is_told() {
     fs::write(&tips, "rack 2\nR* : 0-1\n").unwrap();
     let (list, why, status) = run(&["import", "kicad", "-", "--tips", &tips], rows.as_bytes());
     assert_eq!((list.len(), why.lines().count(), status), (0, 30, 1));
+}
+
+/// What bash offers for the last of these words.
+fn completed(words: &[&str]) -> Vec<String> {
+    let script = "source <(\"$1\" completion bash); shift; COMP_WORDS=(\"$@\"); COMP_CWORD=$(($# - 1)); _parts; \
+                  printf '%s\\n' \"${COMPREPLY[@]}\"";
+    let mut bash = Command::new("bash");
+    bash.args(["--norc", "-c", script, "bash", env!("CARGO_BIN_EXE_parts"), "parts"]).args(words);
+    bash.stdin(Stdio::piped()).stdout(Stdio::piped()).stderr(Stdio::piped());
+    let (offered, messages, status) = run_with(&mut bash, b"");
+    assert_eq!((messages.as_str(), status), ("", 0), "{words:?}");
+    String::from_utf8(offered).unwrap().lines().filter(|line| !line.is_empty()).map(String::from).collect()
+}
+
+#[test]
+fn bash_completes_commands_and_options() {
+    let firsts = completed(&[""]);
+    for command in COMMANDS {
+        let first = command.split(' ').next().unwrap();
+        assert_eq!(firsts.iter().filter(|word| *word == first).count(), 1, "{command}");
+    }
+    assert_eq!(completed(&["pl"]), ["plan"]);
+    assert_eq!(completed(&["import", ""]), ["kicad", "openpnp", "csv"]);
+    assert_eq!(completed(&["help", "import", "o"]), ["openpnp"]);
+    assert_eq!(completed(&["completion", ""]), ["bash"]);
+    assert_eq!(completed(&["plan", "a", "--"]), ["--mounted", "--help"]);
+    assert_eq!(completed(&["import", "csv", "a", "--c"]), ["--columns"]);
+    assert_eq!(completed(&["import", "csv", "a", "--side", "b"]), ["bottom", "both"]);
+    // Files are completed by bash itself.
+    assert!(completed(&["plan", ""]).is_empty() && completed(&["draw", "--"]).is_empty());
 }
