@@ -164,10 +164,8 @@ fn list_of<'a>(
             count += 1;
             total += references.len();
             if count > MOST_LINES {
-                return Err(vec![fault(
-                    group.line,
-                    format!("part {count}; a list has {MOST_LINES} at most, split it"),
-                )]);
+                let what = format!("part {count}; a list has {MOST_LINES} at most, split it");
+                return Err(vec![fault(group.line, what)]);
             }
             if total > MOST_PLACEMENTS {
                 let what = format!("{total} placements with this part; a list has {MOST_PLACEMENTS} at most, split it");
@@ -196,12 +194,11 @@ fn part_in_words(name: &str, references: &[&str], group: &Group, picked: &Picked
 
 /// Package, value and references, as `R_0402 10k: R1 R2`, on one line.
 fn described(group: &Group, references: &[&str]) -> String {
-    let mut words: Vec<&str> = [group.package, group.value].into_iter().flat_map(str::split_whitespace).collect();
-    let references: Vec<&str> = references.iter().flat_map(|reference| reference.split_whitespace()).collect();
-    let last = words.pop().unwrap_or_default().to_string() + if references.is_empty() { "" } else { ":" };
-    words.push(&last);
-    words.extend(references);
-    words.join(" ")
+    let what = on_one_line(&format!("{} {}", group.package, group.value));
+    match on_one_line(&references.join(" ")) {
+        references if references.is_empty() => what,
+        references => format!("{what}: {references}"),
+    }
 }
 
 /// The words of a comment, which ends with its line.
