@@ -205,7 +205,7 @@ module _ {m : ℕ} {qs sets : List ℕ} (good : GoodLines m qs sets) (rs : All (
     -- THE GOAL'S TIPS BY TWO TABLES, where an interval is open if a chain through it can have K pairs
     module _ (K : ℕ) (isOpen : ℕ → ℕ → Bool)
         (opens : (t a w : ℕ) → T (has s t) → a ≤ t → t < a + w → a + w ≤ m
-            → K ≤ U a w + (D a w + (getD qs i 0 * inside rest a w t + choose2 (getD qs i 0))) → T (isOpen a w)) where
+        → K ≤ U a w + (D a w + (getD qs i 0 * inside rest a w t + choose2 (getD qs i 0))) → T (isOpen a w)) where
       pub tips-by-tables : (t : ℕ) → T (has (goalTips m qs sets K i) t) ↔ (T (has s t) × Ends isOpen m D rest (getD qs i 0) K t)
       unfolding goalTips
       tips-by-tables t =

@@ -86,8 +86,8 @@ module _ {names m q : ℕ} {lines rest xs inner upper : List ℕ} (k : Known nam
           let e = leb K (out + splitBy names m xs inner q a w (t - a)) in
           let enough : T e = rw n (le→leb K (out + splitBy names m xs inner q a w i) (omega (arith, ended-same i l))) in
           rw (has-setOf (endsBy names m xs inner q s K out a w) (a + w) t) (
-            and-in (ltb t (a + w)) (leb a t && (has s t && e)) (lt→ltb t (a + w) (omega arith))
-            (and-in (leb a t) (has s t && e) (le→leb a t (omega arith)) (and-in (has s t) e h enough)))
+          and-in (ltb t (a + w)) (leb a t && (has s t && e)) (lt→ltb t (a + w) (omega arith))
+          (and-in (leb a t) (has s t && e) (le→leb a t (omega arith)) (and-in (has s t) e h enough)))
 
     -- one interval more
     pub follow-more : {r v : ℕ} → r ≡ cond (isOpen a w) found 0 → v ≡ cond (isOpen a w) out 0
@@ -117,7 +117,7 @@ module _ {names m q : ℕ} {lines rest xs inner upper : List ℕ} (k : Known nam
 
   -- a whole row
   pub follow-next : {outer : List ℕ} {kept w a : ℕ} → 0 < w → m < a + w → So outer kept w a → So outer kept (w - 1) 0
-  follow-next {w = w} p h f = record {
+  follow-next {outer} {kept} {w} p h f = record {
     table = outside-next p h (f .table);
     right = f .right;
     wider = λ c u i l g e o z n. ⊎-elim

@@ -5,9 +5,9 @@ use native.Mathlib.Nat.{mul-le-mul-left}
 use native.Mathlib.Numerals.{add-one}
 use mathlib.Core.Path.{_≡_, refl, ap, sym, _∙_}
 use mathlib.Core.Logic.{_↔_}
-use mathlib.Core.Bool.{Bool, cond}
+use mathlib.Core.Bool.{Bool, true, false, cond}
 use mathlib.Core.List.{List}
-use lib.Dec.{T, le→leb}
+use lib.Dec.{T, leb, leb→le, le→leb}
 use lib.ListN.{length, getD, take}
 use lib.Seq.{getD-take}
 use borrow.Author.Tests.{lt-ltb, le-ltb}
@@ -17,10 +17,10 @@ use Rattle.model.specs.Count.{listOf}
 use Rattle.model.specs.Plan.{has, choose2}
 use Rattle.model.specs.CommonTip.{setOf}
 use Rattle.model.specs.Interval.{inside, C}
-use Rattle.model.proofs.Tests.{same-test, cond-case}
+use Rattle.model.proofs.Tests.{true-T, false-not, same-test, cond-case}
 use Rattle.model.proofs.Lists.{all-at}
 use Rattle.model.proofs.ListOf.{listOf-at}
-use Rattle.model.proofs.Sets.{setOf-lt, set-same}
+use Rattle.model.proofs.Sets.{setOf-lt, setOf-none, setOf-cong, set-same}
 use Rattle.placements.specs.Repeated.{repeated}
 use Rattle.goals.specs.Goal.{others, goalTips, strike}
 use Rattle.refusal.specs.Refusal.{refuse}
@@ -28,7 +28,7 @@ use Rattle.goals.specs.Tables.{Out, always, Ends}
 use Rattle.goals.proofs.Strike.{fewer, tips-by-tables}
 use Rattle.checking.specs.Checking.{NamedRuns}
 use Rattle.checking.proofs.Bounds.{named-runs}
-use Rattle.striking.specs.Striking.{goalRefusal, struckBy, RunSums, limitBy, openBy, InsideAll, OutsideAll, Known}
+use Rattle.striking.specs.Striking.{goalRefusal, struckBy, RunSums, limitBy, openBy, endsBy, InsideAll, OutsideAll, Known}
 use Rattle.striking.proofs.Read.{inside-lying}
 use Rattle.striking.proofs.Outer.{Out-few}
 
@@ -77,6 +77,12 @@ module _ (m : ℕ) (qs sets : List ℕ) (K : ℕ) (old : List ℕ) where
 
 -- ---- the set of the tips that stay, bit by bit
 
+pub le-leb : (x y : ℕ) → x ≤ y → leb x y ≡ true
+le-leb x y h = true-T (leb x y) (le→leb x y h)
+
+pub lt-leb : (x y : ℕ) → y < x → leb x y ≡ false
+lt-leb x y h = false-not (leb x y) (λ t. omega (arith, leb→le x y t))
+
 pub bits-fit : (f : ℕ → Bool) (t : ℕ) (b : Bool) → t < mostTips → setOf f t + cond b (2 ^ t) 0 < 2 ^ mostTips
 bits-fit f t b h =
     let p : 2 ^ suc t ≤ 2 ^ mostTips = pow-mono h in
@@ -85,3 +91,8 @@ bits-fit f t b h =
 pub bits-more : (f : ℕ → Bool) (t : ℕ) → setOf f (t + 1) ≡ setOf f t + cond (f t) (2 ^ t) 0
 unfolding setOf
 bits-more f t = rw add-one
+
+-- no tip before the interval
+pub tips-before : (names m : ℕ) (xs inner : List ℕ) (q s K outside a w : ℕ) → setOf (endsBy names m xs inner q s K outside a w) a ≡ 0
+unfolding endsBy
+tips-before names m xs inner q s K outside a w = setOf-cong _ (λ t. false) a (λ t l. rw (lt-leb a t l)) ∙ setOf-none a

@@ -36,6 +36,10 @@ lying-ge lines a w c e f g = omega (
   below-more lines (c + 1) mostTips (a + w) (omega arith),
 )
 
+-- with none more they are few too
+pub ready-none : {q : ℕ} {xs : List ℕ} → Ready q xs → Ready 0 xs
+ready-none r = record { summed = r .summed; few = λ a w c e f g. omega (arith, r .few a w c e f g) }
+
 module _ {names m q : ℕ} {lines xs : List ℕ} (k : RunSums names m q lines xs) where
   pub ready : Ready q xs
   ready = rw (k .summed) (record {

@@ -158,7 +158,21 @@ pub fn kept_tips(
     while 0 < w {
         let mut a = 0;
         while a + w <= m {
-            kept = kept | follow(names, m, q, set, goal, a, w, pairs, sums, inner, upper, outer);
+            kept = kept
+                | follow(
+                    names,
+                    m,
+                    q,
+                    set,
+                    goal,
+                    a,
+                    w,
+                    pairs,
+                    sums,
+                    inner,
+                    upper,
+                    outer,
+                );
             a += 1;
         }
         w -= 1;

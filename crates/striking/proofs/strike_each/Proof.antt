@@ -25,7 +25,7 @@ start c = c .before .before .before .before .before .before .before .before .bef
 
 -- the loop, from the set found
 abbrev looped : tie.After-struck-set Inv-loop μ-loop → tie.In-loop Inv-loop μ-loop
-looped c = c .before .before .before .before .before
+looped c = c .before .before .before .before
 
 -- the tips of each line
 abbrev tips : tie.At-loop Inv-loop μ-loop → ℕ → ℕ
@@ -33,7 +33,7 @@ tips c =
     let args = start c .args in
     goalTips (args .m) (args .quantities .now) (args .lines .now) (args .goal)
 
-abbrev at : tie.After-slice-known6 Inv-loop μ-loop → tie.In-loop Inv-loop μ-loop
+abbrev at : tie.After-slice-known5 Inv-loop μ-loop → tie.In-loop Inv-loop μ-loop
 at c = looped (c .before .before .before .before)
 
 loop-holds : tie.Need-loop-holds Inv-loop μ-loop
@@ -44,7 +44,7 @@ loop-holds c =
 
 struck-set-requires : tie.Need-struck-set-requires Inv-loop μ-loop
 struck-set-requires c κs =
-    let b = c .before .before .before .before in
+    let b = c .before .before .before in
     let p = start (b .before) .pre in
     let v = b .before .loop .inv in (
       p .0,

@@ -89,7 +89,7 @@ sums-without-requires c κs =
 cast-kept-tips : tie.Need-cast-kept-tips
 cast-kept-tips c =
     let f = c .before .before in
-    record { fits = omega (arith, f .before .before .shared-slice-known8 .given (begun f .args .i)) }
+    record { fits = omega (arith, f .before .before .shared-slice-known10 .given (begun f .args .i)) }
 
 kept-tips-requires : tie.Need-kept-tips-requires
 kept-tips-requires c κs =
@@ -105,10 +105,10 @@ same-length-2 c = search needs
 
 returns-2 : tie.Need-returns-2
 returns-2 c =
-    let f = c .before .before .before .before .before in
+    let f = c .before .before .before .before .before .before .before in
     let s = begun f in
     kept-goal (s .pre .0) (s .args .i) (s .pre .2) (all-sums (s .pre .0) (s .pre .1)) (sums-of f) (s .pre .5) (s .pre .6) (s .args .goal) _
-    (c .kept-tips .ensures (placed s) (rest s) (known-of f))
+    (c .before .before .kept-tips .ensures (placed s) (rest s) (known-of f))
 
 pub struck-set-spec : {M : Type 1} → statement M
 struck-set-spec =
