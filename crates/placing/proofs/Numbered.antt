@@ -16,6 +16,7 @@ use Rattle.refusal.proofs.Laws.{or-first, or-next, refused, accepted, number-no
 use Rattle.ordering.specs.declared.Part.{Part}
 use Rattle.ordering.specs.declared.Rule.{Rule}
 use Rattle.ordering.specs.Parts.{noPart, noRule, partAt, ruleOk}
+use Rattle.flat_order.specs.declared.PartSet.{PartSet}
 use Rattle.flat_order.specs.Sets.{single, joined}
 use Rattle.placing.specs.declared.Parts.{Parts}
 use Rattle.placing.specs.declared.Rows.{Rows}
@@ -64,29 +65,30 @@ module _ (numbers : List ℕ) (rows : Rows) (i : ℕ) where
   rules-all l = rules-end rows (rulesIn numbers) i (omega (arith, listed (ruleIn numbers) (length numbers / 2)))
 
 -- a rule that is good changes one row, and after a bad one nothing changes
-module _ (numbers : List ℕ) (rows : Rows) (good : rows .good ≡ true) (low high : List ℕ) (i : ℕ) (l : i < length numbers / 2) where
-  abbrev r : Rule
-  r = ruleIn numbers i
-
+module _ (numbers : List ℕ) (rows : Rows) (good : rows .good ≡ true) (low high : List ℕ) (i : ℕ) (l : i < length numbers / 2)
+    (r : Rule) (e : r ≡ ruleIn numbers i) where
   abbrev now : Rows
   now = record { parts = rows .parts; good = rows .good; bad = rows .bad; low = low; high = high }
 
-  pub rules-marked : ruleOk (min (rows .parts) 128) r ≡ true → withRules now i (drop i (rulesIn numbers))
-      ≡ withRules (record {
+  next : withRules now i (drop i (rulesIn numbers)) ≡ withRules (withRule now i r) (i + 1) (drop (i + 1) (rulesIn numbers))
+  next = rules-more numbers now i l ∙ ap (λ s. withRules (withRule now i s) (i + 1) (drop (i + 1) (rulesIn numbers))) (sym e)
+
+  pub rules-marked : (one : PartSet) → one ≡ single (r .earlier) → ruleOk (min (rows .parts) 128) r ≡ true
+      → withRules now i (drop i (rulesIn numbers)) ≡ withRules (record {
         parts = rows .parts;
         good = rows .good;
         bad = rows .bad;
-        low = set low (r .later) (bitOr (getD low (r .later) 0) (single (r .earlier) .low));
-        high = set high (r .later) (bitOr (getD high (r .later) 0) (single (r .earlier) .high));
+        low = set low (r .later) (bitOr (getD low (r .later) 0) (one .low));
+        high = set high (r .later) (bitOr (getD high (r .later) 0) (one .high));
       }) (i + 1) (drop (i + 1) (rulesIn numbers))
   unfolding marked withRow joined
-  rules-marked o = rules-more numbers now i l ∙ ap (λ s. withRules s (i + 1) (drop (i + 1) (rulesIn numbers))) (sym (rule-good now i r good o))
+  rules-marked one u o = rw u (next ∙ ap (λ s. withRules s (i + 1) (drop (i + 1) (rulesIn numbers))) (sym (rule-good now i r good o)))
 
   pub rules-spoiled : ruleOk (min (rows .parts) 128) r ≡ false
       → withRules now i (drop i (rulesIn numbers)) ≡ record { parts = rows .parts; good = false; bad = i; low = low; high = high }
   unfolding spoiled
   rules-spoiled o =
-      rules-more numbers now i l ∙ ap (λ s. withRules s (i + 1) (drop (i + 1) (rulesIn numbers))) (sym (rule-bad now i r good o))
+      next ∙ ap (λ s. withRules s (i + 1) (drop (i + 1) (rulesIn numbers))) (sym (rule-bad now i r good o))
       ∙ closed (spoiled now i) (i + 1) (drop (i + 1) (rulesIn numbers)) refl
 
 -- over 128 parts the answer is the same whatever they are

@@ -1,82 +1,98 @@
+use Prim.Native.Nat.{ℕ, _-_, _≤_, _<_, min}
+use mathlib.Core.Path.{_≡_, ap, _∙_}
+use mathlib.Core.Bool.{not, _&&_}
+use native.Mathlib.Omega.{arith}
+use borrow.Author.Tests.{lt-ltb}
+use Rattle.ordering.specs.Parts.{partAt, finePitch}
+use Rattle.flat_order.specs.Sets.{hasPart}
+use Rattle.placing.specs.Rows.{withRow}
+use Rattle.placing.proofs.Flagged.{Rowed, rowed-none, rowed-more}
+use borrow.Author.Needs.{needs}
 use Rattle.placing.proofs.flags.start_rows.Statement.{statement}
 use Rattle.placing.proofs.flags.start_rows.Tie as tie
-use Rattle.placing.proofs.flags.start_rows.Reads as reads
-use Rattle.placing.proofs.flags.start_rows.Lts as lts
-use Rattle.placing.proofs.flags.fine_parts.Reads as fine-parts-reads
-use Rattle.placing.proofs.flags.flag_row.Reads as flag-row-reads
-use Rattle.placing.proofs.flags.short_parts.Reads as short-parts-reads
-use Rattle.placing.proofs.marking.at_most_128.Reads as at-most-128-reads
-use Rattle.placing.proofs.marking.no_rows.Reads as no-rows-reads
 
 abbrev Inv-loop : tie.InvT-loop
-Inv-loop parts n fine short rows low₀ high₀ b₀ low high b = ?
+Inv-loop parts n fine short rows low₀ high₀ b₀ low high b = (b ≤ n) × (n ≤ 128)
+    × Rowed parts n b (record { parts = rows .parts; good = rows .good; bad = rows .bad; low = low; high = high })
 
 abbrev μ-loop : tie.MeasureT-loop
-μ-loop parts n fine short rows low₀ high₀ b₀ low high b = ?
+μ-loop parts n fine short rows low₀ high₀ b₀ low high b = n - b
 
--- src/flags.rt:74:9
 at-most-128-requires : tie.Need-at-most-128-requires Inv-loop μ-loop
-at-most-128-requires c κs = ?
+at-most-128-requires c κs = search needs
 
--- src/flags.rt:75:9
 fine-parts-requires : tie.Need-fine-parts-requires Inv-loop μ-loop
-fine-parts-requires c κs = ?
+fine-parts-requires c κs = omega (arith, c .at-most-128 .ensures)
 
--- src/flags.rt:76:9
 short-parts-requires : tie.Need-short-parts-requires Inv-loop μ-loop
-short-parts-requires c κs = ?
+short-parts-requires c κs = omega (arith, c .before .at-most-128 .ensures)
 
--- src/flags.rt:77:9
 no-rows-requires : tie.Need-no-rows-requires Inv-loop μ-loop
-no-rows-requires c κs = ?
+no-rows-requires c κs = search needs
 
--- src/flags.rt:81:5
 loop-holds : tie.Need-loop-holds Inv-loop μ-loop
-loop-holds c = ?
+loop-holds c =
+    let r = c .before .before .no-rows in
+    let z : Rowed (c .before .before .before .before .before .before .args .t1) (c .before .before .before .before .before .at-most-128 .result) 0 (r .result) = rw (r .ensures) (rowed-none _ _) in
+    (search needs, omega (arith, c .before .before .before .before .before .at-most-128 .ensures), z)
 
--- src/flags.rt:82:17
 mul-p : tie.Need-mul-p Inv-loop μ-loop
-mul-p c = ?
+mul-p c = search needs
 
--- src/flags.rt:82:17
 element-copy-out-p : tie.Need-element-copy-out-p Inv-loop μ-loop
-element-copy-out-p c = ?
+element-copy-out-p c = search needs
 
--- src/flags.rt:83:13
 flag-row-requires : tie.Need-flag-row-requires Inv-loop μ-loop
-flag-row-requires c κs = ?
+flag-row-requires c κs = search needs
 
--- src/flags.rt:84:9
 mul-low : tie.Need-mul-low Inv-loop μ-loop
-mul-low c = ?
+mul-low c = search needs
 
--- src/flags.rt:84:9
 array-write-low : tie.Need-array-write-low Inv-loop μ-loop
-array-write-low c = ?
+array-write-low c = search needs
 
--- src/flags.rt:85:9
 mul-high : tie.Need-mul-high Inv-loop μ-loop
-mul-high c = ?
+mul-high c = search needs
 
--- src/flags.rt:85:9
 array-write-high : tie.Need-array-write-high Inv-loop μ-loop
-array-write-high c = ?
+array-write-high c = search needs
 
--- src/flags.rt:86:9
 add-b : tie.Need-add-b Inv-loop μ-loop
-add-b c = ?
+add-b c = search needs
 
--- src/flags.rt:81:5
 loop-less : tie.Need-loop-less Inv-loop μ-loop
-loop-less c = ?
+loop-less c = search needs
 
--- src/flags.rt:81:5
 loop-again : tie.Need-loop-again Inv-loop μ-loop
-loop-again c = ?
+unfolding withRow
+loop-again c =
+    let l = c .before .before .before .loop in
+    let rows = c .before .before .before .before .before .before .no-rows .result in
+    let a = c .before .before .before .before .before .before .before .before .before .before .args in
+    let n = c .before .before .before .before .before .before .before .before .before .at-most-128 .result in
+    let f : (x : ℕ) → x < n → hasPart (c .before .before .before .before .before .before .before .before .fine-parts .result) x ≡ finePitch (partAt (a .t1 .parts) x) =
+    λ x k. c .before .before .before .before .before .before .before .before .fine-parts .ensures x ∙ ap (λ z. z && finePitch (partAt (a .t1 .parts) x)) (lt-ltb x n k) in
+    let s : (x : ℕ) → x < n → hasPart (c .before .before .before .before .before .before .before .short-parts .result) x ≡ not (partAt (a .t1 .parts) x .tall) =
+    λ x k. c .before .before .before .before .before .before .before .short-parts .ensures x ∙ ap (λ z. z && not (partAt (a .t1 .parts) x .tall)) (lt-ltb x n k) in (
+      search needs,
+      l .inv .1,
+      rw (c .flag-row .ensures)
+          (rowed-more _ _ _ (record { parts = rows .parts; good = rows .good; bad = rows .bad; low = l .low; high = l .high }) _ _
+          (omega (arith, l .inv .1)) (l .inv .2) f s),
+    )
 
--- src/flags.rt:71:1
 returns : tie.Need-returns Inv-loop μ-loop
-returns c = ?
+returns c =
+    let l = c .before .loop in
+    let e : c .before .before .before .before .before .before .before .at-most-128 .result ≡ min (c .before .before .before .before .before .before .before .before .args .t1 .count) 128 = c .before .before .before .before .before .before .before .at-most-128 .ensures in
+    let r = l .inv .2 in
+    record {
+      parts = r .parts;
+      good = r .good;
+      lows = r .lows;
+      highs = r .highs;
+      flags = λ a b k h. r .flags a b (omega (arith, e)) (omega (arith, e));
+    }
 
 pub start-rows-spec : {M : Type 1} → statement M
 start-rows-spec =

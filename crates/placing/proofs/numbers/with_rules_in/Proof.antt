@@ -1,81 +1,96 @@
+use Prim.Native.Nat.{_-_, _≤_, _<_, _/_, min}
+use mathlib.Core.Path.{_≡_, refl, ap, sym, _∙_}
+use mathlib.Core.Bool.{true}
+use native.Mathlib.Omega.{arith}
+use lib.ListN.{length, drop}
+use Rattle.model.proofs.Tests.{passes, fails, T-true}
+use Rattle.ordering.specs.Parts.{ruleOk}
+use Rattle.placing.specs.Rows.{withRules}
+use Rattle.placing.specs.Numbers.{rulesIn}
+use Rattle.placing.proofs.Rules.{rule-parts}
+use Rattle.placing.proofs.Numbered.{rules-all, rules-marked, rules-spoiled}
+use borrow.Author.Needs.{needs}
 use Rattle.placing.proofs.numbers.with_rules_in.Statement.{statement}
 use Rattle.placing.proofs.numbers.with_rules_in.Tie as tie
-use Rattle.placing.proofs.numbers.with_rules_in.Reads as reads
-use Rattle.placing.proofs.numbers.with_rules_in.Lts as lts
-use Rattle.flat_order.proofs.sets.single_part.Reads as single-part-reads
-use Rattle.placing.proofs.marking.at_most_128.Reads as at-most-128-reads
-use Rattle.placing.proofs.marking.is_rule_ok.Reads as is-rule-ok-reads
-use Rattle.placing.proofs.numbers.rule_in.Reads as rule-in-reads
 
 abbrev Inv-loop : tie.InvT-loop
-Inv-loop rows numbers n parts low₀ high₀ i₀ low high i = ?
+Inv-loop rows numbers n parts low₀ high₀ i₀ low high i = (i ≤ n) × (n ≡ length numbers / 2) × (parts ≡ min (rows .parts) 128)
+    × (rows .good ≡ true → withRules (record { parts = rows .parts; good = rows .good; bad = rows .bad; low = low; high = high }) i
+    (drop i (rulesIn numbers)) ≡ withRules rows 0 (rulesIn numbers))
 
 abbrev μ-loop : tie.MeasureT-loop
-μ-loop rows numbers n parts low₀ high₀ i₀ low high i = ?
+μ-loop rows numbers n parts low₀ high₀ i₀ low high i = n - i
 
--- src/numbers.rt:79:9
 at-most-128-requires : tie.Need-at-most-128-requires Inv-loop μ-loop
-at-most-128-requires c κs = ?
+at-most-128-requires c κs = search needs
 
--- src/numbers.rt:83:5
 loop-holds : tie.Need-loop-holds Inv-loop μ-loop
-loop-holds c = ?
+loop-holds c = (search needs, refl, c .before .before .at-most-128 .ensures, λ _. refl)
 
--- src/numbers.rt:84:13
 rule-in-requires : tie.Need-rule-in-requires Inv-loop μ-loop
-rule-in-requires c κs = ?
+rule-in-requires c κs = search needs
 
--- src/numbers.rt:85:13
 is-rule-ok-requires : tie.Need-is-rule-ok-requires Inv-loop μ-loop
-is-rule-ok-requires c κs = ?
+is-rule-ok-requires c κs = search needs
 
--- src/numbers.rt:86:13
+-- what is known of the test
+rule-test : (c : tie.After-is-rule-ok Inv-loop μ-loop)
+    → c .is-rule-ok .result ≡ ruleOk (min (c .before .before .before .before .before .before .before .before .args .rows .parts) 128) (c .before .rule-in .result)
+rule-test c = c .is-rule-ok .ensures ∙ ap (λ n. ruleOk n (c .before .rule-in .result)) (c .before .before .before .loop .inv .2)
+
 returns : tie.Need-returns Inv-loop μ-loop
-returns c = ?
+returns c = λ g.
+    let l = c .before .before .before .before .loop in
+    sym (rules-spoiled _ (c .before .before .before .before .before .before .before .before .before .args .rows) g (l .low) (l .high) (l .i) (omega arith) _ (c .before .before .rule-in .ensures) (fails (rule-test (c .before)) (c .if1 .taken)))
+    ∙ l .inv .3 g
 
--- src/numbers.rt:95:13
+-- a good rule names parts
+good : (c : tie.Else1 Inv-loop μ-loop) → ruleOk (min (c .before .before .before .before .before .before .before .before .before .args .rows .parts) 128) (c .before .before .rule-in .result) ≡ true
+good c = passes (rule-test (c .before)) (c .if1 .left)
+
+named : (c : tie.Else1 Inv-loop μ-loop) → (c .before .before .rule-in .result .earlier < 128) × (c .before .before .rule-in .result .later < 128)
+named c = let p = rule-parts _ _ (T-true (good c)) in (omega (arith, p), omega (arith, p))
+
 single-part-requires : tie.Need-single-part-requires Inv-loop μ-loop
-single-part-requires c κs = ?
+single-part-requires c κs = named c .0
 
--- src/numbers.rt:96:9
 mul-low : tie.Need-mul-low Inv-loop μ-loop
-mul-low c = ?
+mul-low c = record { fits = omega (arith, named (c .before)) }
 
--- src/numbers.rt:96:9
 array-read-low : tie.Need-array-read-low Inv-loop μ-loop
-array-read-low c = ?
+array-read-low c = named (c .before) .1
 
--- src/numbers.rt:96:9
 array-write-low : tie.Need-array-write-low Inv-loop μ-loop
-array-write-low c = ?
+array-write-low c = named (c .before .before) .1
 
--- src/numbers.rt:97:9
 mul-high : tie.Need-mul-high Inv-loop μ-loop
-mul-high c = ?
+mul-high c = record { fits = omega (arith, named (c .before .before)) }
 
--- src/numbers.rt:97:9
 array-read-high : tie.Need-array-read-high Inv-loop μ-loop
-array-read-high c = ?
+array-read-high c = named (c .before .before) .1
 
--- src/numbers.rt:97:9
 array-write-high : tie.Need-array-write-high Inv-loop μ-loop
-array-write-high c = ?
+array-write-high c = named (c .before .before .before) .1
 
--- src/numbers.rt:98:9
 add-i : tie.Need-add-i Inv-loop μ-loop
-add-i c = ?
+add-i c = search needs
 
--- src/numbers.rt:83:5
 loop-less : tie.Need-loop-less Inv-loop μ-loop
-loop-less c = ?
+loop-less c = search needs
 
--- src/numbers.rt:83:5
 loop-again : tie.Need-loop-again Inv-loop μ-loop
-loop-again c = ?
+loop-again c =
+    let d = c .before .before .before in
+    let l = d .before .before .before .before .loop in (
+      search needs,
+      refl,
+      l .inv .2,
+      λ g. sym (rules-marked _ (d .before .before .before .before .before .before .before .before .before .args .rows) g (l .low) (l .high) (l .i) (omega arith) _ (d .before .before .rule-in .ensures) _ (c .before .before .single-part .ensures)
+          (good d)) ∙ l .inv .3 g,
+    )
 
--- src/numbers.rt:75:1
 returns-2 : tie.Need-returns-2 Inv-loop μ-loop
-returns-2 c = ?
+returns-2 c = λ g. sym (rules-all _ _ (c .before .loop .i) (omega (arith, c .before .loop .inv .1))) ∙ c .before .loop .inv .3 g
 
 pub with-rules-in-spec : {M : Type 1} → statement M
 with-rules-in-spec =
