@@ -60,9 +60,11 @@ $(tipshare): program/tipshare.c include/tipshare.h $(library) Cargo.toml
 	mkdir -p $(@D)
 	$(CC) $(CFLAGS) -DVERSION='"$(version)"' -Iinclude program/tipshare.c $(library) -o $@
 
-# Cargo itself knows what is up to date.
+# Cargo itself knows what is up to date. Where it is not in the path, as under sudo make install, what it has built is taken.
 parts: $(library)
-	cargo build --quiet --release --offline --package parts
+	@if command -v cargo > /dev/null || [ ! -x $(parts) ]; then \
+		set -x; cargo build --quiet --release --offline --package parts; \
+	fi
 
 # The manual pages of the calls and of parts are made from the header and from what parts says of itself.
 pages: parts
