@@ -21,11 +21,11 @@ CFLAGS = -std=c11 -Wall -Wextra -Werror -O2
 version := $(shell sed -n 's/^version = "\(.*\)"/\1/p' Cargo.toml)
 soname := libtipshare.so.$(firstword $(subst ., ,$(version)))
 library := target/staticlib/libtipshare_c.a
-archive := target/lib/libtipshare.a
-shared := target/lib/libtipshare.so.$(version)
 tipshare := target/bin/tipshare
 example := target/example
 parts := target-rust/release/parts
+archive := target/lib/libtipshare.a
+shared := target/lib/libtipshare.so.$(version)
 # The folders too, so that a file taken away counts. The test programs are no part of the library.
 sources := crates.txt $(shell find crates \( -path 'crates/try_*' -o -name must-fail \) -prune -o -print)
 
