@@ -98,12 +98,18 @@ install: all
 	install -m 644 target/man/*.3 $(to)/share/man/man3
 	install -m 644 python/tipshare.py $(DESTDIR)$(PYTHONDIR)
 	packaging/copy-pages $(to)/share
+# Where parts completes its commands in bash, that is installed too.
+	if $(parts) completion bash > target/completion 2> /dev/null; then \
+		install -d $(to)/share/bash-completion/completions; \
+		install -m 644 target/completion $(to)/share/bash-completion/completions/parts; \
+	fi
 
 uninstall:
 	rm -f $(addprefix $(to)/bin/,tipshare parts tipshare-checklist) $(to)/include/tipshare.h
 	rm -f $(addprefix $(lib)/,libtipshare.a libtipshare.so $(soname) $(notdir $(shared)) pkgconfig/tipshare.pc)
 	rm -f $(addprefix $(to)/share/man/,man1/tipshare.1 man1/parts.1 man1/tipshare-checklist.1 man3/tipshare*.3)
 	rm -f $(DESTDIR)$(PYTHONDIR)/tipshare.py $(DESTDIR)$(PYTHONDIR)/__pycache__/tipshare.*.pyc
+	rm -f $(to)/share/bash-completion/completions/parts
 	rm -rf $(to)/share/tipshare $(to)/share/doc/tipshare
 
 deb: all
