@@ -27,7 +27,7 @@ or-out a b t h = ⊎-elim inl (λ n. inr (rw (has-or a b t, false-T (has a t) n)
 module _ {names m q : ℕ} {lines rest xs inner upper : List ℕ} (k : Known names m q lines rest xs inner upper) (s K : ℕ) where
   -- the intervals that are followed, and the chains that end with the goal's pairs
   abbrev isOpen : ℕ → ℕ → Bool
-  isOpen = openBy m xs inner upper q K
+  isOpen = openBy m xs inner upper q s K
 
   abbrev EndsAt : ℕ → Type 0
   EndsAt t = Ends isOpen m (C lines) rest q K t
