@@ -23,6 +23,12 @@ module _ (c : tie.Start) where
   square : c .args .m * c .args .m ≤ mostTips * mostTips
   square = mul-le-mul (c .pre .2) (c .pre .2)
 
+  -- the tips found with so many pairs outside
+  abbrev tips : ℕ → ℕ
+  tips o =
+      let args = c .args in
+      tipsBy (args .names) (args .m) (args .sums .now) (args .inner .now) (args .q) (args .set) (args .goal) o (args .a) (args .w)
+
 mul-k : tie.Need-mul-k
 mul-k c =
     let s = c .before .before .before .before .before in
@@ -90,8 +96,7 @@ returns-2 c =
     let s = b .before .before .before .before .before .before .before .before .before in
     let args = s .args in
     let so = passes (b .before .before .before .is-open .ensures) (b .before .before .if1 .left) in
-    let tips : ℕ → ℕ = λ o. tipsBy (args .names) (args .m) (args .sums .now) (args .inner .now) (args .q) (args .set) (args .goal) o (args .a) (args .w) in
-    rw so (c .ended-tips .ensures ∙ ap tips (b .best-outside .ensures), ap (set (args .outer .now) (place s)) (b .best-outside .ensures))
+    rw so (c .ended-tips .ensures ∙ ap (tips s) (b .best-outside .ensures), ap (set (args .outer .now) (place s)) (b .best-outside .ensures))
 
 pub follow-spec : {M : Type 1} → statement M
 follow-spec =
