@@ -322,8 +322,8 @@ struct Around {
 
     /*
      * The tips of the set with which a plan has the goal's pairs, where so many placements more are on the tip. The longest
-     * stretches first, and only those where the goal can be had: by the tables of all lines, and each of those placements
-     * with all that lie within the stretch.
+     * stretches first, and only those that may have a tip of the set and where the goal can be had: by the tables of all
+     * lines, and each of those placements with all that lie within the stretch.
      */
     uint64_t kept_tips(const Around &all, uint64_t set, uint32_t more, uint32_t goal)
     {
@@ -332,7 +332,8 @@ struct Around {
             for (size_t a = 0; a + width <= rack; a++) {
                 const size_t end = a + width;
                 outside[a][end] = 0;
-                if (all.outside[a][end] + all.inside[a][end] + more * within[a][end] + pairs_on(more) < goal) {
+                if (highest(set) < a || end <= lowest(set) ||
+                    all.outside[a][end] + all.inside[a][end] + more * within[a][end] + pairs_on(more) < goal) {
                     continue;
                 }
                 const uint32_t most = most_outside(a, end, all);

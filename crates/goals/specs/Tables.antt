@@ -8,7 +8,7 @@ use lib.Dec.{T}
 use lib.ListN.{replicate}
 use Rattle.model.specs.Count.{All, largest}
 use Rattle.model.specs.Plan.{has, Valid, pairs, choose2}
-use Rattle.model.specs.Interval.{inside, C, Dominates, Picks}
+use Rattle.model.specs.Interval.{inside, Dominates, Picks}
 
 -- a table that is at least each split at a tip that is ok, and is one of them: that of the most pairs, for runs of the tips that are ok
 pub record Solved (ok : ℕ → Bool) (m : ℕ) (lines : List ℕ) (D : ℕ → ℕ → ℕ) : Type 0 where

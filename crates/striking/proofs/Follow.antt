@@ -1,7 +1,7 @@
 -- The outside table of the other lines grows by one interval, and with it the tips at which a chain has ended with the goal's pairs.
 use Prim.Native.Nat.{ℕ, _+_, _*_, _-_, _≤_, _<_}
 use native.Mathlib.Omega.{arith}
-use mathlib.Core.Path.{_≡_, ap}
+use mathlib.Core.Path.{_≡_}
 use mathlib.Core.Logic.{_⊎_, inl, inr, _↔_, ⊎-elim}
 use mathlib.Core.Bool.{Bool, cond, _&&_}
 use mathlib.Core.List.{List}
@@ -13,7 +13,7 @@ use Rattle.model.specs.Plan.{has}
 use Rattle.model.specs.Interval.{C}
 use Rattle.model.proofs.Tests.{le-or-lt, test, true-T, false-T, and-left, and-right, and-in}
 use Rattle.model.proofs.Sets.{empty-has, has-setOf, or-left, or-right, has-or}
-use Rattle.goals.specs.Tables.{Out, ended, Ends}
+use Rattle.goals.specs.Tables.{ended, Ends}
 use Rattle.goals.proofs.Outer.{Out-open, around-le}
 use Rattle.striking.specs.Striking.{splitBy, aroundBy, openBy, endsBy, tipsBy, Known, Followed}
 use Rattle.striking.proofs.Read.{pairs-same}
@@ -27,7 +27,7 @@ or-out a b t h = ⊎-elim inl (λ n. inr (rw (has-or a b t, false-T (has a t) n)
 module _ {names m q : ℕ} {lines rest xs inner upper : List ℕ} (k : Known names m q lines rest xs inner upper) (s K : ℕ) where
   -- the intervals that are followed, and the chains that end with the goal's pairs
   abbrev isOpen : ℕ → ℕ → Bool
-  isOpen = openBy m xs inner upper q K
+  isOpen = openBy m xs inner upper q s K
 
   abbrev EndsAt : ℕ → Type 0
   EndsAt t = Ends isOpen m (C lines) rest q K t

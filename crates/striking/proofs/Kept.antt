@@ -5,9 +5,9 @@ use native.Mathlib.Nat.{mul-le-mul-left}
 use native.Mathlib.Numerals.{add-one}
 use mathlib.Core.Path.{_≡_, refl, ap, sym, _∙_}
 use mathlib.Core.Logic.{_↔_}
-use mathlib.Core.Bool.{Bool, true, false, cond}
+use mathlib.Core.Bool.{Bool, true, false, cond, _&&_}
 use mathlib.Core.List.{List}
-use lib.Dec.{T, leb, leb→le, le→leb}
+use lib.Dec.{T, leb, ltb, leb→le, le→leb, lt→ltb}
 use lib.ListN.{length, getD, take}
 use lib.Seq.{getD-take}
 use borrow.Author.Tests.{lt-ltb, le-ltb}
@@ -16,9 +16,10 @@ use Rattle.model.specs.Limits.{mostTips}
 use Rattle.model.specs.Count.{listOf}
 use Rattle.model.specs.Plan.{has, choose2}
 use Rattle.model.specs.CommonTip.{setOf}
-use Rattle.model.specs.Interval.{inside, C}
-use Rattle.model.proofs.Tests.{true-T, false-not, same-test, cond-case}
+use Rattle.model.specs.Interval.{low, high, inside, C}
+use Rattle.model.proofs.Tests.{true-T, false-not, and-in, same-test, cond-case}
 use Rattle.model.proofs.Lists.{all-at}
+use Rattle.model.proofs.Run.{low-le, le-high}
 use Rattle.model.proofs.ListOf.{listOf-at}
 use Rattle.model.proofs.Sets.{setOf-lt, setOf-none, setOf-cong, set-same}
 use Rattle.placements.specs.Repeated.{repeated}
@@ -44,21 +45,27 @@ module _ {names m : ℕ} {qs sets : List ℕ} (r : NamedRuns names m qs sets) (i
   opens : (K t a w : ℕ) → T (has (getD sets i 0) t) → a ≤ t → t < a + w → a + w ≤ m
       → K ≤ Out always m (C (repeated qs sets)) (repeated qs sets) a w
       + (C (repeated qs sets) a w + (getD qs i 0 * inside (others qs sets i) a w t + choose2 (getD qs i 0)))
-      → T (openBy m xs inner upper (getD qs i 0) K a w)
+      → T (openBy m xs inner upper (getD qs i 0) (getD sets i 0) K a w)
   unfolding openBy limitBy
-  opens K t a w h p e b n = le→leb K _ (omega (
-    arith,
-    o .wider a w (omega arith) b,
-    x .narrower a w (omega arith) b,
-    mul-le-mul-left (getD qs i 0) (inside-lying k a w t b p e (all-at 0 (named-runs r) i l .fits t h)),
-  ))
+  opens K t a w h p e b n =
+      let s = getD sets i 0 in
+      let line = all-at 0 (named-runs r) i l in
+      let enough = leb K (limitBy m xs inner upper (getD qs i 0) a w) in
+      and-in (leb a (high s)) (ltb (low s) (a + w) && enough)
+      (le→leb a (high s) (omega (arith, le-high (r .good .most) (line .domain) t h)))
+      (and-in (ltb (low s) (a + w)) enough (lt→ltb (low s) (a + w) (omega (arith, low-le s t h))) (le→leb K _ (omega (
+        arith,
+        o .wider a w (omega arith) b,
+        x .narrower a w (omega arith) b,
+        mul-le-mul-left (getD qs i 0) (inside-lying k a w t b p e (line .fits t h)),
+      ))))
 
   pub kept-goal : (K kept : ℕ)
       → ((t : ℕ) → T (has kept t) ↔ (T (has (getD sets i 0) t)
-      × Ends (openBy m xs inner upper (getD qs i 0) K) m (C (repeated qs sets)) (others qs sets i) (getD qs i 0) K t))
+      × Ends (openBy m xs inner upper (getD qs i 0) (getD sets i 0) K) m (C (repeated qs sets)) (others qs sets i) (getD qs i 0) K t))
       → kept ≡ goalTips m qs sets K i
   kept-goal K kept f = set-same kept (goalTips m qs sets K i) (λ t.
-      let g = tips-by-tables (r .good) (r .runs) i l K (openBy m xs inner upper (getD qs i 0) K) (opens K) t in
+      let g = tips-by-tables (r .good) (r .runs) i l K (openBy m xs inner upper (getD qs i 0) (getD sets i 0) K) (opens K) t in
       same-test (has kept t) (has (goalTips m qs sets K i) t) (λ h. g .1 (f t .0 h)) (λ h. f t .1 (g .0 h)))
 
 -- the kept set of a line before i

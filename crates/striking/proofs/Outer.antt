@@ -7,7 +7,6 @@ use mathlib.Core.Bool.{Bool, cond}
 use mathlib.Core.List.{List}
 use lib.ListN.{length, set, length-set}
 use Rattle.model.specs.Limits.{mostTips, mostPairs}
-use Rattle.model.specs.Count.{largest}
 use Rattle.model.specs.Plan.{choose2}
 use Rattle.model.specs.Choice.{bare}
 use Rattle.model.specs.Interval.{inside, split, C}

@@ -98,9 +98,9 @@ pub record Counted (q : ℕ) (xs : List ℕ) : Type 0 where
 unfoldable pub limitBy : ℕ → List ℕ → List ℕ → List ℕ → ℕ → ℕ → ℕ → ℕ
 limitBy m xs inner upper q a w = entry m upper a w + (entry m inner a w + (q * lyingBy xs a w + choose2 q))
 
--- an interval is followed if a chain through it can have K pairs
-unfoldable pub openBy : ℕ → List ℕ → List ℕ → List ℕ → ℕ → ℕ → ℕ → ℕ → Bool
-openBy m xs inner upper q K a w = leb K (limitBy m xs inner upper q a w)
+-- an interval is followed if it may have a tip of the set s, and a chain through it can have K pairs
+unfoldable pub openBy : ℕ → List ℕ → List ℕ → List ℕ → ℕ → ℕ → ℕ → ℕ → ℕ → Bool
+openBy m xs inner upper q s K a w = leb a (high s) && (ltb (low s) (a + w) && leb K (limitBy m xs inner upper q a w))
 
 -- the tip t of the interval is in the set s, and takes its lines and q placements more for K pairs, where there are so many outside
 unfoldable pub endsBy : ℕ → ℕ → List ℕ → List ℕ → ℕ → ℕ → ℕ → ℕ → ℕ → ℕ → ℕ → Bool

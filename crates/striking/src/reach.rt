@@ -46,6 +46,32 @@ fn limit_at(
     outside + (inside + (more + own))
 }
 
+// The interval may have a tip of the set, and the goal can be had through it.
+fn is_open(
+    m: usize,
+    q: u32,
+    set: u64,
+    goal: u32,
+    a: usize,
+    w: usize,
+    pairs: &[u32],
+    sums: &[u32],
+    inner: &[u32],
+    upper: &[u32],
+) -> bool
+    requires { ⌜ Counted q (now sums) × (m ≤ mostTips) × (m * m ≤ length (now inner)) × (m * m ≤ length (now upper)) × (a + w ≤ m)
+        × PairTable (now pairs) ⌝ }
+    ensures { λ r. ⌜ r ≡ openBy m (now (sums .entry)) (now (inner .entry)) (now (upper .entry)) q set goal a w ⌝ }
+{
+    if tips::highest(set) < a {
+        return false;
+    }
+    if a + w <= tips::lowest(set) {
+        return false;
+    }
+    goal as u64 <= limit_at(m, q, a, w, pairs, sums, inner, upper)
+}
+
 // The bit of tip t if a chain ends there in the interval with the goal's pairs, where so many are outside; else 0.
 fn end_bit(
     names: u64,
@@ -117,15 +143,15 @@ fn follow(
     requires { ⌜ Ready q (now sums) × Counted q (now sums) × (m ≤ mostTips) × (m * m ≤ length (now inner)) × (m * m ≤ length (now upper))
         × (m * m ≤ length (now outer)) × (0 < w) × (a + w ≤ m) × (aroundBy names m (now sums) (now inner) (now outer) a w < 2 ^ 32)
         × PairTable (now pairs) ⌝ }
-    ensures kept { λ r. ⌜ r ≡ cond (openBy m (now (sums .entry)) (now (inner .entry)) (now (upper .entry)) q goal a w)
+    ensures kept { λ r. ⌜ r ≡ cond (openBy m (now (sums .entry)) (now (inner .entry)) (now (upper .entry)) q set goal a w)
         (tipsBy names m (now (sums .entry)) (now (inner .entry)) q set goal
         (aroundBy names m (now (sums .entry)) (now (inner .entry)) (now (outer .entry)) a w) a w) 0 ⌝ }
     ensures outer { λ _. ⌜ now (outer .exit) ≡ put (now (outer .entry)) (a * m + (a + (w - 1)))
-        (cond (openBy m (now (sums .entry)) (now (inner .entry)) (now (upper .entry)) q goal a w)
+        (cond (openBy m (now (sums .entry)) (now (inner .entry)) (now (upper .entry)) q set goal a w)
         (aroundBy names m (now (sums .entry)) (now (inner .entry)) (now (outer .entry)) a w) 0) ⌝ }
 {
     let k = a * m + (a + (w - 1));
-    if limit_at(m, q, a, w, pairs, sums, inner, upper) < goal as u64 {
+    if !is_open(m, q, set, goal, a, w, pairs, sums, inner, upper) {
         outer[k] = 0;
         return 0;
     }
@@ -151,7 +177,7 @@ pub fn kept_tips(
         × (m * m ≤ length (now outer)) × PairTable (now pairs) ⌝ }
     ensures { λ r. ⌜ ((lines rest : List ℕ) → Known names m q lines rest (now (sums .entry)) (now (inner .entry)) (now (upper .entry)) → (t : ℕ)
         → T (has r t) ↔ (T (has set t)
-        × Ends (openBy m (now (sums .entry)) (now (inner .entry)) (now (upper .entry)) q goal) m (C lines) rest q goal t)) ⌝ }
+        × Ends (openBy m (now (sums .entry)) (now (inner .entry)) (now (upper .entry)) q set goal) m (C lines) rest q goal t)) ⌝ }
 {
     let mut kept = 0u64;
     let mut w = m;

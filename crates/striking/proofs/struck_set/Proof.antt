@@ -42,7 +42,8 @@ sums-of c =
 -- and the two tables of all lines
 known-of : (c : tie.After-sums-without)
     → let s = begun c in
-    Known (s .args .names) (s .args .m) (quantity s) (placed s) (rest s) (c .sums-without .last .1 .1 .1 .0) (s .args .inner .now) (s .args .upper .now)
+    let args = s .args in
+    Known (args .names) (args .m) (quantity s) (placed s) (rest s) (c .sums-without .last .1 .1 .1 .0) (args .inner .now) (args .upper .now)
 known-of c =
     let s = begun c in
     known (s .pre .0) (s .args .i) (s .pre .2) (all-sums (s .pre .0) (s .pre .1)) (sums-of c) (s .pre .5) (s .pre .6)

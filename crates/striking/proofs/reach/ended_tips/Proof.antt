@@ -28,7 +28,8 @@ ends c =
 loop-holds : tie.Need-loop-holds Inv-loop μ-loop
 loop-holds c =
     let args = c .before .before .before .args in
-    (search needs, search needs, sym (tips-before (args .names) (args .m) (args .sums .now) (args .inner .now) (args .q) (args .set) (args .goal) (args .outside) (args .a) (args .w)))
+    let none = tips-before (args .names) (args .m) (args .sums .now) (args .inner .now) (args .q) (args .set) (args .goal) in
+    (search needs, search needs, sym (none (args .outside) (args .a) (args .w)))
 
 add-loop : tie.Need-add-loop Inv-loop μ-loop
 add-loop c = search needs

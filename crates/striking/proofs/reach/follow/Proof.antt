@@ -1,19 +1,18 @@
 use Prim.Native.Nat.{ℕ, _+_, _*_, _-_, _≤_, _<_}
 use native.Mathlib.Omega.{arith}
 use native.Mathlib.Nat.{mul-le-mul}
-use mathlib.Core.Path.{_≡_, refl, ap, _∙_}
-use mathlib.Core.Bool.{Bool, true, false}
+use mathlib.Core.Path.{refl, ap, _∙_}
 use lib.ListN.{set}
 use borrow.Author.Needs.{needs}
 use Rattle.model.specs.Limits.{mostTips}
+use Rattle.model.proofs.Tests.{fails, passes}
 use Rattle.checking.proofs.Bounds.{place-lt}
-use Rattle.striking.specs.Striking.{limitBy, openBy, tipsBy}
+use Rattle.striking.specs.Striking.{tipsBy}
 use Rattle.striking.proofs.Read.{ready-none}
-use Rattle.striking.proofs.Kept.{lt-leb, le-leb}
 use Rattle.striking.proofs.reach.follow.Statement.{statement}
 use Rattle.striking.proofs.reach.follow.Tie as tie
 
--- the place of the interval, and whether it is followed
+-- the place of the interval
 module _ (c : tie.Start) where
   abbrev place : ℕ
   place = c .args .a * c .args .m + (c .args .a + (c .args .w - 1))
@@ -24,19 +23,11 @@ module _ (c : tie.Start) where
   square : c .args .m * c .args .m ≤ mostTips * mostTips
   square = mul-le-mul (c .pre .2) (c .pre .2)
 
-  abbrev limit : ℕ
-  limit = let args = c .args in limitBy (args .m) (args .sums .now) (args .inner .now) (args .upper .now) (args .q) (args .a) (args .w)
-
-  abbrev followed : Bool
-  followed = let args = c .args in openBy (args .m) (args .sums .now) (args .inner .now) (args .upper .now) (args .q) (args .goal) (args .a) (args .w)
-
-  followed-not : limit < c .args .goal → followed ≡ false
-  unfolding openBy
-  followed-not h = lt-leb (c .args .goal) limit h
-
-  followed-so : c .args .goal ≤ limit → followed ≡ true
-  unfolding openBy
-  followed-so h = le-leb (c .args .goal) limit h
+  -- the tips found with so many pairs outside
+  abbrev tips : ℕ → ℕ
+  tips o =
+      let args = c .args in
+      tipsBy (args .names) (args .m) (args .sums .now) (args .inner .now) (args .q) (args .set) (args .goal) o (args .a) (args .w)
 
 mul-k : tie.Need-mul-k
 mul-k c =
@@ -54,8 +45,8 @@ add-k-2 c =
     let s = c .before .before .before .before .before in
     record { fits = omega (arith, within s, square s) }
 
-limit-at-requires : tie.Need-limit-at-requires
-limit-at-requires c κs = search needs
+is-open-requires : tie.Need-is-open-requires
+is-open-requires c κs = search needs
 
 mul-outer : tie.Need-mul-outer
 mul-outer c =
@@ -71,7 +62,7 @@ same-length : tie.Need-same-length
 same-length c = search needs
 
 returns : tie.Need-returns
-returns c = rw (followed-not (c .before .before .before .before .before .before .before) (omega (arith, c .before .limit-at .ensures, c .if1 .taken))) (refl, refl)
+returns c = rw (fails (c .before .is-open .ensures) (c .if1 .taken)) (refl, refl)
 
 best-outside-requires : tie.Need-best-outside-requires
 best-outside-requires c κs =
@@ -104,9 +95,8 @@ returns-2 c =
     let b = c .before in
     let s = b .before .before .before .before .before .before .before .before .before in
     let args = s .args in
-    let so = followed-so s (omega (arith, b .before .before .before .limit-at .ensures, b .before .before .if1 .left)) in
-    let tips : ℕ → ℕ = λ o. tipsBy (args .names) (args .m) (args .sums .now) (args .inner .now) (args .q) (args .set) (args .goal) o (args .a) (args .w) in
-    rw so (c .ended-tips .ensures ∙ ap tips (b .best-outside .ensures), ap (set (args .outer .now) (place s)) (b .best-outside .ensures))
+    let so = passes (b .before .before .before .is-open .ensures) (b .before .before .if1 .left) in
+    rw so (c .ended-tips .ensures ∙ ap (tips s) (b .best-outside .ensures), ap (set (args .outer .now) (place s)) (b .best-outside .ensures))
 
 pub follow-spec : {M : Type 1} → statement M
 follow-spec =
@@ -116,7 +106,7 @@ follow-spec =
     sub-k
     add-k
     add-k-2
-    limit-at-requires
+    is-open-requires
     mul-outer
     slice-write-outer
     same-length
