@@ -34,7 +34,7 @@
  * rounded up (docs/PERFORMANCE.md); the first call of a process may need 2 KB
  * more, to look up those two functions:
  *
- *   read 1, common 5, keep 5, goal 83, quick 15, best 50, check 30, junior 13,
+ *   read 1, common 5, keep 5, goal 99, quick 15, best 50, check 30, junior 13,
  *   merge 10, alone 20, mend 1, order 17, report 66
  *
  * All but tipshare_words and tipshare_version are proved. The two are tables in
