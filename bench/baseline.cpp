@@ -2,9 +2,10 @@
  * Tip sharing by hand in plain C++, with the steps meant for the proved library: counts are made tip by tip and taken
  * down as lines are planned; best sharing runs on the ranks of the named tips, counts placements by lowest and highest
  * tip, sums the counts in two directions and has r^3/6 steps for r named tips; then the table is spread over the rack. A
- * check sums the same counts over the rack, in 64 bits. A goal of pairs fills, for each line that no earlier one equals, a
- * table of the most pairs inside each stretch and one of those outside it, of all lines but this one. The contiguous
- * inner loops of the plans and the check are written so that the compiler puts them into vector instructions.
+ * check sums the same counts over the rack, in 64 bits. A goal of pairs fills a table of the most pairs inside each
+ * stretch and one of those outside it, and for each line that no earlier one equals one of those outside by all lines but
+ * this one, where the goal can be had. The contiguous inner loops of the plans and the check are written so that the
+ * compiler puts them into vector instructions.
  * A board whose quantities are all 1 has code of its own wherever a quantity counts.
  */
 #include "libraries.h"
@@ -278,11 +279,6 @@ struct Around {
         return pairs_on(taken + more);
     }
 
-    uint32_t split_at(size_t a, size_t end, size_t c, uint32_t more) const
-    {
-        return pairs_at(a, end, c, more) + inside[a][c] + inside[c + 1][end];
-    }
-
     /* The shortest stretches first. */
     void fill_inside()
     {
@@ -291,7 +287,7 @@ struct Around {
             for (size_t a = 0; a + width <= rack; a++) {
                 uint32_t most = 0;
                 for (size_t c = a; c < a + width; c++) {
-                    const uint32_t split = split_at(a, a + width, c, 0);
+                    const uint32_t split = pairs_at(a, a + width, c, 0) + inside[a][c] + inside[c + 1][a + width];
                     most = most > split ? most : split;
                 }
                 inside[a][a + width] = most;
@@ -299,40 +295,57 @@ struct Around {
         }
     }
 
-    /* The longest stretches first: what is outside of one is a tip beside it and what is beyond and outside of both. */
+    /* What is outside of a stretch is a tip beside it and what is beyond and outside of both; inside is that of all lines. */
+    uint32_t most_outside(size_t a, size_t end, const Around &all) const
+    {
+        uint32_t most = 0;
+        for (size_t after = end + 1; after <= rack; after++) {
+            const uint32_t pairs = outside[a][after] + pairs_at(a, after, end, 0) + all.inside[end + 1][after];
+            most = most > pairs ? most : pairs;
+        }
+        for (size_t before = 0; before < a; before++) {
+            const uint32_t pairs = outside[before][end] + pairs_at(before, end, a - 1, 0) + all.inside[before][a - 1];
+            most = most > pairs ? most : pairs;
+        }
+        return most;
+    }
+
+    /* The longest stretches first. */
     void fill_outside()
     {
-        outside[0][rack] = 0;
-        for (size_t width = rack - 1; width > 0; width--) {
+        for (size_t width = rack; width > 0; width--) {
             for (size_t a = 0; a + width <= rack; a++) {
-                const size_t end = a + width;
-                uint32_t most = 0;
-                for (size_t after = end + 1; after <= rack; after++) {
-                    const uint32_t pairs =
-                        outside[a][after] + pairs_at(a, after, end, 0) + inside[end + 1][after];
-                    most = most > pairs ? most : pairs;
-                }
-                for (size_t before = 0; before < a; before++) {
-                    const uint32_t pairs =
-                        outside[before][end] + pairs_at(before, end, a - 1, 0) + inside[before][a - 1];
-                    most = most > pairs ? most : pairs;
-                }
-                outside[a][end] = most;
+                outside[a][a + width] = most_outside(a, a + width, *this);
             }
         }
     }
 
-    /* The most pairs of a plan with so many placements more on the tip. */
-    uint32_t most_with(size_t tip, uint32_t more) const
+    /*
+     * The tips of the set with which a plan has the goal's pairs, where so many placements more are on the tip. The longest
+     * stretches first, and only those that may have a tip of the set and where the goal can be had: by the tables of all
+     * lines, and each of those placements with all that lie within the stretch.
+     */
+    uint64_t kept_tips(const Around &all, uint64_t set, uint32_t more, uint32_t goal)
     {
-        uint32_t most = 0;
-        for (size_t a = 0; a <= tip; a++) {
-            for (size_t end = tip + 1; end <= rack; end++) {
-                const uint32_t pairs = outside[a][end] + split_at(a, end, tip, more);
-                most = most > pairs ? most : pairs;
+        uint64_t kept = 0;
+        for (size_t width = rack; width > 0; width--) {
+            for (size_t a = 0; a + width <= rack; a++) {
+                const size_t end = a + width;
+                outside[a][end] = 0;
+                if (highest(set) < a || end <= lowest(set) ||
+                    all.outside[a][end] + all.inside[a][end] + more * within[a][end] + pairs_on(more) < goal) {
+                    continue;
+                }
+                const uint32_t most = most_outside(a, end, all);
+                outside[a][end] = most;
+                for (size_t c = a; c < end; c++) {
+                    const uint32_t pairs = most + pairs_at(a, end, c, more) + all.inside[a][c] + all.inside[c + 1][end];
+                    const uint64_t stays = (set >> c & 1) != 0 && pairs >= goal;
+                    kept |= stays << c;
+                }
             }
         }
-        return most;
+        return kept;
     }
 };
 
@@ -383,13 +396,7 @@ void strike(const Lines &lines, Quantities quantities, size_t count, uint32_t go
                 rest.within[a][end] -= quantities[line];
             }
         }
-        rest.fill_inside();
-        rest.fill_outside();
-        kept[line] = 0;
-        for (uint64_t tips = set; tips != 0; tips &= tips - 1) {
-            const uint64_t stays = rest.most_with(lowest(tips), quantities[line]) >= goal;
-            kept[line] |= stays << lowest(tips);
-        }
+        kept[line] = rest.kept_tips(all, set, quantities[line], goal);
     }
 }
 
@@ -512,6 +519,7 @@ uint32_t baseline_goal(const uint8_t *file, size_t file_len, uint32_t goal, uint
         };
         const auto strike_all = [&](const Named &, uint64_t *kept) {
             Around rest;
+            all.fill_outside();
             with_quantities(job, lines.quantities, [&](auto quantities) {
                 strike(lines, quantities, job.count, goal, all, rest, kept);
             });

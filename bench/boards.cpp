@@ -130,7 +130,7 @@ File file_of(const std::vector<uint64_t> &sets, size_t rack, Quantities quantiti
     } else {
         bytes.resize(job::write_file(bytes.data(), rack, sets.data(), job::Single{}, sets.size()));
     }
-    return {std::move(bytes), least_bound(sets, quantities), TIPSHARE_NO_TIP, {}, 0, {}, {}, {}};
+    return {std::move(bytes), least_bound(sets, quantities), TIPSHARE_NO_TIP, {}, 0, {}, {}, {}, {}, {}};
 }
 
 /* Whether the Junior takes the file's board. */

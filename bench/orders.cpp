@@ -42,7 +42,7 @@ File file_of(uint32_t seed, uint32_t count, uint32_t rules, uint32_t reach)
 
 Boards boards_of(const char *name, const char *description, uint32_t count, uint32_t rules, uint32_t reach)
 {
-    Boards boards{name, description, 0, 0, false, {}};
+    Boards boards{name, description, 0, 0, false, false, {}};
     boards.is_order = true;
     for (uint32_t file = 0; file < kFilesEach; file++) {
         boards.files.push_back(file_of(1000 * file + count + reach, count, rules, reach));

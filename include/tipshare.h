@@ -23,16 +23,28 @@
  * TIPSHARE_NO_TIP there, and every answer is as before.
  *
  * Every length counts elements, not bytes. No pointer may be null, not even
- * with length 0, each is good for its length, and no two buffers of one call
- * may overlap, but for two that are only read. A call needs up to 70 KB of
- * stack, tipshare_goal up to 90 KB (docs/PERFORMANCE.md), and keeps nothing
- * after it returns, so calls on different buffers may run at one time. The rules
- * in full are in docs/RULES.md.
+ * with length 0: lend any address that is good for the type. Each pointer is
+ * good for its length, and no two buffers of one call may overlap, but for two
+ * that are only read. A call keeps nothing after it returns, so calls on
+ * different buffers may run at one time. The rules in full are in docs/RULES.md.
  *
- * All functions but tipshare_report return 0 when the call is accepted, else a
- * number of the table below. They write the first 4 places of answer, also on
- * a refusal, and none past them. Only with answer_len below 4 nothing at all
- * is written and the number is 100.
+ * The library is for x86-64 Linux and its calling convention, and runs on every
+ * such processor. Of the C library it needs memset and memcpy alone; it has no
+ * heap and no global state. The stack that a call needs, in KB, measured and
+ * rounded up (docs/PERFORMANCE.md); the first call of a process may need 2 KB
+ * more, to look up those two functions:
+ *
+ *   read 1, common 5, keep 5, goal 99, quick 15, best 50, check 30, junior 13,
+ *   merge 10, alone 20, mend 1, order 17, report 66
+ *
+ * All but tipshare_words and tipshare_version are proved. The two are tables in
+ * C, in libtipshare.a and libtipshare.so; libtipshare_c.a, which make leaves in
+ * target/staticlib, has the proved functions alone.
+ *
+ * All functions but tipshare_report and those two return 0 when the call is
+ * accepted, else a number of the table below. They write the first 4 places of
+ * answer, also on a refusal, and none past them. Only with answer_len below 4
+ * nothing at all is written and the number is 100.
  *
  * A refused call writes to no buffer but answer: answer[0] is the line, part or
  * rule that the refusal is about, or 0, and the other places are 0, except that
@@ -117,6 +129,11 @@
 #ifdef __cplusplus
 extern "C" {
 #endif
+
+#define TIPSHARE_VERSION "2.0.0" /* of this header; tipshare_version() is that of the library linked */
+#define TIPSHARE_VERSION_MAJOR 2
+#define TIPSHARE_VERSION_MINOR 0
+#define TIPSHARE_VERSION_PATCH 0
 
 #define TIPSHARE_MOST_TIPS 64         /* the largest rack size */
 #define TIPSHARE_MOST_LINES 512       /* the most lines, and a plan that always does; for two boards alone twice that */
@@ -430,6 +447,19 @@ uint32_t tipshare_order(const uint32_t *parts, size_t parts_len,
  */
 size_t tipshare_report(const uint8_t *file, size_t file_len,
                        uint8_t *out, size_t out_len);
+
+/*
+ * A refusal in words, as "a line has no tip", for any number that a function
+ * above returns; "accepted" for 0, "unknown number" for any that none returns.
+ * The text ends in a zero byte, and is not to be written or freed. Not proved.
+ */
+const char *tipshare_words(uint32_t number);
+
+/*
+ * The version of the library, as "2.0.0". A program built with this header takes
+ * any library of the same first number that is not older. Not proved.
+ */
+const char *tipshare_version(void);
 
 #ifdef __cplusplus
 }

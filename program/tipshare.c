@@ -28,7 +28,7 @@ static const char help[] =
     "  off K tips T..        the least number of placements off the tip used most, and the tips that reach it\n"
     "  quick P, best P       the pairs of placements that share a tip, in each plan; best none where a line is no run\n"
     "  line I quick T best T the tip of each line in each plan, which all its placements have\n"
-    "  refused N             alone, where the file is refused; include/tipshare.h and README.md list the numbers\n"
+    "  refused N             alone, where the file is refused; docs/what-to-do.md lists the numbers\n"
     "\n"
     "Exit status: 0 the text was written whole, refused N too; 1 reading or writing failed; 2 wrong arguments.\n";
 

@@ -23,6 +23,7 @@ const CALLS_AN_ORDER: u64 = 22;
 const USAGE: &str = "\
 compare [--cases N] [--seed S] [--last FILE]     compare the library on N calls, 440,000 without N, 380,000 at least
 compare --orders N [--seed S]                    compare it on N placing orders alone
+compare --mendings N [--seed S]                  compare it on N calls that mend, and some that read what is mended
 compare --hex FILE [--seed S]                    compare it on one job file, given as hex digits
 compare --program PROGRAM [--files N]            compare what the program prints for N files, 2,000 without N,
                                                  1,000 at least
@@ -38,6 +39,7 @@ struct Settings {
     hex: Option<PathBuf>,
     program: Option<String>,
     orders: Option<u64>,
+    mendings: Option<u64>,
     self_test: bool,
 }
 
@@ -51,6 +53,7 @@ fn settings() -> Result<Settings, String> {
         hex: None,
         program: None,
         orders: None,
+        mendings: None,
         self_test: false,
     };
     let mut arguments = env::args().skip(1);
@@ -68,6 +71,7 @@ fn settings() -> Result<Settings, String> {
             "--hex" => settings.hex = Some(value.into()),
             "--program" => settings.program = Some(value),
             "--orders" => settings.orders = Some(number(&name, &value, 1)?),
+            "--mendings" => settings.mendings = Some(number(&name, &value, 1)?),
             _ => return Err(USAGE.into()),
         }
     }
@@ -91,6 +95,9 @@ fn main() -> ExitCode {
         return find_mistakes(&settings);
     } else if let Some(calls) = settings.orders {
         return compare_orders(settings.seed, calls);
+    } else if let Some(calls) = settings.mendings {
+        let mut run = Run::new(settings.seed, calls, settings.last);
+        run.mendings().map(|()| println!("{} calls on {} files, no difference", run.tally.cases, run.tally.files))
     } else if let Some(program) = &settings.program {
         let files = settings.files;
         compare_program(program, settings.seed, files).map(|()| println!("{program}: {files} files, no difference"))

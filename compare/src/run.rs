@@ -91,6 +91,28 @@ impl Run {
         self.seeded()
     }
 
+    /// Mendings alone: the fixed ones, then those of seeded boards until enough cases are done.
+    pub fn mendings(&mut self) -> Result<(), Difference> {
+        self.fixed_mendings()?;
+        while self.tally.cases < self.least_cases {
+            let size = self.seeded_size();
+            let board = seeded_board(&mut self.random, size);
+            let file = seeded_file(&mut self.random, &board);
+            self.seeded_mendings(&file)?;
+        }
+        Ok(())
+    }
+
+    fn seeded_size(&mut self) -> Size {
+        match self.random.below(100) {
+            0 => Size::Large,
+            1..=4 => Size::Long,
+            5..=24 => Size::Middle,
+            25..=39 => Size::Junior,
+            _ => Size::Small,
+        }
+    }
+
     /// Each fixed board in each version that it can have.
     fn fixed_boards(&mut self) -> Result<(), Difference> {
         let mut turn = 0;
@@ -250,13 +272,7 @@ impl Run {
     }
 
     fn seeded_board(&mut self) -> Result<(), Difference> {
-        let size = match self.random.below(100) {
-            0 => Size::Large,
-            1..=4 => Size::Long,
-            5..=24 => Size::Middle,
-            25..=39 => Size::Junior,
-            _ => Size::Small,
-        };
+        let size = self.seeded_size();
         let board = seeded_board(&mut self.random, size);
         let file = seeded_file(&mut self.random, &board);
         self.good_file(&board, &file)?;

@@ -3,7 +3,9 @@
  *
  * From the root of the repository, make example builds the library and this
  * program, and runs it. A program of your own is built the same way:
- *   gcc -Iinclude examples/c/example.c target/staticlib/libtipshare_c.a -o target/example
+ *   gcc -Iinclude examples/c/example.c target/lib/libtipshare.a -o target/example
+ * or, with the library installed:
+ *   gcc example.c $(pkg-config --cflags --libs tipshare) -o example
  */
 #include <inttypes.h>
 #include <stdio.h>
@@ -72,46 +74,10 @@ static void print_plan(const uint8_t *plan, size_t lines)
     }
 }
 
-static const char *in_words(uint32_t number)
-{
-    switch (number) {
-    case TIPSHARE_RACK_SIZE: return "the rack size is 0 or above 64, for the Junior above 8";
-    case TIPSHARE_EMPTY_LINE: return "the line has no tip";
-    case TIPSHARE_TIP_OUTSIDE: return "the line has a tip outside the rack";
-    case TIPSHARE_SHORT_PLAN: return "the plan buffer is too short";
-    case TIPSHARE_SHORT_TABLE: return "the table is too short";
-    case TIPSHARE_SHORT_FILE: return "the file is shorter than 8 bytes";
-    case TIPSHARE_WRONG_MARK: return "the file does not begin with TIP";
-    case TIPSHARE_WRONG_VERSION: return "the version is neither 1 nor 2";
-    case TIPSHARE_FILE_LINES: return "the file names more than 512 lines";
-    case TIPSHARE_FILE_LENGTH: return "the length does not fit the version and the number of lines";
-    case TIPSHARE_SHORT_OUTPUT: return "the output is too short";
-    case TIPSHARE_BAD_WINDOW: return "a part has no good positions, or there are over 128";
-    case TIPSHARE_BAD_RULE: return "a rule does not name two parts";
-    case TIPSHARE_SHORT_ORDER: return "the order buffer is too short";
-    case TIPSHARE_ZERO_QUANTITY: return "the line has quantity 0";
-    case TIPSHARE_MOUNTED_OUTSIDE: return "the mounted tip is outside the rack";
-    case TIPSHARE_RACKS_DIFFER: return "the racks of the two boards differ";
-    case TIPSHARE_TOO_MANY_LINES: return "two boards have more than 512 lines together, or the Junior more than 64";
-    case TIPSHARE_FOREIGN_TIP: return "a line is on a tip that it has not";
-    case TIPSHARE_WRONG_CLAIM: return "the plan has another number of pairs";
-    case TIPSHARE_NO_RUN: return "the line is no run";
-    case TIPSHARE_NO_PLAN: return "no plan meets the bound";
-    case TIPSHARE_NO_ORDER: return "no order obeys";
-    case TIPSHARE_TOO_MANY_PLACEMENTS: return "the line brings the placements past 2048";
-    case TIPSHARE_NO_TWO_TIPS: return "no two tips serve every line";
-    case TIPSHARE_WRONG_TABLE: return "the table does not show that the plan is a best one";
-    case TIPSHARE_GOAL_MISSED: return "no plan has so many pairs";
-    case TIPSHARE_SHORT_ANSWER: return "the answer has fewer than 4 places";
-    case TIPSHARE_BROKEN_RECORD: return "a part or a rule is not whole";
-    default: return "unknown number";
-    }
-}
-
 /* Prints a refusal; the line in place only matters for some. */
 static void print_refusal(const char *call, uint32_t number, uint64_t place)
 {
-    printf("%s: refused %" PRIu32 ", %s", call, number, in_words(number));
+    printf("%s: refused %" PRIu32 ", %s", call, number, tipshare_words(number));
     switch (number) {
     case TIPSHARE_EMPTY_LINE:
     case TIPSHARE_TIP_OUTSIDE:

@@ -1,6 +1,32 @@
-//! A safe form of include/tipshare.h: slices in, values or a refusal out.
+//! Which suction tip of a desktop placer picks which line of a parts list: the proved library, in safe Rust.
+//!
+//! The calls work on a job file in memory, which [`job_file`] makes of sets of tips, bit t for tip t. Slices go in, values
+//! or a [`Refusal`] come out; a refused call writes to no buffer. What each call promises is in `include/tipshare.h`.
+//!
+//! ```
+//! // A rack of 6 tips: a part for tips 0 and 1, one for 1 to 3 that is placed twice, and one for tips 3 and 4.
+//! let file = tipshare::job_file(6, &[(0b00_0011, 1), (0b00_1110, 2), (0b01_1000, 1)]);
+//! let mut plan = [0; 3];
+//! let mut table = [0; 6 * 6];
+//! assert_eq!(tipshare::best(&file, None, &mut plan, &mut table), Ok(3));
+//! assert_eq!(plan, [0, 3, 3]);
+//!
+//! // A part without a tip is refused, with its line.
+//! let refusal = tipshare::read(&tipshare::job_file(6, &[(0b1, 1), (0, 1)])).unwrap_err();
+//! assert_eq!((refusal.number, refusal.line), (2, 1));
+//! assert_eq!(refusal.words(), "a line has no tip");
+//! ```
+//!
+//! The crate links `target/staticlib/libtipshare_c.a` of this repository, which `make` proves and builds, or the file that
+//! the environment variable `TIPSHARE_LIB` names, as the `libtipshare.a` of an installation. It is for x86-64 Linux. What
+//! stands between a caller and that library, this file, is not proved.
 
 use std::fmt;
+
+/// The version of this crate.
+pub const VERSION: &str = env!("CARGO_PKG_VERSION");
+/// A refusal on each line, its number and its words; the C library has its words from this file too.
+const WORDS: &str = include_str!("../words.txt");
 
 /// The places of an answer.
 pub const ANSWER_PLACES: usize = 4;
@@ -45,6 +71,46 @@ impl fmt::Display for Refusal {
 }
 
 impl std::error::Error for Refusal {}
+
+impl Refusal {
+    /// What is wrong, without the place.
+    pub fn words(&self) -> &'static str {
+        words(self.number)
+    }
+}
+
+/// A refusal's number in words; 0 is `accepted`.
+///
+/// ```
+/// assert_eq!(tipshare::words(26), "no plan meets the bound");
+/// assert_eq!(tipshare::words(18), "unknown number");
+/// ```
+pub fn words(number: u32) -> &'static str {
+    let mut rows = WORDS.lines().filter_map(|line| line.split_once(' '));
+    let row = rows.find(|(found, _)| found.parse::<u32>() == Ok(number));
+    row.map_or("unknown number", |(_, words)| words)
+}
+
+/// The job file of lines, each a set of tips, bit t for tip t, and a quantity: of version 1 where every quantity is 1,
+/// else of version 2. Nothing is checked, so that the calls may refuse it; more than 512 lines, whatever their number,
+/// are refused.
+///
+/// ```
+/// let file = tipshare::job_file(3, &[(0b001, 1), (0b110, 1)]);
+/// assert_eq!(tipshare::read(&file), Ok(tipshare::Job { rack: 3, lines: 2 }));
+/// ```
+pub fn job_file(rack: u8, lines: &[(u64, u8)]) -> Vec<u8> {
+    let counted = lines.iter().any(|&(_, quantity)| quantity != 1);
+    let count = u16::try_from(lines.len()).unwrap_or(u16::MAX);
+    let mut file = [&b"TIP\0"[..], &[if counted { 2 } else { 1 }, rack], &count.to_be_bytes()].concat();
+    for (set, quantity) in lines {
+        file.extend(set.to_be_bytes());
+        if counted {
+            file.push(*quantity);
+        }
+    }
+    file
+}
 
 /// What a job file of either version names.
 #[derive(Clone, Copy, PartialEq, Eq, Debug)]
@@ -95,18 +161,40 @@ fn answer_of(call: impl FnOnce(&mut [u64]) -> u32) -> Result<[u64; ANSWER_PLACES
 }
 
 /// Reads a job file.
+///
+/// ```
+/// let file = tipshare::job_file(3, &[(0b001, 1), (0b110, 4)]);
+/// assert_eq!(tipshare::read(&file).unwrap().lines, 2);
+/// assert_eq!(tipshare::read(&file[..20]).unwrap_err().number, 10);
+/// ```
 pub fn read(file: &[u8]) -> Result<Job, Refusal> {
     let answer = answer_of(|answer| on_slices::read(file, answer))?;
     Ok(Job { rack: answer[1], lines: answer[2] })
 }
 
 /// Finds the tips that most placements can use.
+///
+/// ```
+/// let file = tipshare::job_file(3, &[(0b001, 1), (0b011, 1), (0b110, 1)]);
+/// let common = tipshare::common(&file).unwrap();
+/// assert_eq!((common.top, common.off, common.tips), (2, 1, 0b011));
+/// ```
 pub fn common(file: &[u8]) -> Result<CommonTip, Refusal> {
     let answer = answer_of(|answer| on_slices::common(file, answer))?;
     Ok(CommonTip { top: answer[1], off: answer[2], tips: answer[3] })
 }
 
 /// Keeps within k and writes the kept board to out, as version 1 where every quantity is 1.
+///
+/// ```
+/// let file = tipshare::job_file(3, &[(0b001, 1), (0b011, 1), (0b110, 1), (0b010, 1)]);
+/// let mut out = [0; tipshare::LONGEST_FILE];
+/// // Three of the four can be on tip 1, so that one is off it at least.
+/// let kept = tipshare::keep(&file, 1, &mut out).unwrap();
+/// assert_eq!(kept.margin, 0);
+/// assert_eq!(out[..kept.bytes as usize], tipshare::job_file(3, &[(0b001, 1), (0b010, 1), (0b010, 1), (0b010, 1)]));
+/// assert_eq!(tipshare::keep(&file, 0, &mut out).unwrap_err().margin, -1);
+/// ```
 pub fn keep(file: &[u8], k: u16, out: &mut [u8]) -> Result<Kept, Refusal> {
     let answer = answer_of(|answer| on_slices::keep(file, k, out, answer))?;
     Ok(Kept { margin: answer[1] as i64, bytes: answer[2] })
@@ -114,6 +202,14 @@ pub fn keep(file: &[u8], k: u16, out: &mut [u8]) -> Result<Kept, Refusal> {
 
 /// Keeps, of lines that are runs, the tips that some plan with so many pairs uses, and writes the kept board to out, as
 /// version 1 where every quantity is 1; gives the number of bytes written.
+///
+/// ```
+/// let file = tipshare::job_file(2, &[(0b01, 1), (0b11, 1)]);
+/// let mut out = [0; tipshare::LONGEST_FILE];
+/// let bytes = tipshare::goal(&file, 1, &mut out).unwrap();
+/// assert_eq!(out[..bytes as usize], tipshare::job_file(2, &[(0b01, 1), (0b01, 1)]));
+/// assert_eq!(tipshare::goal(&file, 2, &mut out).unwrap_err().number, 34);
+/// ```
 pub fn goal(file: &[u8], goal: u32, out: &mut [u8]) -> Result<u64, Refusal> {
     Ok(answer_of(|answer| on_slices::goal(file, goal, out, answer))?[1])
 }
@@ -124,24 +220,50 @@ fn number_of(mounted: Option<usize>) -> usize {
 }
 
 /// Plans by rounds, with the mounted tip first on a tie; gives the number of pairs of placements.
+///
+/// ```
+/// let file = tipshare::job_file(3, &[(0b001, 1), (0b110, 1)]);
+/// let mut plan = [0; 2];
+/// assert_eq!(tipshare::quick(&file, Some(2), &mut plan), Ok(0));
+/// assert_eq!(plan, [0, 2]);
+/// ```
 pub fn quick(file: &[u8], mounted: Option<usize>, plan: &mut [u8]) -> Result<u64, Refusal> {
     Ok(answer_of(|answer| on_slices::quick(file, number_of(mounted), plan, answer))?[1])
 }
 
 /// Plans lines that are runs of the tips which some line has, with the most pairs of placements, and with the mounted tip
 /// first on a tie; gives the number of pairs.
+///
+/// ```
+/// let file = tipshare::job_file(3, &[(0b001, 2), (0b011, 3), (0b110, 3), (0b100, 2)]);
+/// let (mut plan, mut table) = ([0; 4], [0; 9]);
+/// assert_eq!(tipshare::best(&file, None, &mut plan, &mut table), Ok(20));
+/// assert_eq!(plan, [0, 0, 2, 2]);
+/// ```
 pub fn best(file: &[u8], mounted: Option<usize>, plan: &mut [u8], table: &mut [u32]) -> Result<u64, Refusal> {
     Ok(answer_of(|answer| on_slices::best(file, number_of(mounted), plan, table, answer))?[1])
 }
 
 /// Checks a plan from other software, with its claimed pairs and its table, for lines that are runs; what is accepted has
 /// the most pairs of placements.
+///
+/// ```
+/// let file = tipshare::job_file(2, &[(0b01, 1), (0b11, 1)]);
+/// assert_eq!(tipshare::check(&file, &[0, 0], 1, &[0, 1, 0, 0]), Ok(()));
+/// assert_eq!(tipshare::check(&file, &[0, 1], 1, &[0, 1, 0, 0]).unwrap_err().number, 20);
+/// ```
 pub fn check(file: &[u8], plan: &[u8], claim: u32, table: &[u32]) -> Result<(), Refusal> {
     answer_of(|answer| on_slices::check(file, plan, claim, table, answer))?;
     Ok(())
 }
 
 /// Plans for the Junior, with one tip or two and the most pairs of placements of all such plans.
+///
+/// ```
+/// let file = tipshare::job_file(3, &[(0b100, 1), (0b110, 1)]);
+/// let mut plan = [0; 2];
+/// assert_eq!(tipshare::junior(&file, &mut plan), Ok(tipshare::Junior { pairs: 1, u: 2, v: 2 }));
+/// ```
 pub fn junior(file: &[u8], plan: &mut [u8]) -> Result<Junior, Refusal> {
     let answer = answer_of(|answer| on_slices::junior(file, plan, answer))?;
     Ok(Junior { pairs: answer[1], u: answer[2], v: answer[3] })
@@ -149,12 +271,26 @@ pub fn junior(file: &[u8], plan: &mut [u8]) -> Result<Junior, Refusal> {
 
 /// Merges two boards of one rack and writes the panel to out, the lines of the first and then those of the second, as
 /// version 1 where every quantity is 1; gives the number of bytes.
+///
+/// ```
+/// let file = tipshare::job_file(3, &[(0b001, 1)]);
+/// let mut out = [0; tipshare::LONGEST_FILE];
+/// let bytes = tipshare::merge(&file, &file, &mut out).unwrap();
+/// assert_eq!(out[..bytes as usize], tipshare::job_file(3, &[(0b001, 1), (0b001, 1)]));
+/// ```
 pub fn merge(first: &[u8], second: &[u8], out: &mut [u8]) -> Result<u64, Refusal> {
     Ok(answer_of(|answer| on_slices::merge(first, second, out, answer))?[1])
 }
 
 /// Plans each of two boards alone by rounds; gives the pairs of placements in both plans, the second of which stands in
 /// the buffer behind the first.
+///
+/// ```
+/// let (first, second) = (tipshare::job_file(3, &[(0b001, 2)]), tipshare::job_file(5, &[(0b10000, 1)]));
+/// let mut plan = [0; 2];
+/// assert_eq!(tipshare::alone(&first, &second, &mut plan), Ok((1, 0)));
+/// assert_eq!(plan, [0, 4]);
+/// ```
 pub fn alone(first: &[u8], second: &[u8], plan: &mut [u8]) -> Result<(u64, u64), Refusal> {
     let answer = answer_of(|answer| on_slices::alone(first, second, plan, answer))?;
     Ok((answer[1], answer[2]))
@@ -169,6 +305,16 @@ pub struct Mended {
 
 /// Mends a file whose first 8 bytes are good but for the count: writes a good file to out, and to the report three bytes
 /// for each change.
+///
+/// ```
+/// // The second line has tip 3, which a rack of 3 lacks, and no other.
+/// let file = tipshare::job_file(3, &[(0b0001, 1), (0b1000, 1)]);
+/// let (mut out, mut report) = ([0; tipshare::LONGEST_FILE], [0; tipshare::LONGEST_CHANGES]);
+/// let mended = tipshare::mend(&file, &mut out, &mut report).unwrap();
+/// assert_eq!(out[..mended.file as usize], tipshare::job_file(3, &[(0b0001, 1)]));
+/// // Line 1: tips cleared, dropped as empty; the file: another number of lines.
+/// assert_eq!(report[..mended.report as usize], [0, 1, 1, 0, 1, 2, 255, 255, 5]);
+/// ```
 pub fn mend(file: &[u8], out: &mut [u8], report: &mut [u8]) -> Result<Mended, Refusal> {
     let answer = answer_of(|answer| on_slices::mend(file, out, report, answer))?;
     Ok(Mended { file: answer[1], report: answer[2] })
@@ -177,6 +323,15 @@ pub fn mend(file: &[u8], out: &mut [u8], report: &mut [u8]) -> Result<Mended, Re
 /// The order in which parts are placed: fine ones first, tall ones last, each within its positions, and of each rule's two
 /// parts the first before the second; of all such orders the least. A tall part's fine flag is ignored. Gives the number of
 /// parts.
+///
+/// ```
+/// let part = tipshare::Part { first: 0, last: 2, fine: false, tall: false };
+/// let tall = tipshare::Part { tall: true, ..part };
+/// let mut order = [0; 3];
+/// // Part 2 goes before part 1, and the tall one last.
+/// assert_eq!(tipshare::order(&[tall, part, part], &[(2, 1)], &mut order), Ok(3));
+/// assert_eq!(order, [2, 1, 0]);
+/// ```
 pub fn order(parts: &[Part], rules: &[(u32, u32)], order: &mut [u8]) -> Result<u64, Refusal> {
     let of_part = |part: &Part| [part.first, part.last, part.fine.into(), part.tall.into()];
     let parts: Vec<u32> = parts.iter().flat_map(of_part).collect();
@@ -185,6 +340,10 @@ pub fn order(parts: &[Part], rules: &[(u32, u32)], order: &mut [u8]) -> Result<u
 }
 
 /// The report for a file.
+///
+/// ```
+/// assert_eq!(tipshare::report(b"no job file"), b"refused 7\n");
+/// ```
 pub fn report(file: &[u8]) -> Vec<u8> {
     let mut text = vec![0; REPORT_SPACE];
     let length = on_slices::report(file, &mut text);

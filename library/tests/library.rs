@@ -1,6 +1,6 @@
 //! The linked library through its safe form.
 
-use library::{
+use tipshare::{
     alone, best, check, common, goal, junior, keep, mend, merge, quick, read, report, CommonTip, Job, Junior, Kept,
     Mended, Refusal, LONGEST_CHANGES, LONGEST_FILE,
 };

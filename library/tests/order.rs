@@ -1,6 +1,6 @@
 //! The placing order through the safe form of the linked library.
 
-use library::{order, Part, Refusal, MOST_PARTS};
+use tipshare::{order, Part, Refusal, MOST_PARTS};
 
 fn part(first: u32, last: u32) -> Part {
     Part { first, last, fine: false, tall: false }

@@ -43,13 +43,13 @@ fn file_of(rack: u8, sets: Lines) -> [u8; 72] {
 
 fn answers(rack: u8, sets: Lines, k: u16) -> Answers {
     let file = file_of(rack, sets);
-    let common = library::common(&file).expect("a list that is read");
+    let common = tipshare::common(&file).expect("a list that is read");
     let mut out = [0; 72];
-    library::keep(&file, k, &mut out).expect("a bound that some plan meets");
+    tipshare::keep(&file, k, &mut out).expect("a bound that some plan meets");
     let set_at = |line: usize| u64::from_be_bytes(out[8 + 8 * line..16 + 8 * line].try_into().expect("eight bytes"));
     let (mut quick, mut best, mut table) = ([0; 8], [0; 8], [0; 64]);
-    let pairs = library::quick(&file, None, &mut quick).expect("quick takes any lines");
-    let most = library::best(&file, None, &mut best, &mut table).ok();
+    let pairs = tipshare::quick(&file, None, &mut quick).expect("quick takes any lines");
+    let most = tipshare::best(&file, None, &mut best, &mut table).ok();
     Answers {
         off: common.off,
         tips: common.tips,

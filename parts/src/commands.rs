@@ -7,6 +7,11 @@ use std::str::FromStr;
 use parts::checking::Refused;
 use parts::files::{of_standard_output, Input, Output};
 use parts::handed::Handed;
+use parts::import::csv::{self, Columns};
+use parts::import::kicad;
+use parts::import::openpnp::{Board, Packages, Parts};
+use parts::import::table::Table;
+use parts::import::{Faults, Placement, Sides};
 use parts::job::{has_mark, Job};
 use parts::list::{Fault, List};
 use parts::mending;
@@ -14,8 +19,13 @@ use parts::panel::Panel;
 use parts::planning::{Kept, Named};
 use parts::MOST_TIPS;
 
+use crate::completion;
+
 /// The most faults of a list that are printed.
 const MOST_FAULTS: usize = 20;
+
+/// What a bound of keep is.
+const K: &str = "k is a number from 0 to 65535";
 
 /// Why a command ends without its result.
 pub enum Failure {
@@ -25,6 +35,60 @@ pub enum Failure {
     Argument(String),
     /// A file was refused, or could not be read or written.
     Refused(String),
+}
+
+pub fn import_kicad(arguments: &[&str]) -> Result<(), Failure> {
+    let (arguments, tips) = option("--tips", arguments)?;
+    let (arguments, side) = option("--side", &arguments)?;
+    let ([path], Some(tips)) = (&arguments[..], tips) else { return Err(Failure::Arguments) };
+    import_by_table(path, tips, side, kicad::placements_of)
+}
+
+pub fn import_csv(arguments: &[&str]) -> Result<(), Failure> {
+    let (arguments, tips) = option("--tips", arguments)?;
+    let (arguments, columns) = option("--columns", &arguments)?;
+    let (arguments, side) = option("--side", &arguments)?;
+    let ([path], Some(tips), Some(columns)) = (&arguments[..], tips, columns) else { return Err(Failure::Arguments) };
+    let columns = Columns::of(columns).map_err(Failure::Argument)?;
+    import_by_table(path, tips, side, |bytes| csv::placements_of(bytes, &columns))
+}
+
+/// Prints the parts list of the placements that a file has, with the tips of a table.
+fn import_by_table(
+    path: &str,
+    tips: &str,
+    side: Option<&str>,
+    placements_of: impl Fn(&[u8]) -> Result<Vec<Placement>, Faults>,
+) -> Result<(), Failure> {
+    let sides = Sides::of(side).map_err(Failure::Argument)?;
+    one_standard_input(&[path, tips])?;
+    let table = Table::read(&input_of(tips)?.bytes).map_err(|faults| faulty(tips, &faults))?;
+    let placements = placements_of(&input_of(path)?.bytes).map_err(|faults| faulty(path, &faults))?;
+    print(table.list(placements, sides).map_err(|faults| without_tips(path, &faults))?.as_bytes())
+}
+
+pub fn import_openpnp(arguments: &[&str]) -> Result<(), Failure> {
+    let (arguments, parts) = option("--parts", arguments)?;
+    let (arguments, rack) = option("--rack", &arguments)?;
+    let (arguments, side) = option("--side", &arguments)?;
+    let [packages, board] = arguments[..] else { return Err(Failure::Arguments) };
+    let sides = Sides::of(side).map_err(Failure::Argument)?;
+    one_standard_input(&[packages, board, parts.unwrap_or_default()])?;
+    let known = Packages::read(&input_of(packages)?.bytes, rack).map_err(|faults| faulty(packages, &faults))?;
+    let parts = match parts {
+        Some(path) => Some(Parts::read(&input_of(path)?.bytes).map_err(|faults| faulty(path, &faults))?),
+        None => None,
+    };
+    let read = Board::read(&input_of(board)?.bytes).map_err(|faults| faulty(board, &faults))?;
+    print(known.list(read, parts.as_ref(), sides).map_err(|faults| without_tips(board, &faults))?.as_bytes())
+}
+
+/// That standard input is read for one file at most.
+fn one_standard_input(paths: &[&str]) -> Result<(), Failure> {
+    if paths.iter().filter(|path| **path == "-").count() > 1 {
+        return Err(Failure::Argument("-: this is standard input for two files; name a file for one of them".into()));
+    }
+    Ok(())
 }
 
 pub fn make(arguments: &[&str]) -> Result<(), Failure> {
@@ -50,7 +114,7 @@ pub fn sort(arguments: &[&str]) -> Result<(), Failure> {
 }
 
 pub fn keep(arguments: &[&str]) -> Result<(), Failure> {
-    strike(arguments, "k is a number from 0 to 65535", |named, k| named.keep(k))
+    strike(arguments, K, |named, k| named.keep(k))
 }
 
 pub fn goal(arguments: &[&str]) -> Result<(), Failure> {
@@ -175,6 +239,20 @@ pub fn picture(arguments: &[&str]) -> Result<(), Failure> {
     print(named(path, input_of(path)?.bytes)?.picture().map_err(|why| about(path, why))?.as_bytes())
 }
 
+pub fn page(arguments: &[&str]) -> Result<(), Failure> {
+    let (arguments, k) = option("--keep", arguments)?;
+    let [path] = arguments[..] else { return Err(Failure::Arguments) };
+    let k = k.map(|word| number_of(word).ok_or_else(|| Failure::Argument(format!("{K}, and not {word}"))));
+    let title = if path == "-" { "standard input" } else { path };
+    let page = named(path, input_of(path)?.bytes)?.page(title, k.transpose()?);
+    print(page.map_err(|why| about(path, why))?.as_bytes())
+}
+
+pub fn completion(arguments: &[&str]) -> Result<(), Failure> {
+    let [] = arguments else { return Err(Failure::Arguments) };
+    print(completion::bash().as_bytes())
+}
+
 /// The arguments but this option, and the word behind it.
 fn option<'a>(name: &str, arguments: &[&'a str]) -> Result<(Vec<&'a str>, Option<&'a str>), Failure> {
     let mut others = Vec::new();
@@ -250,12 +328,21 @@ fn list_of(path: &str, bytes: &[u8]) -> Result<List, Failure> {
 
 /// The faults as lines `FILE:LINE: what is wrong; what to do`.
 fn faulty<W: Display>(path: &str, faults: &[Fault<W>]) -> Failure {
-    let mut lines: Vec<String> =
-        faults.iter().take(MOST_FAULTS).map(|fault| format!("{path}:{}: {}", fault.line, fault.what)).collect();
+    let shown = &faults[..faults.len().min(MOST_FAULTS)];
+    let mut lines = faults_in_words(path, shown);
     if faults.len() > MOST_FAULTS {
         lines.push(format!("{path}: {} more lines are wrong", faults.len() - MOST_FAULTS));
     }
     Failure::Refused(lines.join("\n"))
+}
+
+/// Every package that has no tips, however many there are: a table is made from them.
+fn without_tips(path: &str, faults: &[Fault<String>]) -> Failure {
+    Failure::Refused(faults_in_words(path, faults).join("\n"))
+}
+
+fn faults_in_words<W: Display>(path: &str, faults: &[Fault<W>]) -> Vec<String> {
+    faults.iter().map(|fault| format!("{path}:{}: {}", fault.line, fault.what)).collect()
 }
 
 pub fn print(bytes: &[u8]) -> Result<(), Failure> {

@@ -11,6 +11,9 @@ use crate::{tips_in_words, MOST_LINES, MOST_PLACEMENTS, MOST_QUANTITY, MOST_TIPS
 /// Words for the quantity, in capitals or not, which no column may have. `x` is none: it is where the part is placed.
 const QUANTITIES: [&str; 7] = ["qty", "quantity", "count", "amount", "pieces", "pcs", "n"];
 
+/// The words for parts that come first and last in the placing order.
+const FINE: &str = "fine";
+const TALL: &str = "tall";
 /// The word before the positions of a part.
 const POSITIONS: &str = "at";
 /// The word that begins a rule of the placing order.
@@ -271,6 +274,11 @@ impl Part {
     }
 }
 
+/// Whether a word is never a name, whatever its place.
+pub(crate) fn is_taken(word: &str) -> bool {
+    matches!(word, FINE | TALL) || word.strip_prefix('x').and_then(number_of).is_some()
+}
+
 /// Whether a column of this name is meant as a quantity.
 fn is_quantity(column: &str) -> bool {
     QUANTITIES.iter().any(|name| name.eq_ignore_ascii_case(column))
@@ -399,7 +407,7 @@ pub(crate) fn number_of(word: &str) -> Option<usize> {
 }
 
 /// A number as `0.9`, `12` or `-3.25`.
-fn decimal_of(word: &str) -> Option<f64> {
+pub(crate) fn decimal_of(word: &str) -> Option<f64> {
     let unsigned = word.strip_prefix('-').unwrap_or(word);
     let (whole, part) = unsigned.split_once('.').unwrap_or((unsigned, "0"));
     number_of(whole).and(number_of(part)).and(word.parse().ok())
@@ -470,8 +478,8 @@ fn part_of(content: &str, rack: usize) -> Result<Part, What> {
             continue;
         }
         let flag = match word {
-            "fine" => Some(&mut fine),
-            "tall" => Some(&mut tall),
+            FINE => Some(&mut fine),
+            TALL => Some(&mut tall),
             _ => None,
         };
         if let Some(flag) = flag {

@@ -1,6 +1,7 @@
 //! Turns text parts lists into job files and back, sorts them, and shows what the proved library says of them.
 
 mod commands;
+mod completion;
 mod help;
 
 use std::env;
@@ -28,19 +29,31 @@ fn run(words: &[&str]) -> Result<(), Failure> {
     match words {
         ["--help" | "-h" | "help"] => print(help::page().as_bytes()),
         ["--version"] => print(concat!("parts ", env!("CARGO_PKG_VERSION"), "\n").as_bytes()),
-        ["help", name] => print(Command::named(name).ok_or(Failure::Arguments)?.page().as_bytes()),
-        [name, arguments @ ..] => Command::named(name).ok_or(Failure::Arguments)?.run(arguments),
-        [] => Err(Failure::Arguments),
+        ["help", name @ ..] => match Command::of(name) {
+            Some((command, [])) => print(command.page().as_bytes()),
+            _ => Err(Failure::Arguments),
+        },
+        [name, word] if help::is_help(word) && Command::of(words).is_none() && !help::usages_of(name).is_empty() => {
+            print(help::usages_of(name).as_bytes())
+        }
+        _ => {
+            let (command, arguments) = Command::of(words).ok_or(Failure::Arguments)?;
+            command.run(arguments)
+        }
     }
 }
 
 /// What to type instead of these words.
 fn usage(words: &[&str]) -> String {
-    let Some(&name) = words.iter().find(|word| **word != "help") else {
+    let words = words.strip_prefix(&["help"]).unwrap_or(words);
+    let Some(&name) = words.first() else {
         return help::page().trim_end().into();
     };
-    match Command::named(name) {
-        Some(command) => command.usage(),
-        None => format!("parts has no command {name}; `parts --help` names its commands"),
+    if let Some((command, _)) = Command::of(words) {
+        return command.usage();
+    }
+    match help::usages_of(name) {
+        usages if usages.is_empty() => format!("parts has no command {name}; `parts --help` names its commands"),
+        usages => usages.trim_end().into(),
     }
 }

@@ -1,13 +1,16 @@
 //! A drawing of a parts list, parts against tips, with its quick and its best plan, as SVG.
 
 use crate::counted;
+use crate::job::Job;
 use crate::planning::{Named, Plan, Plans};
 
 /// The side of a cell.
 const CELL: usize = 38;
 /// The least width of the comments beside the names.
 const COMMENTS: usize = 166;
-/// Between the two plans.
+/// The most letters of a comment beside a name.
+const MOST_LETTERS: usize = 40;
+/// Between the plans.
 const BETWEEN: usize = 56;
 /// The least width of a plan, for the words above it.
 const HEADING: usize = 228;
@@ -22,11 +25,13 @@ const GREY: &str = "#66727f";
 const RULE: &str = "#c3ccd5";
 const ALLOWED: &str = "#dfe6ec";
 
-/// Which plan is drawn, a disc for quick and a square for best, so that they differ in black and white too.
+/// What is drawn: a disc for quick, a square for best and a cross for a struck tip, so that they differ in black and white
+/// too.
 #[derive(Clone, Copy)]
 enum Kind {
     Quick,
     Best,
+    Kept,
 }
 
 impl Kind {
@@ -34,6 +39,7 @@ impl Kind {
         match self {
             Kind::Quick => "quick",
             Kind::Best => "best",
+            Kind::Kept => "kept",
         }
     }
 
@@ -41,10 +47,11 @@ impl Kind {
         match self {
             Kind::Quick => "#1f6fb2",
             Kind::Best => "#b8480b",
+            Kind::Kept => "#3d6b35",
         }
     }
 
-    /// The mark of a used tip in the cell at this place.
+    /// The mark of a used tip, or of a struck one, in the cell at this place.
     fn mark(self, x: usize, y: usize) -> String {
         let colour = self.colour();
         match self {
@@ -55,6 +62,11 @@ impl Kind {
             Kind::Best => {
                 let side = CELL - 16;
                 format!(r#"<rect x="{}" y="{}" width="{side}" height="{side}" fill="{colour}"/>"#, x + 8, y + 8)
+            }
+            Kind::Kept => {
+                let (left, top, right, bottom) = (x + 12, y + 12, x + CELL - 12, y + CELL - 12);
+                let lines = format!("M{left} {top}L{right} {bottom}M{right} {top}L{left} {bottom}");
+                format!(r#"<path d="{lines}" stroke="{GREY}" stroke-width="2"/>"#)
             }
         }
     }
@@ -86,7 +98,8 @@ impl Text {
     }
 }
 
-fn escaped(words: &str) -> String {
+/// The words as text of SVG and HTML.
+pub(crate) fn escaped(words: &str) -> String {
     let marks = [("&", "&amp;"), ("<", "&lt;"), (">", "&gt;"), ("\"", "&quot;"), ("'", "&#x27;")];
     marks.iter().fold(words.into(), |words: String, (mark, name)| words.replace(mark, name))
 }
@@ -102,66 +115,117 @@ fn row_top(row: usize) -> usize {
     TOP + CELL * row
 }
 
-/// One plan, or none: a column for each tip, a row for each part, and the sums below.
-fn panel(kind: Kind, left: usize, plans: &Plans, plan: Option<&Plan>) -> Vec<String> {
-    let (rack, lines) = (plans.job.rack, &plans.job.lines);
+/// The numbers on the middle of a tip's column.
+const NUMBER: Text = Text { anchor: "middle", ..PLAIN };
+
+/// The middle of a tip's column.
+fn middle(left: usize, tip: usize) -> usize {
+    left + CELL * tip + CELL / 2
+}
+
+/// The words above what is drawn, and the number of each tip.
+fn heading(kind: Kind, left: usize, job: &Job, words: &str) -> Vec<String> {
     let (name, colour) = (kind.name(), kind.colour());
-    let middle = |tip: usize| left + CELL * tip + CELL / 2;
-    let bottom = row_top(lines.len());
-    let words = plan.map_or("none".into(), |plan| {
-        format!("{} on {}", counted(plan.pairs, "pair"), counted(plan.tips_used(rack) as u64, "tip"))
-    });
     let mut drawn = vec![
         format!(r#"<text x="{left}" y="{}" font-size="18" fill="{INK}">"#, TOP - 50),
         format!(r#"<tspan font-weight="bold" fill="{colour}">{name}:</tspan> {words}</text>"#),
     ];
-    let number = Text { anchor: "middle", ..PLAIN };
-    let strong = Text { weight: "bold", ..number };
-    let named = plans.job.named_tips();
-    for tip in 0..rack {
+    let named = job.named_tips();
+    for tip in 0..job.rack {
         // A tip that no part has counts for no run.
         let colour = if named >> tip & 1 == 1 { INK } else { GREY };
-        drawn.push(Text { colour, ..strong }.at(middle(tip), TOP - 12, &tip.to_string()));
+        drawn.push(Text { colour, weight: "bold", ..NUMBER }.at(middle(left, tip), TOP - 12, &tip.to_string()));
     }
+    drawn
+}
+
+/// The tips of a set, in the row at this height.
+fn allowed_in(set: u64, rack: usize, left: usize, y: usize) -> impl Iterator<Item = String> {
+    (0..rack).filter(move |tip| set >> tip & 1 == 1).map(move |tip| allowed(left + CELL * tip, y))
+}
+
+/// The line below the last part.
+fn ground(left: usize, job: &Job) -> String {
+    let (right, y) = (left + CELL * job.rack, row_top(job.lines.len()) + 3);
+    format!(r#"<path d="M{left} {y}H{right}" stroke="{GREY}" stroke-width="1"/>"#)
+}
+
+/// The tips that a keep within k leaves, with a cross on those that it strikes; none where it is refused.
+fn kept_panel(left: usize, job: &Job, k: u16, kept: Option<&Job>) -> Vec<String> {
+    let struck_of = |kept: &Job, row: usize| job.lines[row].set & !kept.lines[row].set;
+    let struck: Option<u64> =
+        kept.map(|kept| (0..job.lines.len()).map(|row| u64::from(struck_of(kept, row).count_ones())).sum());
+    let words = struck.map_or("none".into(), |struck| format!("{} struck, k {k}", counted(struck, "tip")));
+    let mut drawn = heading(Kind::Kept, left, job, &words);
+    for row in 0..job.lines.len() {
+        let (y, struck) = (row_top(row), kept.map_or(0, |kept| struck_of(kept, row)));
+        drawn.extend(allowed_in(job.lines[row].set & !struck, job.rack, left, y));
+        let crosses = (0..job.rack).filter(|tip| struck >> tip & 1 == 1);
+        drawn.extend(crosses.map(|tip| Kind::Kept.mark(left + CELL * tip, y)));
+    }
+    drawn.push(ground(left, job));
+    drawn
+}
+
+/// One plan, or none: a column for each tip, a row for each part, and the sums below.
+fn panel(kind: Kind, left: usize, plans: &Plans, plan: Option<&Plan>) -> Vec<String> {
+    let (rack, lines) = (plans.job.rack, &plans.job.lines);
+    let colour = kind.colour();
+    let bottom = row_top(lines.len());
+    let words = plan.map_or("none".into(), |plan| {
+        format!("{} on {}", counted(plan.pairs, "pair"), counted(plan.tips_used(rack) as u64, "tip"))
+    });
+    let mut drawn = heading(kind, left, &plans.job, &words);
     for (row, line) in lines.iter().enumerate() {
         let y = row_top(row);
-        drawn.extend((0..rack).filter(|tip| line.set >> tip & 1 == 1).map(|tip| allowed(left + CELL * tip, y)));
+        drawn.extend(allowed_in(line.set, rack, left, y));
         drawn.extend(plan.map(|plan| kind.mark(left + CELL * usize::from(plan.tips[row]), y)));
     }
-    let right = left + CELL * rack;
-    drawn.push(format!(r#"<path d="M{left} {}H{right}" stroke="{GREY}" stroke-width="1"/>"#, bottom + 3));
+    drawn.push(ground(left, &plans.job));
     let Some(plan) = plan else {
         return drawn;
     };
     for tip in 0..rack {
-        let (x, count) = (middle(tip), plans.placements_on(plan, tip));
+        let (x, count) = (middle(left, tip), plans.placements_on(plan, tip));
         if count == 0 {
-            let nothing = Text { colour: GREY, ..number };
+            let nothing = Text { colour: GREY, ..NUMBER };
             drawn.push(nothing.at(x, bottom + 27, "–"));
             drawn.push(nothing.at(x, bottom + 50, "–"));
         } else {
-            drawn.push(number.in_cell(x, bottom + 27, count));
-            drawn.push(Text { colour, ..strong }.in_cell(x, bottom + 50, count * (count - 1) / 2));
+            drawn.push(NUMBER.in_cell(x, bottom + 27, count));
+            drawn.push(Text { colour, weight: "bold", ..NUMBER }.in_cell(x, bottom + 50, count * (count - 1) / 2));
         }
     }
     drawn
 }
 
+/// The beginning of a comment, where it is long.
+fn beginning_of(comment: &str) -> String {
+    if comment.chars().count() <= MOST_LETTERS {
+        return comment.into();
+    }
+    comment.chars().take(MOST_LETTERS - 1).collect::<String>() + "…"
+}
+
 impl Named {
     /// The drawing of the list and both plans.
     pub fn picture(&self) -> Result<String, String> {
-        let plans = self.plans(None)?;
+        Ok(self.drawing(&self.plans(None)?, None))
+    }
+
+    /// The drawing of the list and both plans and, where it is asked for, of what a keep within k leaves.
+    pub(crate) fn drawing(&self, plans: &Plans, keep: Option<(u16, Option<&Job>)>) -> String {
         let rows = plans.job.lines.len();
         let labels: Vec<String> = (0..rows).map(|line| self.label_in(&plans.job, line)).collect();
-        let comments: Vec<&str> =
-            (0..rows).map(|line| self.list.as_ref().map_or("", |list| list.parts[line].comment())).collect();
+        let comments: Vec<String> = (0..rows).map(|line| beginning_of(self.comment(line))).collect();
         let longest = |words: &mut dyn Iterator<Item = &str>| words.map(|word| word.chars().count()).max().unwrap_or(0);
         let names_width = 14 + 10 * longest(&mut labels.iter().map(String::as_str));
-        let comments_width = COMMENTS.max(22 + 8 * longest(&mut comments.iter().copied()));
+        let comments_width = COMMENTS.max(22 + 8 * longest(&mut comments.iter().map(String::as_str)));
         let first = MARGIN + names_width + comments_width;
         let panel_width = HEADING.max(CELL * plans.job.rack);
         let second = first + panel_width + BETWEEN;
-        let width = second + panel_width + MARGIN;
+        let third = second + panel_width + BETWEEN;
+        let width = if keep.is_some() { third } else { second } + panel_width + MARGIN;
         let bottom = row_top(rows);
         let height = bottom + BELOW;
 
@@ -174,7 +238,7 @@ impl Named {
             Text { anchor: "end", colour: GREY, ..PLAIN }.at(first - 16, TOP - 12, "tip"),
         ];
         let small = Text { size: 14, ..PLAIN };
-        for (row, (label, comment)) in labels.iter().zip(comments).enumerate() {
+        for (row, (label, comment)) in labels.iter().zip(&comments).enumerate() {
             let y = row_top(row) + CELL / 2 + 5;
             drawn.push(Text { weight: "bold", ..PLAIN }.at(MARGIN, y, label));
             drawn.push(Text { colour: GREY, ..small }.at(MARGIN + names_width, y, comment));
@@ -187,18 +251,23 @@ impl Named {
         let on_tip = if plans.job.is_single() { "parts on the tip" } else { "placements on the tip" };
         drawn.push(sums.at(first - 16, bottom + 27, on_tip));
         drawn.push(sums.at(first - 16, bottom + 50, "pairs"));
-        drawn.extend(panel(Kind::Quick, first, &plans, Some(&plans.quick)));
-        drawn.extend(panel(Kind::Best, second, &plans, plans.best.as_ref().ok()));
+        drawn.extend(panel(Kind::Quick, first, plans, Some(&plans.quick)));
+        drawn.extend(panel(Kind::Best, second, plans, plans.best.as_ref().ok()));
         let y = height - 46;
-        for (x, mark, words) in [
+        let mut key = vec![
             (MARGIN - 8, allowed(MARGIN - 8, y), "tip that can pick the part"),
             (first + 30, Kind::Quick.mark(first + 30, y), "its tip in the quick plan"),
             (first + 270, Kind::Best.mark(first + 270, y), "its tip in the best plan"),
-        ] {
+        ];
+        if let Some((k, kept)) = keep {
+            drawn.extend(kept_panel(third, &plans.job, k, kept));
+            key.push((first + 510, Kind::Kept.mark(first + 510, y), "struck by keep"));
+        }
+        for (x, mark, words) in key {
             drawn.push(mark);
             drawn.push(small.at(x + CELL + 3, y + CELL / 2 + 5, words));
         }
         drawn.push("</svg>\n".into());
-        Ok(drawn.join("\n"))
+        drawn.join("\n")
     }
 }

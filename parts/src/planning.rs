@@ -54,6 +54,11 @@ impl Named {
         self.label(line) + &quantity_in_words(job.lines[line].quantity)
     }
 
+    /// What stands behind the `#` of a line.
+    pub fn comment(&self, line: usize) -> &str {
+        self.list.as_ref().map_or("", |list| list.parts[line].comment())
+    }
+
     pub(crate) fn refused(&self, refusal: library::Refusal) -> String {
         refusal::Refusal { number: refusal.number, line: refusal.line as usize }.in_words(&self.file)
     }
@@ -199,7 +204,7 @@ impl Plans {
     }
 
     /// The tip changes where parts are placed tip by tip, a used tip that is mounted first.
-    fn changes(&self, plan: &Plan) -> usize {
+    pub(crate) fn changes(&self, plan: &Plan) -> usize {
         let used = plan.tips_used(self.job.rack);
         match self.mounted {
             Some(tip) if plan.on_tip(tip) == 0 => used,

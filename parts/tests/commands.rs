@@ -168,9 +168,13 @@ fn help_and_version_are_printed() {
     let (page, messages, status) = run(&["--help"], b"");
     let page = String::from_utf8(page).unwrap();
     assert_eq!((messages.as_str(), status), ("", 0));
+    // Once with what it does, and once as an example.
+    let (commands, examples) = page.split_once("\nExamples:\n").unwrap();
     for command in COMMANDS {
-        assert!(page.contains(&format!("\nparts {command} ")), "{command}");
+        assert!(commands.contains(&format!("\nparts {command} ")), "{command}");
+        assert!(examples.contains(&format!("parts {command}")), "{command}");
     }
+    assert_eq!(examples.split_once("\n\n").unwrap().0.lines().count(), COMMANDS.len());
     for arguments in [&["help"][..], &["-h"]] {
         assert_eq!(run(arguments, b""), given(page.as_bytes()), "{arguments:?}");
     }
@@ -178,24 +182,52 @@ fn help_and_version_are_printed() {
     assert_eq!(run(&["--version"], b""), given(version.as_bytes()));
 }
 
-const COMMANDS: [&str; 9] = ["make", "show", "sort", "keep", "goal", "plan", "check", "junior", "picture"];
+const COMMANDS: [&str; 17] = [
+    "import kicad",
+    "import openpnp",
+    "import csv",
+    "make",
+    "show",
+    "sort",
+    "keep",
+    "goal",
+    "plan",
+    "check",
+    "junior",
+    "panel",
+    "mend",
+    "order",
+    "picture",
+    "page",
+    "completion bash",
+];
 
 #[test]
 fn every_command_has_a_page() {
     for command in COMMANDS {
-        let (page, messages, status) = run(&[command, "--help"], b"");
+        let words: Vec<&str> = command.split(' ').collect();
+        let (page, messages, status) = run(&[&words[..], &["--help"]].concat(), b"");
         assert_eq!((messages.as_str(), status), ("", 0), "{command}");
         let text = String::from_utf8(page.clone()).unwrap();
-        assert!(text.starts_with(&format!("parts {command} ")) && text.lines().count() >= 5, "{text}");
-        for arguments in [&["help", command][..], &[command, "-h"], &[command, "1", "board.txt", "--help"]] {
-            assert_eq!(run(arguments, b""), given(&page), "{arguments:?}");
+        assert!(text.starts_with(&format!("parts {command}")) && text.lines().count() >= 5, "{text}");
+        assert!(text.contains("\nExample: "), "{text}");
+        let behind: [&[&str]; 2] = [&["-h"], &["1", "board.txt", "--help"]];
+        for arguments in
+            behind.map(|more| [&words[..], more].concat()).into_iter().chain([[&["help"], &words[..]].concat()])
+        {
+            assert_eq!(run(&arguments, b""), given(&page), "{arguments:?}");
         }
     }
 }
 
 #[test]
 fn wrong_arguments_print_the_usage_of_their_command() {
-    let cases: [(&[&str], &str); 23] = [
+    let cases: [(&[&str], &str); 28] = [
+        (&["page"], "page FILE [--keep K]"),
+        (&["page", "a", "--keep"], "page FILE [--keep K]"),
+        (&["page", "a", "--k", "1"], "page FILE [--keep K]"),
+        (&["order"], "order LIST"),
+        (&["junior", "--side", "top"], "junior FILE"),
         (&["make"], "make LIST"),
         (&["make", "a", "b"], "make LIST"),
         (&["make", "--list", "a"], "make LIST"),
@@ -225,6 +257,20 @@ fn wrong_arguments_print_the_usage_of_their_command() {
         let expected = format!("usage: parts {usage}\n`parts {command} --help` says more\n");
         assert_eq!(run(arguments, b""), (Vec::new(), expected, 2), "{arguments:?}");
     }
+    let kicad = "usage: parts import kicad POS --tips TABLE [--side SIDE]\n`parts import kicad --help` says more";
+    for arguments in [
+        &["import", "kicad", "a"][..],
+        &["import", "kicad", "--tips", "a"],
+        &["import", "kicad", "a", "b", "--tips", "c"],
+    ] {
+        assert_eq!(run(arguments, b""), wrong_argument(kicad), "{arguments:?}");
+    }
+    let (page, _, status) = run(&["import", "--help"], b"");
+    let page = String::from_utf8(page).unwrap();
+    assert_eq!((page.matches("usage: parts import ").count(), status), (3, 0));
+    for arguments in [&["import"][..], &["import", "eagle", "a"], &["help", "import"]] {
+        assert_eq!(run(arguments, b""), (Vec::new(), page.clone(), 2), "{arguments:?}");
+    }
     for arguments in [&["draw", "a"][..], &["help", "draw"], &["draw", "--help"]] {
         let expected = "parts has no command draw; `parts --help` names its commands\n";
         assert_eq!(run(arguments, b""), (Vec::new(), expected.into(), 2), "{arguments:?}");
@@ -234,7 +280,9 @@ fn wrong_arguments_print_the_usage_of_their_command() {
 }
 
 /// The commands that print, with what each is given.
-const PRINTING: [(&[&str], &[u8]); 9] = [
+const PRINTING: [(&[&str], &[u8]); 11] = [
+    (&["page", "-"], LIST.as_bytes()),
+    (&["completion", "bash"], b""),
     (&["--help"], b""),
     (&["--version"], b""),
     (&["make", "--help"], b""),
@@ -509,4 +557,69 @@ fn k_out_of_range_is_named() {
         let why = format!("k is a number from 0 to 65535, and not {k}");
         assert_eq!(run(&["keep", k, "-"], &EXAMPLE), wrong_argument(&why));
     }
+}
+
+#[test]
+fn imported_files_are_read_from_standard_input_too() {
+    let folder = folder("imported");
+    let (file, tips) = (typed(&folder, "board.csv"), typed(&folder, "tips.txt"));
+    let rows = "Ref,Val,Package,PosX,PosY,Rot,Side\nR1,1k,R0402,0,0,0,top\nR2,1k,R0402,0,0,0,top\n";
+    fs::write(&file, rows).unwrap();
+    fs::write(&tips, "rack 2\nR* : 0-1\n").unwrap();
+    let list = b"rack 2\nR1 x2 : 0-1 # R0402 1k: R1 R2\n";
+    assert_eq!(run(&["import", "kicad", &file, "--tips", &tips], b""), given(list));
+    assert_eq!(run(&["import", "kicad", "--tips", &tips, "-"], rows.as_bytes()), given(list));
+    assert_eq!(run(&["import", "kicad", &file, "--tips", "-"], b"rack 2\nR* : 0-1\n"), given(list));
+    let why = "-: this is standard input for two files; name a file for one of them";
+    assert_eq!(run(&["import", "kicad", "-", "--tips", "-"], b""), wrong_argument(why));
+    let why = format!(
+        "{file}:2: no row matches R0402, the package of R1 R2; add `R0402 : TIPS` or `skip R0402` to the table"
+    );
+    assert_eq!(run(&["import", "kicad", &file, "--tips", "-"], b"rack 2\n"), refused(&why));
+    let columns = ["--columns", "ref=Ref,package=Package", "--side", "top"];
+    let list = b"rack 2\nR1 x2 : 0-1 # R0402: R1 R2\n";
+    assert_eq!(run(&["import", "csv", &file, "--tips", &tips, columns[0], columns[1]], b""), given(list));
+    let sided = run(&[&["import", "csv", &file, "--tips", &tips], &columns[..]].concat(), b"");
+    assert_eq!(sided, refused(&format!("{file}:2: no side; take --side out, or name the sides")));
+}
+
+#[test]
+fn every_package_without_a_row_is_told() {
+    let rows: String = (0..30).map(|row| format!("R{row},1k,P{row},0,0,0,top\n")).collect();
+    let rows = "Ref,Val,Package,PosX,PosY,Rot,Side\n".to_string() + &rows;
+    let folder = folder("strange");
+    let tips = typed(&folder, "tips.txt");
+    fs::write(&tips, "rack 2\nR* : 0-1\n").unwrap();
+    let (list, why, status) = run(&["import", "kicad", "-", "--tips", &tips], rows.as_bytes());
+    assert_eq!((list.len(), why.lines().count(), status), (0, 30, 1));
+}
+
+/// What bash offers for the last of these words.
+fn completed(words: &[&str]) -> Vec<String> {
+    let script = "source <(\"$1\" completion bash); shift; COMP_WORDS=(\"$@\"); COMP_CWORD=$(($# - 1)); _parts; \
+                  printf '%s\\n' \"${COMPREPLY[@]}\"";
+    let mut bash = Command::new("bash");
+    bash.args(["--norc", "-c", script, "bash", env!("CARGO_BIN_EXE_parts"), "parts"]).args(words);
+    bash.stdin(Stdio::piped()).stdout(Stdio::piped()).stderr(Stdio::piped());
+    let (offered, messages, status) = run_with(&mut bash, b"");
+    assert_eq!((messages.as_str(), status), ("", 0), "{words:?}");
+    String::from_utf8(offered).unwrap().lines().filter(|line| !line.is_empty()).map(String::from).collect()
+}
+
+#[test]
+fn bash_completes_commands_and_options() {
+    let firsts = completed(&[""]);
+    for command in COMMANDS {
+        let first = command.split(' ').next().unwrap();
+        assert_eq!(firsts.iter().filter(|word| *word == first).count(), 1, "{command}");
+    }
+    assert_eq!(completed(&["pl"]), ["plan"]);
+    assert_eq!(completed(&["import", ""]), ["kicad", "openpnp", "csv"]);
+    assert_eq!(completed(&["help", "import", "o"]), ["openpnp"]);
+    assert_eq!(completed(&["completion", ""]), ["bash"]);
+    assert_eq!(completed(&["plan", "a", "--"]), ["--mounted", "--help"]);
+    assert_eq!(completed(&["import", "csv", "a", "--c"]), ["--columns"]);
+    assert_eq!(completed(&["import", "csv", "a", "--side", "b"]), ["bottom", "both"]);
+    // Files are completed by bash itself.
+    assert!(completed(&["plan", ""]).is_empty() && completed(&["draw", "--"]).is_empty());
 }

@@ -1,6 +1,10 @@
 pub mod Members
+pub mod Lowest
 pub mod Lasts
+pub mod Below
 pub mod Settled
+pub mod Waiting
 pub mod Counts
 pub mod Tight
 pub mod Picks
+pub mod Free

@@ -13,7 +13,7 @@ use Rattle.model.specs.Plan.{has}
 use Rattle.model.proofs.Tests.{le-or-lt, true-T, false-T, same-test, test, and-left, and-right, and-in}
 use Rattle.model.proofs.Sets.{has-digit, digit-has, has-suc, has-some, has-and, has-or, highest}
 use Rattle.flat_order.specs.declared.PartSet.{PartSet}
-use Rattle.flat_order.specs.Sets.{hasPart, single, joined, removed, apart}
+use Rattle.flat_order.specs.Sets.{hasPart, single, joined, removed, met, apart}
 
 -- a shift does not lose the bit
 pub shifted : (m : ℕ) → m < 64 → 1 * 2 ^ m % 2 ^ 64 ≡ 2 ^ m
@@ -106,6 +106,12 @@ has-single k x =
 pub has-joined : (s t : PartSet) (x : ℕ) → hasPart (joined s t) x ≡ (hasPart s x || hasPart t x)
 unfolding hasPart joined
 has-joined s t x = ⊎-elim (λ l. rw (le-ltb x 64 l) (has-or (s .high) (t .high) (x - 64))) (λ l. rw (lt-ltb x 64 l) (has-or (s .low) (t .low) x))
+    (le-or-lt 64 x)
+
+-- a part of both sets
+pub has-met : (s t : PartSet) (x : ℕ) → hasPart (met s t) x ≡ (hasPart s x && hasPart t x)
+unfolding hasPart met
+has-met s t x = ⊎-elim (λ l. rw (le-ltb x 64 l) (has-and (s .high) (t .high) (x - 64))) (λ l. rw (lt-ltb x 64 l) (has-and (s .low) (t .low) x))
     (le-or-lt 64 x)
 
 -- a part of s without t

@@ -1,26 +1,46 @@
 -- The greedy order over flat arrays: what the search for a part finds, and where the loop stands at position p.
-use Prim.Native.Nat.{ℕ, _+_, _-_, _≤_, _<_, _^_}
+use Prim.Native.Nat.{ℕ, suc, _+_, _-_, _≤_, _<_, _^_}
 use native.Mathlib.Omega.{arith}
-use mathlib.Core.Path.{_≡_, ap, sym, _∙_}
-use mathlib.Core.Bool.{Bool, true, not, _&&_}
+use mathlib.Core.Path.{_≡_, refl, ap, sym, _∙_}
+use mathlib.Core.Logic.{⊎-elim}
+use mathlib.Core.Bool.{Bool, true, false, not, _&&_}
 use mathlib.Core.List.{List}
 use mathlib.Core.Option.{none, some}
-use lib.Dec.{T, ltb, not-T, T-not, ltb→lt, lt→ltb}
+use lib.Dec.{T, ltb, leb, eqb, not-T, T-not, ltb→lt, lt→ltb, leb→le, le→leb}
 use lib.ListN.{length, getD, take, set, length-set}
 use lib.Seq.{take-all}
 use Rattle.model.specs.Count.{every}
-use Rattle.model.proofs.Tests.{true-T, same-test, and-left, and-right, and-in, every-iff}
-use Rattle.ordering.specs.Number.{lowest, without}
+use borrow.Author.Tests.{lt-ltb}
+use Rattle.model.proofs.Tests.{le-or-lt, true-T, same-test, and-left, and-right, and-in, every-iff}
+use Rattle.ordering.specs.Number.{number, lowest, without}
 use Rattle.ordering.specs.Order.{Task}
 use Rattle.ordering.specs.Least.{due, tight, isFree, fits, pick, prepend, greedy}
-use Rattle.ordering.proofs.Number.{lowest-cong, without-left}
+use Rattle.ordering.proofs.Number.{lowest-le, lowest-cong, without-left}
 use Rattle.ordering.proofs.Agree.{greedy-cong}
 use Rattle.ordering.proofs.Loops.{prependAll, prepend-none, prepend-end, placed-more, greedy-picks, greedy-stops}
 use Rattle.flat_order.specs.declared.PartSet.{PartSet}
-use Rattle.flat_order.specs.Sets.{hasPart, single, removed, apart}
-use Rattle.flat_order.specs.Flat.{rowAt, flatTask, tightOf, canStand}
-use Rattle.flat_order.proofs.Members.{apart-none, apart-if}
+use Rattle.flat_order.specs.Sets.{hasPart, single, removed, met, apart}
+use Rattle.flat_order.specs.Flat.{rowAt, flatTask, isDue, tightOf, candidatesAt, isPick, Below}
+use Rattle.flat_order.proofs.Members.{has-met, has-removed, apart-none, apart-if}
 use Rattle.flat_order.proofs.Settled.{left-without}
+
+-- a position is before the next of p, or it is after p
+before-next : (a p : ℕ) → ltb a (p + 1) ≡ leb a p
+before-next a p = same-test (ltb a (p + 1)) (leb a p) (λ u. le→leb a p (omega (arith, ltb→lt a (p + 1) u)))
+    (λ u. lt→ltb a (p + 1) (omega (arith, leb→le a p u)))
+
+not-before : (a p : ℕ) → not (ltb a p) ≡ leb p a
+not-before a p = same-test (not (ltb a p)) (leb p a)
+    (λ u. le→leb p a (⊎-elim (λ l. l) (λ l. absurd (T-not (ltb a p) u (lt→ltb a p l))) (le-or-lt p a)))
+    (λ u. not-T (ltb a p) (λ v. omega (arith, leb→le p a u, ltb→lt a p v)))
+
+arrange : (a b d e : Bool) → (a && (true && b) && (true && d && not (true && e))) ≡ (a && b && not e && d)
+arrange false b d e = refl
+arrange true false d e = refl
+arrange true true false true = refl
+arrange true true false false = refl
+arrange true true true true = refl
+arrange true true true false = refl
 
 module _ (firsts lasts low high : List ℕ) (left : PartSet) (inside : (i : ℕ) → T (hasPart left i) → i < length lasts)
     (words : (i : ℕ) → (getD low i 0 < 2 ^ 64) × (getD high i 0 < 2 ^ 64)) where
@@ -41,11 +61,55 @@ module _ (firsts lasts low high : List ℕ) (left : PartSet) (inside : (i : ℕ)
       apart-none (rowAt low high x) (removed left (single x)) u y (and-right (without x (hasPart left) y) (t .before y x) h)
       (rw (left-without left x y) (and-left (without x (hasPart left) y) (t .before y x) h)))))
 
-  -- the search finds the pick
-  pub pick-is : (p : ℕ) → pick t p (hasPart left)
-      ≡ lowest (λ x. canStand x p (p + tightOf left lasts p) left (getD firsts x 0) (getD lasts x 0) (rowAt low high x)) (length lasts)
-  unfolding pick fits tight due tightOf canStand
-  pick-is p = lowest-cong _ _ (length lasts) (λ x l. rw (free-is x))
+  module _ (fl fh ll lh : List ℕ) (begins : Below firsts (length lasts) fl fh) (closes : Below lasts (length lasts) ll lh) where
+    -- a candidate by the sets is one by its window
+    among-is : (p v x : ℕ) → p ≤ length lasts → v ≤ length lasts → x < length lasts → hasPart (candidatesAt p v left fl fh ll lh) x
+        ≡ (hasPart left x && leb (getD firsts x 0) p && leb p (getD lasts x 0) && leb (getD lasts x 0) v)
+    unfolding candidatesAt
+    among-is p v x k h l =
+        let begun = rowAt fl fh (p + 1) in
+        let due = rowAt ll lh (v + 1) in
+        let past = rowAt ll lh p in
+        has-met (met left begun) (removed due past) x
+        ∙ rw (
+          has-met left begun x,
+          has-removed due past x,
+          begins .each (p + 1) x (omega arith),
+          closes .each (v + 1) x (omega arith),
+          closes .each p x (omega arith),
+          lt-ltb x (length lasts) l,
+          before-next (getD firsts x 0) p,
+          before-next (getD lasts x 0) v,
+          ← not-before (getD lasts x 0) p,
+        ) (arrange (hasPart left x) (leb (getD firsts x 0) p) (leb (getD lasts x 0) v) (ltb (getD lasts x 0) p))
+
+    -- the search finds the pick
+    pub pick-is : (p : ℕ) → p < length lasts → pick t p (hasPart left)
+        ≡ lowest (isPick (candidatesAt p (p + tightOf left lasts p) left fl fh ll lh) left low high) (length lasts)
+    unfolding pick fits tight due tightOf isPick
+    pick-is p k = lowest-cong _ _ (length lasts) (λ x l. rw (free-is x)
+        (ap (λ b. b && apart (rowAt low high x) (removed left (single x)))
+        (sym (among-is p _ x (omega arith) (omega (
+          arith,
+          lowest-le (λ d. eqb (number (isDue left lasts (p + d)) (length lasts)) (suc d))
+              (length lasts - p),
+        )) l))))
+
+    -- a pick is left, and its last position is neither before p nor after v
+    pub pick-known : (p v x : ℕ) → p ≤ length lasts → v ≤ length lasts → x < length lasts
+        → T (isPick (candidatesAt p v left fl fh ll lh) left low high x) → T (hasPart left x) × (p ≤ getD lasts x 0) × (getD lasts x 0 ≤ v)
+    unfolding isPick
+    pick-known p v x k h l u =
+        let a = hasPart left x in
+        let b = leb (getD firsts x 0) p in
+        let d = leb p (getD lasts x 0) in
+        let e = leb (getD lasts x 0) v in
+        let w = rw (among-is p v x k h l) at
+        (and-left (hasPart (candidatesAt p v left fl fh ll lh) x) (apart (rowAt low high x) (removed left (single x))) u) in (
+          and-left a b (and-left (a && b) d (and-left (a && b && d) e w)),
+          leb→le p (getD lasts x 0) (and-right (a && b) d (and-left (a && b && d) e w)),
+          leb→le (getD lasts x 0) v (and-right (a && b && d) e w),
+        )
 
 -- at position p: the parts before it are in the order, and what is left to place
 pub record Placing (firsts lasts low high : List ℕ) (p : ℕ) (order : List ℕ) (left : PartSet) : Type 0 where

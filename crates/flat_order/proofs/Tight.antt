@@ -5,16 +5,17 @@ use native.Mathlib.Omega.{arith}
 use mathlib.Core.Path.{_≡_, ap, sym, _∙_}
 use mathlib.Core.Bool.{_&&_}
 use mathlib.Core.List.{List, []}
-use lib.Dec.{T, leb, eqb, leb→le, eqb→eq, le→leb}
-use lib.ListN.{length, getD}
-use Rattle.model.proofs.Tests.{same-test, eqb-T, and-left, and-right}
+use lib.Dec.{leb, eqb, leb→le, eqb→eq, le→leb}
+use lib.ListN.{length, getD, set}
+use lib.Seq.{getD-set-other}
+use Rattle.model.proofs.Tests.{same-test, eqb-T}
 use Rattle.ordering.specs.Number.{number}
 use Rattle.ordering.specs.Least.{due}
 use Rattle.ordering.proofs.Number.{number-cong, lowest-cong, lowest-is, lowest-le}
 use Rattle.ordering.proofs.Loops.{due-more}
 use Rattle.flat_order.specs.declared.PartSet.{PartSet}
-use Rattle.flat_order.specs.Sets.{hasPart, single, removed, apart}
-use Rattle.flat_order.specs.Flat.{isDue, endsAt, Counted, upTo, tightBy, tightOf, canStand, flatTask}
+use Rattle.flat_order.specs.Sets.{hasPart}
+use Rattle.flat_order.specs.Flat.{isDue, endsAt, Counted, upTo, tightBy, tightOf, flatTask}
 use Rattle.flat_order.proofs.Counts.{number-most}
 
 -- one position more
@@ -62,15 +63,23 @@ module _ (left : PartSet) (lasts counts : List ℕ) (c : Counted left lasts (len
   unfolding tightBy tightOf
   tight-same p l m = lowest-cong _ _ (length lasts - p) (λ d k. ap (λ n. eqb n (suc d)) (up-due (p + d) (omega arith)))
 
--- a part that can stand is left, and its last position is not after v
-pub stands-left : (x p v : ℕ) (left : PartSet) (first last : ℕ) (earlier : PartSet) → T (canStand x p v left first last earlier)
-    → T (hasPart left x) × (last ≤ v)
-unfolding canStand
-stands-left x p v left first last earlier t =
-    let a = hasPart left x in
-    let b = leb first p in
-    let d = leb p last in
-    let e = leb last v in
-    let f = apart earlier (removed left (single x)) in
-    let w = and-left (a && b && d && e) f t in
-    (and-left a b (and-left (a && b) d (and-left (a && b && d) e w)), leb→le last v (and-right (a && b && d) e w))
+-- ---- what is due before position p, where one count behind it changes
+
+module _ (counts : List ℕ) (last v : ℕ) where
+  up-same : (p : ℕ) → p < last → upTo (set counts last v) p ≡ upTo counts p
+  unfolding upTo
+  up-same zero l = getD-set-other counts last 0 v 0 (λ e. omega arith)
+  up-same (suc p) l = omega (arith, up-same p (omega arith), getD-set-other counts last (suc p) v 0 (λ e. omega arith))
+
+  pub up-set : (p before : ℕ) → p ≤ last → before + getD counts p 0 ≡ upTo counts p → before + getD (set counts last v) p 0 ≡ upTo (set counts last v) p
+  unfolding upTo
+  up-set zero before l e = omega arith
+  up-set (suc p) before l e = omega (arith, up-same p (omega arith))
+
+pub up-first : (counts : List ℕ) → 0 + getD counts 0 0 ≡ upTo counts 0
+unfolding upTo
+up-first counts = omega arith
+
+pub up-then : (counts : List ℕ) (before p : ℕ) → before + getD counts p 0 ≡ upTo counts p
+    → before + getD counts p 0 + getD counts (p + 1) 0 ≡ upTo counts (p + 1)
+up-then counts before p e = omega (arith, up-more counts p)

@@ -3,13 +3,13 @@ use Prim.Native.Nat.{ℕ, zero, suc, _+_, _-_, _≤_, _<_, min}
 use mathlib.Core.Path.{_≡_}
 use mathlib.Core.Bool.{Bool, cond, _&&_}
 use mathlib.Core.List.{List}
-use lib.Dec.{leb, eqb}
+use lib.Dec.{T, ltb, leb, eqb}
 use lib.ListN.{length, getD, replicate}
 use Rattle.model.specs.Count.{listOf}
 use Rattle.ordering.specs.Number.{number, lowest}
 use Rattle.ordering.specs.Order.{Task}
 use Rattle.flat_order.specs.declared.PartSet.{PartSet}
-use Rattle.flat_order.specs.Sets.{hasPart, single, removed, apart}
+use Rattle.flat_order.specs.Sets.{hasPart, single, joined, removed, met, apart}
 
 -- the row of part b
 abbrev pub rowAt : List ℕ → List ℕ → ℕ → PartSet
@@ -66,9 +66,45 @@ tightBy counts p rest = lowest (λ d. eqb (upTo counts (p + d)) (suc d)) rest
 unfoldable pub tightOf : PartSet → List ℕ → ℕ → ℕ
 tightOf left lasts p = lowest (λ d. eqb (number (isDue left lasts (p + d)) (length lasts)) (suc d)) (length lasts - p)
 
--- part x can stand at position p, and has to stand at v or earlier
-unfoldable pub canStand : ℕ → ℕ → ℕ → PartSet → ℕ → ℕ → PartSet → Bool
-canStand x p v left first last earlier = hasPart left x && leb first p && leb p last && leb last v && apart earlier (removed left (single x))
+-- the parts left that can stand at position p by their windows, and have to stand at v or earlier: at each place of the first two lists stand the
+-- parts whose first positions are before it, at each of the others those whose last positions are
+unfoldable pub candidatesAt : ℕ → ℕ → PartSet → List ℕ → List ℕ → List ℕ → List ℕ → PartSet
+candidatesAt p v left firsts-low firsts-high lasts-low lasts-high =
+    met (met left (rowAt firsts-low firsts-high (p + 1))) (removed (rowAt lasts-low lasts-high (v + 1)) (rowAt lasts-low lasts-high p))
+
+-- part x is among the candidates, and no other part left is to be placed earlier
+unfoldable pub isPick : PartSet → PartSet → List ℕ → List ℕ → ℕ → Bool
+isPick among left low high x = hasPart among x && apart (rowAt low high x) (removed left (single x))
+
+-- each of the first n positions is below n
+abbrev pub InPlace : ℕ → List ℕ → Type 0
+InPlace n positions = (i : ℕ) → i < n → getD positions i 0 < n
+
+-- an array of 130 zeros
+unfoldable pub noWords : List ℕ
+noWords = replicate 130 0
+
+-- each of the first n parts is at the place after its position
+pub record PartsAt (positions : List ℕ) (n : ℕ) (low high : List ℕ) : Type 0 where
+  pub lows : length low ≡ 130
+  pub highs : length high ≡ 130
+  pub each : (w x : ℕ) → w < 130 → hasPart (rowAt low high w) x ≡ (ltb x n && eqb (getD positions x 0 + 1) w)
+
+-- at each place up to n + 1 are those of the first n parts whose positions are before it
+pub record Below (positions : List ℕ) (n : ℕ) (low high : List ℕ) : Type 0 where
+  pub lows : length low ≡ 130
+  pub highs : length high ≡ 130
+  pub each : (w x : ℕ) → w ≤ n + 1 → hasPart (rowAt low high w) x ≡ (ltb x n && ltb (getD positions x 0) w)
+
+-- the parts left that are due, or have to stand at v or earlier
+abbrev pub opened : PartSet → PartSet → List ℕ → List ℕ → ℕ → PartSet
+opened due left ends-low ends-high v = met (joined due (rowAt ends-low ends-high (v + 1))) left
+
+-- r is the first position from e on at which a part left is due, if one is due before n
+pub record NextEnd (n e : ℕ) (due left : PartSet) (ends-low ends-high : List ℕ) (r : ℕ) : Type 0 where
+  pub from : e ≤ r
+  pub none : (v x : ℕ) → e ≤ v → v < r → T (hasPart (opened due left ends-low ends-high v) x) → 128 ≤ x
+  pub some : r < n → (x : ℕ) × T (hasPart (opened due left ends-low ends-high r) x)
 
 -- there are at most 128 parts, and each has its first position and its row
 pub record SizedFor (n : ℕ) (fs ls hs : List ℕ) : Type 0 where

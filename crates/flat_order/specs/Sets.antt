@@ -1,7 +1,7 @@
 -- Sets of parts, in two words.
-use Prim.Native.Nat.{ℕ, _-_, _^_}
+use Prim.Native.Nat.{ℕ, _-_, _^_, _≤_, _<_}
 use mathlib.Core.Bool.{Bool, cond, _&&_}
-use lib.Dec.{ltb, eqb}
+use lib.Dec.{T, ltb, eqb}
 use lib.Bits.{bitAnd, bitOr, bitXor}
 use Rattle.model.specs.Plan.{has}
 use Rattle.flat_order.specs.declared.PartSet.{PartSet}
@@ -22,6 +22,10 @@ joined s t = record { low = bitOr (s .low) (t .low); high = bitOr (s .high) (t .
 unfoldable pub removed : PartSet → PartSet → PartSet
 removed s t = record { low = bitXor (s .low) (bitAnd (s .low) (t .low)); high = bitXor (s .high) (bitAnd (s .high) (t .high)) }
 
+-- the parts that are in both sets
+unfoldable pub met : PartSet → PartSet → PartSet
+met s t = record { low = bitAnd (s .low) (t .low); high = bitAnd (s .high) (t .high) }
+
 -- no part is in both
 unfoldable pub apart : PartSet → PartSet → Bool
 apart s t = eqb (bitAnd (s .low) (t .low)) 0 && eqb (bitAnd (s .high) (t .high)) 0
@@ -29,3 +33,8 @@ apart s t = eqb (bitAnd (s .low) (t .low)) 0 && eqb (bitAnd (s .high) (t .high))
 -- no part
 abbrev pub noParts : PartSet
 noParts = record { low = 0; high = 0 }
+
+-- the lowest part of the set; a set without a part has none below 128
+pub record IsLowest (s : PartSet) (r : ℕ) : Type 0 where
+  pub found : r < 128 → T (hasPart s r)
+  pub least : (x : ℕ) → T (hasPart s x) → r ≤ x

@@ -4,9 +4,10 @@ ghost use mathlib.Core.Bool.{cond};
 ghost use mathlib.Core.Option.{some, none};
 ghost use lib.ListN.{length};
 ghost use Rattle.ordering.specs.Least.{leastOrder};
-ghost use Rattle.flat_order.specs.Flat.{flatTask, SizedFor};
+ghost use Rattle.flat_order.specs.Flat.{flatTask, SizedFor, InPlace};
 
 mod picking;
+mod positions;
 pub mod sets;
 mod settling;
 
@@ -19,6 +20,12 @@ pub struct PartSet {
     pub high: u64,
 }
 
+// A set of parts for each of 130 places.
+pub struct PartSets {
+    pub low: [u64; 130],
+    pub high: [u64; 130],
+}
+
 // The least order that obeys, into the order; false where none obeys. The last positions are settled on the way.
 pub fn least_order(
     firsts: &[usize],
@@ -27,7 +34,8 @@ pub fn least_order(
     high: &[u64],
     order: &mut [u8],
 ) -> bool
-    requires { ⌜ SizedFor (length (now lasts)) (now firsts) (now low) (now high) × (length (now order) ≡ length (now lasts)) ⌝ }
+    requires { ⌜ SizedFor (length (now lasts)) (now firsts) (now low) (now high) × (length (now order) ≡ length (now lasts))
+        × InPlace (length (now lasts)) (now firsts) × InPlace (length (now lasts)) (now lasts) ⌝ }
     ensures { λ r. ⌜ cond r (some (now (order .exit))) none ≡
         leastOrder (flatTask (now (firsts .entry)) (now (lasts .entry)) (now (low .entry)) (now (high .entry))) ⌝ }
 {

@@ -5,16 +5,20 @@ ghost use mathlib.Core.Option.{some, none};
 ghost use Prim.Native.Nat.{ℕ, _+_, _-_, _≤_, _<_};
 ghost use lib.Dec.{ltb};
 ghost use lib.ListN.{length, getD};
-ghost use Rattle.ordering.specs.Number.{number, lowest};
+ghost use Rattle.ordering.specs.Number.{lowest};
 ghost use Rattle.ordering.specs.Least.{greedy};
-ghost use Rattle.flat_order.specs.Flat.{rowAt, noCounts, Counted, upTo, tightBy, canStand, flatTask, SizedFor};
+ghost use Rattle.flat_order.specs.Sets.{single, removed, apart};
+ghost use Rattle.flat_order.specs.Flat.{rowAt, noCounts, Counted, upTo, tightBy, candidatesAt, isPick, flatTask, SizedFor, InPlace};
 use crate::PartSet;
+use crate::positions::parts_below;
+use crate::positions::row;
 use crate::sets::has_part;
 use crate::sets::is_apart;
+use crate::sets::lowest_part;
+use crate::sets::meet;
 use crate::sets::remove;
 use crate::sets::single_part;
 use crate::settling::first_parts;
-use crate::settling::row;
 
 fn no_counts() -> [usize; 129]
     ensures { λ r. ⌜ r ≡ noCounts ⌝ }
@@ -55,27 +59,14 @@ fn ends(left: PartSet, lasts: &[usize]) -> [usize; 129]
     counts
 }
 
-// How many parts left have to stand at position v or earlier.
-fn due_by(v: usize, counts: &[usize]) -> usize
-    requires { ⌜ (v < length (now counts)) × ((k : ℕ) → k < length (now counts) → upTo (now counts) k ≤ 128) ⌝ }
-    ensures { λ r. ⌜ r ≡ upTo (now (counts .entry)) v ⌝ }
-{
-    let mut due = counts[0];
-    let mut k = 0;
-    while k < v {
-        k += 1;
-        due += counts[k];
-    }
-    due
-}
-
-// The first position from p on up to which all positions from p are taken by parts that are due there.
-fn tight_end(p: usize, n: usize, counts: &[usize]) -> usize
-    requires { ⌜ (p < n) × (n < length (now counts)) × ((k : ℕ) → k < length (now counts) → upTo (now counts) k ≤ 128) ⌝ }
+// The first position from p on up to which all positions from p are taken by parts that are due there; `before` are due before p.
+fn tight_end(p: usize, n: usize, before: usize, counts: &[usize]) -> usize
+    requires { ⌜ (p < n) × (n < length (now counts)) × ((k : ℕ) → k < length (now counts) → upTo (now counts) k ≤ 128)
+        × (before + getD (now counts) p 0 ≡ upTo (now counts) p) ⌝ }
     ensures { λ r. ⌜ r ≡ p + tightBy (now (counts .entry)) p (n - p) ⌝ }
 {
     let rest = n - p;
-    let mut due = due_by(p, counts);
+    let mut due = before + counts[p];
     let mut d = 0;
     while d < rest {
         if due == d + 1 {
@@ -88,58 +79,49 @@ fn tight_end(p: usize, n: usize, counts: &[usize]) -> usize
     p + d
 }
 
-// Part x can stand at position p, and has to stand at v or earlier.
-fn can_stand(
-    x: usize,
+// The parts left that can stand at position p by their windows, and have to stand at v or earlier.
+fn candidates(
     p: usize,
     v: usize,
     left: PartSet,
-    first: usize,
-    last: usize,
-    earlier: PartSet,
-) -> bool
-    requires { ⌜ x < 128 ⌝ }
-    ensures { λ r. ⌜ r ≡ canStand x p v left first last earlier ⌝ }
+    firsts_low: &[u64],
+    firsts_high: &[u64],
+    lasts_low: &[u64],
+    lasts_high: &[u64],
+) -> PartSet
+    requires { ⌜ (p < 128) × (v < 129) × (length (now «firsts_low») ≡ 130) × (length (now «firsts_high») ≡ 130)
+        × (length (now «lasts_low») ≡ 130) × (length (now «lasts_high») ≡ 130) ⌝ }
+    ensures { λ r. ⌜ r ≡ candidatesAt p v left (now («firsts_low» .entry)) (now («firsts_high» .entry))
+        (now («lasts_low» .entry)) (now («lasts_high» .entry)) ⌝ }
 {
-    if !has_part(left, x) {
-        return false;
-    }
-    if p < first {
-        return false;
-    }
-    if last < p {
-        return false;
-    }
-    if v < last {
-        return false;
-    }
-    is_apart(earlier, remove(left, single_part(x)))
+    let begun = row(firsts_low, firsts_high, p + 1);
+    let due = row(lasts_low, lasts_high, v + 1);
+    let past = row(lasts_low, lasts_high, p);
+    meet(meet(left, begun), remove(due, past))
 }
 
-// The lowest part for position p; the number of parts where there is none.
-fn pick_part(
-    p: usize,
-    v: usize,
-    left: PartSet,
-    firsts: &[usize],
-    lasts: &[usize],
-    low: &[u64],
-    high: &[u64],
-) -> usize
-    requires { ⌜ SizedFor (length (now lasts)) (now firsts) (now low) (now high) ⌝ }
-    ensures { λ r. ⌜ r ≡ lowest (λ x. canStand x p v left (getD (now (firsts .entry)) x 0) (getD (now (lasts .entry)) x 0)
-        (rowAt (now (low .entry)) (now (high .entry)) x))
-        (length (now (lasts .entry))) ⌝ }
+// No other part left is to be placed earlier than x.
+fn is_free(x: usize, left: PartSet, low: &[u64], high: &[u64]) -> bool
+    requires { ⌜ (x < 128) × (x < length (now low)) × (x < length (now high)) ⌝ }
+    ensures { λ r. ⌜ r ≡ apart (rowAt (now (low .entry)) (now (high .entry)) x) (removed left (single x)) ⌝ }
 {
-    let n = lasts.len();
-    let mut x = 0;
+    is_apart(row(low, high, x), remove(left, single_part(x)))
+}
+
+// The lowest candidate that no other part left is to precede; n where there is none.
+fn lowest_free(n: usize, mut among: PartSet, left: PartSet, low: &[u64], high: &[u64]) -> usize
+    requires { ⌜ (n ≤ 128) × (n ≤ length (now low)) × (n ≤ length (now high)) ⌝ }
+    ensures { λ r. ⌜ r ≡ lowest (isPick among left (now (low .entry)) (now (high .entry))) n ⌝ }
+{
+    let mut x = lowest_part(among);
     while x < n {
-        if can_stand(x, p, v, left, firsts[x], lasts[x], row(low, high, x)) {
+        if is_free(x, left, low, high) {
             return x;
         }
-        x += 1;
+        among = remove(among, single_part(x));
+        x = lowest_part(among);
     }
-    x
+    n
 }
 
 // The pick for each position, into the order; false where a position has none.
@@ -150,18 +132,35 @@ pub fn greedy_order(
     high: &[u64],
     order: &mut [u8],
 ) -> bool
-    requires { ⌜ SizedFor (length (now lasts)) (now firsts) (now low) (now high) × (length (now order) ≡ length (now lasts)) ⌝ }
+    requires { ⌜ SizedFor (length (now lasts)) (now firsts) (now low) (now high) × (length (now order) ≡ length (now lasts))
+        × InPlace (length (now lasts)) (now firsts) × InPlace (length (now lasts)) (now lasts) ⌝ }
     ensures { λ r. ⌜ cond r (some (now (order .exit))) none ≡
         greedy (flatTask (now (firsts .entry)) (now (lasts .entry)) (now (low .entry)) (now (high .entry)))
         (length (now (lasts .entry))) 0 (λ _. true) ⌝ }
 {
     let n = lasts.len();
+    let begins = parts_below(firsts, n);
+    let firsts_low = begins.low;
+    let firsts_high = begins.high;
+    let closes = parts_below(lasts, n);
+    let lasts_low = closes.low;
+    let lasts_high = closes.high;
     let mut left = first_parts(n);
     let mut counts = ends(left, lasts);
+    let mut before = 0;
     let mut p = 0;
     while p < n {
-        let v = tight_end(p, n, &counts);
-        let x = pick_part(p, v, left, firsts, lasts, low, high);
+        let v = tight_end(p, n, before, &counts);
+        let among = candidates(
+            p,
+            v,
+            left,
+            &firsts_low,
+            &firsts_high,
+            &lasts_low,
+            &lasts_high,
+        );
+        let x = lowest_free(n, among, left, low, high);
         if n <= x {
             return false;
         }
@@ -169,6 +168,7 @@ pub fn greedy_order(
         left = remove(left, single_part(x));
         let last = lasts[x];
         counts[last] -= 1;
+        before += counts[p];
         p += 1;
     }
     true

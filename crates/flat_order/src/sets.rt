@@ -1,8 +1,9 @@
 // Sets of parts, in two words.
 ghost use mathlib.Core.Path.{_≡_};
 ghost use Prim.Native.Nat.{_<_};
-ghost use Rattle.flat_order.specs.Sets.{hasPart, single, joined, removed, apart};
+ghost use Rattle.flat_order.specs.Sets.{hasPart, single, joined, removed, met, apart, IsLowest};
 use crate::PartSet;
+use tips::lowest;
 
 pub fn has_part(s: PartSet, x: usize) -> bool
     requires { ⌜ x < 128 ⌝ }
@@ -50,6 +51,15 @@ pub fn remove(s: PartSet, t: PartSet) -> PartSet
     }
 }
 
+pub fn meet(s: PartSet, t: PartSet) -> PartSet
+    ensures { λ r. ⌜ r ≡ met s t ⌝ }
+{
+    PartSet {
+        low: s.low & t.low,
+        high: s.high & t.high,
+    }
+}
+
 pub fn is_apart(s: PartSet, t: PartSet) -> bool
     ensures { λ r. ⌜ r ≡ apart s t ⌝ }
 {
@@ -57,4 +67,17 @@ pub fn is_apart(s: PartSet, t: PartSet) -> bool
         return false;
     }
     s.high & t.high == 0
+}
+
+// The lowest part of the set; 128 where it has none.
+pub fn lowest_part(s: PartSet) -> usize
+    ensures { λ r. ⌜ IsLowest s r ⌝ }
+{
+    if s.low != 0 {
+        return lowest(s.low);
+    }
+    if s.high == 0 {
+        return 128;
+    }
+    64 + lowest(s.high)
 }

@@ -1,30 +1,20 @@
 // The last positions, settled along the rows. Slices have a place for each part.
 ghost use mathlib.Core.Path.{_≡_};
-ghost use mathlib.Core.Bool.{cond};
-ghost use Prim.Native.Nat.{ℕ, _-_, _≤_, _<_, min, max};
+ghost use Prim.Native.Nat.{ℕ, _+_, _≤_, _<_};
 ghost use mathlib.Core.List.{List};
 ghost use lib.Dec.{ltb};
-ghost use lib.ListN.{length};
-ghost use Rattle.model.specs.Count.{lowestAt};
+ghost use lib.ListN.{length, getD};
 ghost use Rattle.ordering.specs.Least.{lastsOf};
 ghost use Rattle.flat_order.specs.Sets.{hasPart};
-ghost use Rattle.flat_order.specs.Flat.{rowAt, weightOf, capped, flatTask};
+ghost use Rattle.flat_order.specs.Flat.{flatTask, opened, NextEnd, InPlace};
 use crate::PartSet;
-use crate::sets::has_part;
+use crate::positions::parts_below;
+use crate::positions::row;
 use crate::sets::join;
+use crate::sets::lowest_part;
+use crate::sets::meet;
 use crate::sets::remove;
 use crate::sets::single_part;
-
-// The row of part b.
-pub fn row(low: &[u64], high: &[u64], b: usize) -> PartSet
-    requires { ⌜ (b < length (now low)) × (b < length (now high)) ⌝ }
-    ensures { λ r. ⌜ r ≡ rowAt (now (low .entry)) (now (high .entry)) b ⌝ }
-{
-    PartSet {
-        low: low[b],
-        high: high[b],
-    }
-}
 
 // The set of the first n parts.
 pub fn first_parts(n: usize) -> PartSet
@@ -40,82 +30,60 @@ pub fn first_parts(n: usize) -> PartSet
     all
 }
 
-// How early the last position of a part left is; 0 of a part that is not left.
-fn weight(left: bool, n: usize, last: usize) -> usize
-    ensures { λ r. ⌜ r ≡ cond left (n - last) 0 ⌝ }
+// The parts left that are due now, or by their own last position at v.
+fn due_now(v: usize, due: PartSet, left: PartSet, ends_low: &[u64], ends_high: &[u64]) -> PartSet
+    requires { ⌜ (v + 1 < length (now «ends_low»)) × (v + 1 < length (now «ends_high»)) ⌝ }
+    ensures { λ r. ⌜ r ≡ opened due left (now («ends_low» .entry)) (now («ends_high» .entry)) v ⌝ }
 {
-    if !left {
-        return 0;
+    meet(join(due, row(ends_low, ends_high, v + 1)), left)
+}
+
+// The first position from e on at which a part left is due; n where there is none.
+fn next_end(
+    n: usize,
+    e: usize,
+    due: PartSet,
+    left: PartSet,
+    ends_low: &[u64],
+    ends_high: &[u64],
+) -> usize
+    requires { ⌜ (n < 129) × (length (now «ends_low») ≡ 130) × (length (now «ends_high») ≡ 130) ⌝ }
+    ensures { λ r. ⌜ NextEnd n e due left (now («ends_low» .entry)) (now («ends_high» .entry)) r ⌝ }
+{
+    let mut v = e;
+    while v < n {
+        if lowest_part(due_now(v, due, left, ends_low, ends_high)) < 128 {
+            return v;
+        }
+        v += 1;
     }
-    if last < n { n - last } else { 0 }
+    v
 }
 
-fn heavier(a: usize, b: usize, wa: usize, wb: usize) -> usize
-    ensures { λ r. ⌜ r ≡ cond (ltb wa wb) b a ⌝ }
-{
-    if wa < wb { b } else { a }
-}
-
-fn larger(a: usize, b: usize) -> usize
-    ensures { λ r. ⌜ r ≡ max a b ⌝ }
-{
-    if a < b { b } else { a }
-}
-
-// The part left whose last position is least.
-fn earliest_part(left: PartSet, lasts: &[usize]) -> usize
-    requires { ⌜ length (now lasts) ≤ 128 ⌝ }
-    ensures { λ r. ⌜ r ≡ lowestAt (weightOf left (now (lasts .entry))) (length (now (lasts .entry))) ⌝ }
-{
-    let n = lasts.len();
-    let mut best = 0;
-    let mut most = 0;
-    let mut i = 0;
-    while i < n {
-        let here = weight(has_part(left, i), n, lasts[i]);
-        best = heavier(best, i, most, here);
-        most = larger(most, here);
-        i += 1;
-    }
-    best
-}
-
-fn cap(named: bool, last: usize, limit: usize) -> usize
-    ensures { λ r. ⌜ r ≡ cond named (min last limit) last ⌝ }
-{
-    if !named {
-        return last;
-    }
-    if limit < last { limit } else { last }
-}
-
-// No part of the row has a last position after the limit.
-fn cap_lasts(earlier: PartSet, limit: usize, lasts: &mut [usize])
-    requires { ⌜ length (now lasts) ≤ 128 ⌝ }
-    ensures { λ _. ⌜ now (lasts .exit) ≡ capped earlier limit (now (lasts .entry)) ⌝ }
-{
-    let n = lasts.len();
-    let mut i = 0;
-    while i < n {
-        lasts[i] = cap(has_part(earlier, i), lasts[i], limit);
-        i += 1;
-    }
-}
-
-// The last positions, such that no part's is after that of one that it is to precede.
+// The last positions, such that no part's is after that of one that it is to precede. Position by position: a part that is due is
+// settled, and those that are to precede it are due too.
 pub fn settle_lasts(low: &[u64], high: &[u64], lasts: &mut [usize])
-    requires { ⌜ (length (now lasts) ≤ 128) × (length (now lasts) ≤ length (now low)) × (length (now lasts) ≤ length (now high)) ⌝ }
-    ensures { λ _. ⌜ ((firsts : List ℕ) → now (lasts .exit)
+    requires { ⌜ (length (now lasts) ≤ 128) × (length (now lasts) ≤ length (now low)) × (length (now lasts) ≤ length (now high))
+        × InPlace (length (now lasts)) (now lasts) ⌝ }
+    ensures settled { λ _. ⌜ ((firsts : List ℕ) → now (lasts .exit)
         ≡ lastsOf (flatTask firsts (now (lasts .entry)) (now (low .entry)) (now (high .entry)))) ⌝ }
+    ensures within { λ _. ⌜ InPlace (length (now (lasts .entry))) (now (lasts .exit)) ⌝ }
 {
     let n = lasts.len();
+    let ends = parts_below(&*lasts, n);
+    let ends_low = ends.low;
+    let ends_high = ends.high;
     let mut left = first_parts(n);
+    let mut due = PartSet { low: 0, high: 0 };
+    let mut e = 0;
     let mut j = 0;
     while j < n {
-        let b = earliest_part(left, &*lasts);
-        let limit = lasts[b];
-        cap_lasts(row(low, high, b), limit, &mut *lasts);
+        e = next_end(n, e, due, left, &ends_low, &ends_high);
+        let here = due_now(e, due, left, &ends_low, &ends_high);
+        let b = lowest_part(here);
+        lasts[b] = e;
         left = remove(left, single_part(b));
+        due = meet(join(here, row(low, high, b)), left);
         j += 1;
     }
 }

@@ -13,10 +13,8 @@ use Rattle.model.proofs.Tests.{true-T, false-T, and-left, and-right, and-in}
 use Rattle.model.proofs.Mix.{count-mix}
 use Rattle.model.proofs.Interval.{span, in-span}
 use Rattle.goals.specs.Goal.{only, joined}
-use Rattle.goals.specs.Tables.{Solved}
 use Rattle.goals.proofs.Append.{all-append, all-replicate, mix-append, count-replicate}
 use Rattle.goals.proofs.Only.{has-only, only-has, only-low, only-high, only-line}
-use Rattle.goals.proofs.Solved.{solved-same}
 
 -- they are lines where the others are, for a test that t passes
 pub joined-lines : {ok : ℕ → Bool} {m : ℕ} {rest : List ℕ} → m ≤ 64 → All (Line ok m) rest → (q t : ℕ) → t < m → T (ok t)
@@ -49,8 +47,8 @@ module _ (rest : List ℕ) (q t : ℕ) where
         let b = lies a w (only t) && has (only t) t in
         rw (inside-joined a w t, true-T b (and-in (lies a w (only t)) (has (only t) t) h (has-only t))) (omega arith)
 
-    -- an interval without t has the same pairs
-    pub joined-apart : {ok : ℕ → Bool} {D E : ℕ → ℕ → ℕ} → Solved ok m rest D → Solved ok m (joined rest q t) E
-        → (a w : ℕ) → a + w ≤ m → (a ≤ t → t < a + w → ⊥) → E a w ≡ D a w
-    joined-apart x y a w b n = solved-same y x a w b (λ c v u p r. inside-else c v u (λ h _.
-        let k = span c v (only t) h in n (omega (arith, only-low l narrow)) (omega (arith, only-high l narrow))))
+    -- an interval within one without t counts the same
+    pub inside-apart : (a w : ℕ) → (a ≤ t → t < a + w → ⊥) → (c v u : ℕ) → a ≤ c → c + v ≤ a + w
+        → inside (joined rest q t) c v u ≡ inside rest c v u
+    inside-apart a w n c v u p r = inside-else c v u (λ h _.
+        let k = span c v (only t) h in n (omega (arith, only-low l narrow)) (omega (arith, only-high l narrow)))

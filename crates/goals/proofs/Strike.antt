@@ -1,21 +1,24 @@
 -- Striking the tips that miss a pair goal keeps exactly the tips that some plan with at least K pairs uses.
-use Prim.Native.Nat.{ℕ, _≤_, _<_}
+use Prim.Native.Nat.{ℕ, _+_, _*_, _≤_, _<_}
 use native.Mathlib.Omega.{arith}
-use mathlib.Core.Path.{_≡_, refl, sym}
+use mathlib.Core.Path.{_≡_, refl, ap, sym, _∙_}
 use mathlib.Core.Logic.{_↔_}
-use mathlib.Core.Bool.{_&&_}
+use mathlib.Core.Bool.{Bool, cond, _&&_}
 use mathlib.Core.List.{List, _++_, map}
-use lib.Dec.{T, leb, ltb, leb→le, le→leb, lt→ltb}
+use lib.Dec.{T, not-T, leb, ltb, leb→le, le→leb, lt→ltb}
 use lib.ListN.{length, getD, replicate}
 use Rattle.model.specs.Count.{All}
-use Rattle.model.specs.Plan.{has, Domain, Valid, pairs}
+use Rattle.model.specs.Plan.{has, choose2, Domain, Valid, pairs}
 use Rattle.model.specs.Choice.{bare}
-use Rattle.model.specs.Interval.{Line, named, isRunOf, C}
-use Rattle.model.proofs.Tests.{and-left, and-right, and-in, same-test}
+use Rattle.model.specs.Interval.{Line, named, isRunOf, lies, inside, split, C}
+use Rattle.model.proofs.Tests.{false-T, and-left, and-right, and-in, same-test}
 use Rattle.model.proofs.Lists.{all-at, all-getD}
 use Rattle.model.proofs.ListOf.{length-listOf, listOf-at, list-is}
-use Rattle.model.proofs.Sets.{has-below, has-some, setOf-lt, setOf-cong, has-setOf, set-same}
-use Rattle.model.proofs.Run.{named-lines}
+use Rattle.model.proofs.Sets.{has-below, has-some, setOf-lt, has-setOf, set-same}
+use Rattle.model.proofs.Mix.{count-mix}
+use Rattle.model.proofs.Pairs.{choose2-mono}
+use Rattle.model.proofs.Interval.{span}
+use Rattle.model.proofs.Run.{named-lines, low-le, le-high}
 use Rattle.model.proofs.Valid.{valid-at, valid-length, valid-map}
 use Rattle.placements.specs.Repeated.{repeated}
 use Rattle.placements.specs.Good.{GoodLines}
@@ -24,11 +27,12 @@ use Rattle.placements.proofs.Repeated.{repeated-map, all-repeated, all-once}
 use Rattle.placements.proofs.Valid.{valid-repeated}
 use Rattle.placements.proofs.Plans.{best-pairs-placements, best-placements, best-valid-lines}
 use Rattle.goals.specs.Goal.{without, others, joined, reach, goalTips, strike, Meets, Struck}
-use Rattle.goals.specs.Tables.{Most, reachBy, goalTipsBy}
-use Rattle.goals.proofs.Append.{pairs-joined, mix-repeated, all-without, length-without, valid-without, valid-insert}
-use Rattle.goals.proofs.Solved.{C-solved}
-use Rattle.goals.proofs.Joined.{joined-lines}
-use Rattle.goals.proofs.Fast.{reach-by}
+use Rattle.goals.specs.Tables.{Solved, Most, Out, always, Ends}
+use Rattle.goals.proofs.Append.{count-replicate, pairs-joined, mix-repeated, all-without, length-without, valid-without, valid-insert}
+use Rattle.goals.proofs.Solved.{C-solved, solved-same, split-le}
+use Rattle.goals.proofs.Joined.{joined-lines, inside-apart}
+use Rattle.goals.proofs.Outer.{around-le}
+use Rattle.goals.proofs.Fast.{more-le, ended-le, reach-found}
 use Rattle.goals.proofs.Reach.{reach-most}
 
 module _ {m : ℕ} {qs sets : List ℕ} (good : GoodLines m qs sets) (rs : All (λ s. T (isRunOf (named sets) s)) sets) where
@@ -133,36 +137,99 @@ module _ {m : ℕ} {qs sets : List ℕ} (good : GoodLines m qs sets) (rs : All (
           below = setOf-lt _ m;
         }
 
-  -- THE GOAL'S TIPS BY THE TWO TABLES of the other lines
-  pub tips-by-tables : (K i : ℕ) → i < length sets → goalTips m qs sets K i ≡ goalTipsBy m qs sets K i
-  unfolding goalTips goalTipsBy
-  tips-by-tables K i l = setOf-cong _ _ m (λ t b. same-test _ _
-      (λ x.
-      let h = and-left (has s t) (leb K (slow t)) x in
-      and-in (has s t) (leb K (fast t)) h (rw (equal t b h) (and-right (has s t) (leb K (slow t)) x)))
-      (λ x.
-      let h = and-left (has s t) (leb K (fast t)) x in
-      and-in (has s t) (leb K (slow t)) h (rw (equal t b h) at (and-right (has s t) (leb K (fast t)) x))))
-    where
-      s : ℕ
-      s = getD sets i 0
+  -- the placements of all lines, and those of the others than line i
+  module _ (i : ℕ) (l : i < length sets) where
+    abbrev s : ℕ
+    s = getD sets i 0
 
-      rest : List ℕ
-      rest = others qs sets i
+    abbrev rest : List ℕ
+    rest = others qs sets i
 
-      slow : ℕ → ℕ
-      slow t = reach m rest (getD qs i 0) t
+    abbrev placed : List ℕ
+    placed = repeated qs sets
 
-      fast : ℕ → ℕ
-      fast t = reachBy m (C rest) rest (getD qs i 0) t
+    -- the table of all lines, and what is outside by it
+    abbrev D : ℕ → ℕ → ℕ
+    D = C placed
 
-      equal : (t : ℕ) → t < m → T (has s t) → fast t ≡ slow t
-      equal t b h =
-          let q = getD qs i 0 in
-          let lines = all-repeated (without i qs) (all-without i ls) in
-          let ok = all-at 0 ls i l .fits t h in
-          reach-by narrow lines q t b ok (C-solved bare m rest lines)
-          (C-solved bare m (joined rest q t) (joined-lines narrow lines q t b ok))
+    abbrev U : ℕ → ℕ → ℕ
+    U = Out always m D placed
+
+    rest-lines : All (Line (named sets) m) rest
+    rest-lines = all-repeated (without i qs) (all-without i ls)
+
+    solved : Solved (named sets) m placed D
+    solved = C-solved bare m placed (all-repeated qs ls)
+
+    -- what line i adds
+    inside-placed : (a w c : ℕ) → inside placed a w c ≡ cond (lies a w s && has s c) (getD qs i 0) 0 + inside rest a w c
+    unfolding inside
+    inside-placed a w c =
+        let f : ℕ → Bool = λ x. lies a w x && has x c in
+        omega (arith, count-mix f (mix-repeated qs sets i same l), count-replicate f (getD qs i 0) s)
+
+    pub fewer : (a w c : ℕ) → inside rest a w c ≤ inside placed a w c
+    fewer a w c = omega (arith, inside-placed a w c)
+
+    -- so the table of all lines is at least each split of the others
+    bounds : (a w j : ℕ) → a + w ≤ m → j < w → split D rest a w j ≤ D a w
+    bounds a w j b g = omega (arith, choose2-mono (fewer a w (a + j)), split-le solved (all-repeated qs ls) a w j b g tt)
+
+    module _ (t : ℕ) (h : T (has s t)) where
+      abbrev E : ℕ → ℕ → ℕ
+      E = C (joined rest (getD qs i 0) t)
+
+      own-tip : T (named sets t)
+      own-tip = all-at 0 ls i l .fits t h
+
+      own-below : t < m
+      own-below = has-below m s t (all-at 0 ls i l .domain .below) h
+
+      -- within an interval without t line i does not lie
+      outside-line : (a w : ℕ) → (a ≤ t → t < a + w → ⊥) → (c v u : ℕ) → a ≤ c → c + v ≤ a + w → inside placed c v u ≡ inside rest c v u
+      outside-line a w n c v u p r =
+          let b = lies c v s && has s u in
+          let out : T (lies c v s) → ⊥ = λ k.
+          let e = span c v s k in n (omega (arith, low-le s t h)) (omega (arith, le-high narrow (all-at 0 ls i l .domain) t h)) in
+          let z = not-T b (λ k. out (and-left (lies c v s) (has s u) k)) in
+          omega (arith, inside-placed c v u, ap (λ x. cond x (getD qs i 0) 0) (false-T b z))
+
+      reached : Solved (named sets) m (joined rest (getD qs i 0) t) E
+      reached = C-solved bare m (joined rest (getD qs i 0) t) (joined-lines narrow rest-lines (getD qs i 0) t own-below own-tip)
+
+      -- so the table of all lines serves there
+      apart : (a w : ℕ) → a + w ≤ m → (a ≤ t → t < a + w → ⊥) → E a w ≡ D a w
+      apart a w b n = solved-same reached solved a w b (λ c v u p r.
+          inside-apart rest (getD qs i 0) t narrow own-below a w n c v u p r ∙ sym (outside-line a w n c v u p r))
+
+    -- THE GOAL'S TIPS BY TWO TABLES, where an interval is open if a chain through it can have K pairs
+    module _ (K : ℕ) (isOpen : ℕ → ℕ → Bool)
+        (opens : (t a w : ℕ) → T (has s t) → a ≤ t → t < a + w → a + w ≤ m
+        → K ≤ U a w + (D a w + (getD qs i 0 * inside rest a w t + choose2 (getD qs i 0))) → T (isOpen a w)) where
+      pub tips-by-tables : (t : ℕ) → T (has (goalTips m qs sets K i) t) ↔ (T (has s t) × Ends isOpen m D rest (getD qs i 0) K t)
+      unfolding goalTips
+      tips-by-tables t =
+          let r = reach m rest (getD qs i 0) t in
+          rw (has-setOf (λ u. has s u && leb K (reach m rest (getD qs i 0) u)) m t) (
+            λ x. let y = and-right (ltb t m) (has s t && leb K r) x in
+                let h = and-left (has s t) (leb K r) y in
+                (h, found h (leb→le K r (and-right (has s t) (leb K r) y))),
+            λ (h, e). and-in (ltb t m) (has s t && leb K r) (lt→ltb t m (own-below t h)) (and-in (has s t) (leb K r) h (le→leb K r (met h e))),
+          )
+        where
+          found : T (has s t) → K ≤ reach m rest (getD qs i 0) t → Ends isOpen m D rest (getD qs i 0) K t
+          found h = reach-found narrow rest-lines (getD qs i 0) t (own-below t h) (own-tip t h) (reached t h) (apart t h) isOpen K (λ a w p r b k.
+              opens t a w h p r b (omega (
+                arith,
+                around-le isOpen m D rest placed fewer a w b,
+                more-le narrow rest-lines (getD qs i 0) t (own-below t h) (own-tip t h) (reached t h) (apart t h) bounds a w p r b,
+              )))
+
+          met : T (has s t) → Ends isOpen m D rest (getD qs i 0) K t → K ≤ reach m rest (getD qs i 0) t
+          met h (a, w, j, e, g, b, _, k) = omega (
+            arith,
+            ended-le narrow rest-lines (getD qs i 0) t (own-below t h) (own-tip t h) (reached t h) (apart t h) isOpen a w j e g b,
+          )
 
 -- A GOAL OF NO PAIRS STRIKES NOTHING
 pub goal-of-none : (m : ℕ) (qs : List ℕ) {sets : List ℕ} → All (Domain m) sets → strike m qs sets 0 ≡ sets

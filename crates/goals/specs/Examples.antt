@@ -1,5 +1,5 @@
 -- The definitions on small boards: B7 with quantities, and others.
-use Prim.Native.Nat.{ℕ}
+use Prim.Native.Nat.{ℕ, suc, _+_, _-_}
 use mathlib.Core.Path.{_≡_, refl}
 use mathlib.Core.Bool.{true, false}
 use mathlib.Core.List.{List, [], _∷_}
@@ -10,7 +10,7 @@ use Rattle.model.specs.CommonTip.{setOf}
 use Rattle.model.specs.Interval.{low, high, lies, inside, named, most, C, table}
 use Rattle.placements.specs.Repeated.{repeated}
 use Rattle.goals.specs.Goal.{only, reach, others, goalTips, strike}
-use Rattle.goals.specs.Tables.{outer, Out, reachBy}
+use Rattle.goals.specs.Tables.{outer, Out, always, ended}
 use Rattle.goals.specs.Check.{entry, bounds}
 
 -- the different sets of B7, and how many of its lines have each
@@ -31,13 +31,18 @@ strike7 : (strike 3 qs7 sets7 19 ≡ 1 ∷ 1 ∷ 4 ∷ 4 ∷ []) × (strike 3 qs
 unfolding strike listOf goalTips setOf only repeated named occ C most lies inside largest low high choose2 has count leadingZeros trailingZeros
 strike7 = (refl, refl)
 
--- the second line on each of its four tips, by one table and by two
+-- the second line on each of its four tips, by one table and by two: that inside of all lines, and that outside of the others
+abbrev by : ℕ → ℕ
+by t =
+    let chain : ℕ → ℕ → ℕ = λ a j. ended always 4 (C (repeated qs4 sets4)) (others qs4 sets4 1) 2 a (t - a + 1 + j) (t - a) in
+    largest (λ a. largest (chain a) (4 - t)) (suc t)
+
 reach4 : listOf (reach 4 (others qs4 sets4 1) 2) 4 ≡ 11 ∷ 15 ∷ 9 ∷ 9 ∷ []
 unfolding listOf only repeated named occ C most lies inside largest low high choose2 has count leadingZeros trailingZeros
 reach4 = refl
 
-by4 : listOf (reachBy 4 (C (others qs4 sets4 1)) (others qs4 sets4 1) 2) 4 ≡ 11 ∷ 15 ∷ 9 ∷ 9 ∷ []
-unfolding listOf reachBy Out outer repeated named occ C most lies inside largest low high choose2 has count leadingZeros trailingZeros
+by4 : listOf by 4 ≡ 11 ∷ 15 ∷ 9 ∷ 9 ∷ []
+unfolding listOf Out outer repeated named occ C most lies inside largest low high choose2 has count leadingZeros trailingZeros
 by4 = refl
 
 -- a table from elsewhere: its entry for tip 0 alone is larger than need be, and below the diagonal nothing is read

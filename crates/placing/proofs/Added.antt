@@ -18,9 +18,9 @@ use Rattle.flat_order.specs.Flat.{rowAt}
 use Rattle.placing.specs.Rows.{withRow, marked, spoiled, withRules}
 use Rattle.placing.specs.Given.{partsOf, Started, RowsFor}
 use Rattle.flat_order.proofs.Members.{has-single, has-joined}
-use Rattle.placing.proofs.Flagged.{row-set}
+use Rattle.flat_order.proofs.Below.{row-set}
 use Rattle.placing.proofs.Listed.{listed, listed-at}
-use Rattle.placing.proofs.Rules.{rule-after, rule-bad, rule-good, rule-parts}
+use Rattle.placing.proofs.Rules.{rule-bad, rule-good, rule-parts, closed}
 
 -- part a is to precede part b
 abbrev pub has : Rows → ℕ → ℕ → Bool
@@ -55,14 +55,6 @@ marked-open n rows r o = record {
   highs = length-set (rows .high) (r .later) _
       ∙ o .highs;
 }
-
--- after a bad rule nothing changes
-closed : (rows : Rows) (i : ℕ) (rules : List Rule) → rows .good ≡ false → withRules rows i rules ≡ rows
-unfolding withRules
-closed rows i [] g = refl
-closed rows i (r ∷ rs) g =
-    let e = rule-after rows i r g in
-    rw (← e) (closed rows (suc i) rs g)
 
 pub record Added (n : ℕ) (rows : Rows) (i : ℕ) (rules : List Rule) (out : Rows) : Type 0 where
   pub good : out .good ≡ each (ruleOk n) rules

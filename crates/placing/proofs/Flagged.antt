@@ -23,6 +23,7 @@ use Rattle.placing.specs.Given.{partsOf, noPositions, flagRow}
 use Rattle.ordering.specs.Call.{firstBad}
 use Rattle.flat_order.proofs.Members.{has-single, has-joined}
 use Rattle.flat_order.proofs.Lasts.{first-none}
+use Rattle.flat_order.proofs.Below.{row-set}
 use Rattle.placing.proofs.Listed.{listed, listed-at}
 
 -- ---- sets by a test
@@ -98,16 +99,6 @@ rowed-none p n = record {
   highs = length-replicate {A = ℕ} 128 0;
   flags = λ a c k l. absurd (omega arith);
 }
-
--- the row of part c, where the row of part b is the set s
-pub row-set : (low high : List ℕ) (b c : ℕ) (s : PartSet) → b < length low → b < length high
-    → rowAt (set low b (s .low)) (set high b (s .high)) c ≡ cond (eqb b c) s (rowAt low high c)
-row-set low high b c s l h =
-    ⊎-elim
-    (λ u. let e = eqb→eq b c u in rw (true-T (eqb b c) u, ← e, getD-set-same low b (s .low) 0 l, getD-set-same high b (s .high) 0 h))
-    (λ u. let n : c ≡ b → ⊥ = λ e. T-not (eqb b c) u (rw e (eqb-refl b)) in
-    rw (false-T (eqb b c) u, getD-set-other low b c (s .low) 0 n, getD-set-other high b c (s .high) 0 n))
-    (test (eqb b c))
 
 pub rowed-more : (p : Parts) (n b : ℕ) (rows : Rows) (fine short : PartSet) → b < 128 → Rowed p n b rows
     → ((a : ℕ) → a < n → hasPart fine a ≡ finePitch (partAt (p .parts) a)) → ((a : ℕ) → a < n → hasPart short a ≡ not (partAt (p .parts) a .tall))

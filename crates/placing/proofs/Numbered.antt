@@ -1,10 +1,12 @@
 -- Laws of the parts and the rules that plain numbers stand for.
-use Prim.Native.Nat.{ℕ, _+_, _≤_, _<_, _/_, _%_}
+use Prim.Native.Nat.{ℕ, _+_, _≤_, _<_, _/_, _%_, min}
 use native.Mathlib.Omega.{arith}
 use mathlib.Core.Path.{_≡_, refl, ap, sym, _∙_}
 use mathlib.Core.Logic.{⊎-elim}
+use mathlib.Core.Bool.{true, false}
 use mathlib.Core.List.{List}
-use lib.ListN.{length, set, drop, length-replicate}
+use lib.Bits.{bitOr}
+use lib.ListN.{length, getD, set, drop, length-replicate}
 use lib.Seq.{getD-set-same, getD-set-other, ext-getD}
 use Rattle.model.proofs.Tests.{le-or-lt}
 use borrow.Author.Tests.{eq-eqb, ne-eqb}
@@ -13,15 +15,17 @@ use Rattle.refusal.specs.Refusal as R
 use Rattle.refusal.proofs.Laws.{or-first, or-next, refused, accepted, number-not}
 use Rattle.ordering.specs.declared.Part.{Part}
 use Rattle.ordering.specs.declared.Rule.{Rule}
-use Rattle.ordering.specs.Parts.{noPart, noRule, partAt}
+use Rattle.ordering.specs.Parts.{noPart, noRule, partAt, ruleOk}
+use Rattle.flat_order.specs.declared.PartSet.{PartSet}
+use Rattle.flat_order.specs.Sets.{single, joined}
 use Rattle.placing.specs.declared.Parts.{Parts}
 use Rattle.placing.specs.declared.Rows.{Rows}
-use Rattle.placing.specs.Rows.{withRule, withRules}
+use Rattle.placing.specs.Rows.{withRow, marked, spoiled, withRule, withRules}
 use Rattle.placing.specs.Given.{partsOf}
 use Rattle.ordering.specs.Call.{orderRefusal, orderAfter}
 use Rattle.placing.specs.Numbers.{partIn, partsIn, ruleIn, rulesIn, numbersRefusal, orderIn, orderAfterIn, PlacingRuleIn, emptyParts}
 use Rattle.placing.proofs.Listed.{listed, listed-at}
-use Rattle.placing.proofs.Rules.{rules-rest, rules-end}
+use Rattle.placing.proofs.Rules.{rules-rest, rules-end, rule-good, rule-bad, closed}
 use Rattle.ordering.proofs.Refused.{over, refused-buffer}
 use Rattle.ordering.proofs.Ruling.{placing-rule}
 
@@ -59,6 +63,33 @@ module _ (numbers : List ℕ) (rows : Rows) (i : ℕ) where
 
   pub rules-all : length numbers / 2 ≤ i → withRules rows i (drop i (rulesIn numbers)) ≡ rows
   rules-all l = rules-end rows (rulesIn numbers) i (omega (arith, listed (ruleIn numbers) (length numbers / 2)))
+
+-- a rule that is good changes one row, and after a bad one nothing changes
+module _ (numbers : List ℕ) (rows : Rows) (good : rows .good ≡ true) (low high : List ℕ) (i : ℕ) (l : i < length numbers / 2)
+    (r : Rule) (e : r ≡ ruleIn numbers i) where
+  abbrev now : Rows
+  now = record { parts = rows .parts; good = rows .good; bad = rows .bad; low = low; high = high }
+
+  next : withRules now i (drop i (rulesIn numbers)) ≡ withRules (withRule now i r) (i + 1) (drop (i + 1) (rulesIn numbers))
+  next = rules-more numbers now i l ∙ ap (λ s. withRules (withRule now i s) (i + 1) (drop (i + 1) (rulesIn numbers))) (sym e)
+
+  pub rules-marked : (one : PartSet) → one ≡ single (r .earlier) → ruleOk (min (rows .parts) 128) r ≡ true
+      → withRules now i (drop i (rulesIn numbers)) ≡ withRules (record {
+        parts = rows .parts;
+        good = rows .good;
+        bad = rows .bad;
+        low = set low (r .later) (bitOr (getD low (r .later) 0) (one .low));
+        high = set high (r .later) (bitOr (getD high (r .later) 0) (one .high));
+      }) (i + 1) (drop (i + 1) (rulesIn numbers))
+  unfolding marked withRow joined
+  rules-marked one u o = rw u (next ∙ ap (λ s. withRules s (i + 1) (drop (i + 1) (rulesIn numbers))) (sym (rule-good now i r good o)))
+
+  pub rules-spoiled : ruleOk (min (rows .parts) 128) r ≡ false
+      → withRules now i (drop i (rulesIn numbers)) ≡ record { parts = rows .parts; good = false; bad = i; low = low; high = high }
+  unfolding spoiled
+  rules-spoiled o =
+      next ∙ ap (λ s. withRules s (i + 1) (drop (i + 1) (rulesIn numbers))) (sym (rule-bad now i r good o))
+      ∙ closed (spoiled now i) (i + 1) (drop (i + 1) (rulesIn numbers)) refl
 
 -- over 128 parts the answer is the same whatever they are
 module _ (a b : List Part) (size : length a ≡ length b) (same : length a ≤ 128 → a ≡ b) (rules : List Rule) where

@@ -10,7 +10,6 @@ use crate::Parts;
 use crate::Rows;
 use crate::marking::at_most_128;
 use crate::marking::no_rows;
-use crate::marking::with_row;
 use flat_order::PartSet;
 use flat_order::sets::join;
 use flat_order::sets::single_part;
@@ -75,12 +74,22 @@ pub fn start_rows(parts: Parts) -> Rows
     let n = at_most_128(parts.count);
     let fine = fine_parts(parts, n);
     let short = short_parts(parts, n);
-    let mut rows = no_rows(parts.count);
+    let rows = no_rows(parts.count);
+    let mut low = rows.low;
+    let mut high = rows.high;
     let mut b = 0;
     while b < n {
         let p = parts.parts[b];
-        rows = with_row(rows, b, flag_row(p, fine, short));
+        let row = flag_row(p, fine, short);
+        low[b] = row.low;
+        high[b] = row.high;
         b += 1;
     }
-    rows
+    Rows {
+        parts: rows.parts,
+        good: rows.good,
+        bad: rows.bad,
+        low,
+        high,
+    }
 }

@@ -1,5 +1,6 @@
 // The placing order for parts and rules as plain numbers: four numbers a part, two a rule.
 ghost use mathlib.Core.Path.{_≡_};
+ghost use mathlib.Core.Bool.{true};
 ghost use Prim.Native.Nat.{_≤_, _<_, _/_};
 ghost use lib.ListN.{length};
 ghost use Rattle.placing.specs.Rows.{withRules};
@@ -8,8 +9,10 @@ ghost use Rattle.placing.specs.Numbers.{partIn, partsIn, ruleIn, rulesIn
 use crate::Parts;
 use crate::Rows;
 use crate::flags::start_rows;
-use crate::marking::with_rule;
+use crate::marking::at_most_128;
+use crate::marking::is_rule_ok;
 use crate::placement::place;
+use flat_order::sets::single_part;
 use ordering::Part;
 use ordering::Rule;
 use refusal::Refusal;
@@ -68,17 +71,39 @@ fn rule_in(numbers: &[u32], i: usize) -> Rule
     }
 }
 
-// All rules, one after the other, as `with_rules` adds them.
-fn with_rules_in(mut rows: Rows, numbers: &[u32]) -> Rows
-    ensures { λ r. ⌜ r ≡ withRules rows 0 (rulesIn (now (numbers .entry))) ⌝ }
+// All rules, one after the other, as `with_rules` adds them, each into the one row that it changes.
+fn with_rules_in(rows: Rows, numbers: &[u32]) -> Rows
+    ensures { λ r. ⌜ (rows .good ≡ true → r ≡ withRules rows 0 (rulesIn (now (numbers .entry)))) ⌝ }
 {
     let n = numbers.len() / 2;
+    let parts = at_most_128(rows.parts);
+    let mut low = rows.low;
+    let mut high = rows.high;
     let mut i = 0;
     while i < n {
-        rows = with_rule(rows, i, rule_in(numbers, i));
+        let rule = rule_in(numbers, i);
+        if !is_rule_ok(parts, rule) {
+            return Rows {
+                parts: rows.parts,
+                good: false,
+                bad: i,
+                low,
+                high,
+            };
+        }
+        let b = rule.later;
+        let one = single_part(rule.earlier);
+        low[b] |= one.low;
+        high[b] |= one.high;
         i += 1;
     }
-    rows
+    Rows {
+        parts: rows.parts,
+        good: rows.good,
+        bad: rows.bad,
+        low,
+        high,
+    }
 }
 
 // The placing order of the parts and the rules that the numbers stand for.

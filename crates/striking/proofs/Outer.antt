@@ -3,10 +3,10 @@ use Prim.Native.Nat.{ℕ, zero, suc, _+_, _*_, _-_, _≤_, _<_, max}
 use native.Mathlib.Omega.{arith}
 use mathlib.Core.Path.{_≡_, ap, ap₂, sym, _∙_}
 use mathlib.Core.Logic.{⊎-elim}
+use mathlib.Core.Bool.{Bool, cond}
 use mathlib.Core.List.{List}
 use lib.ListN.{length, set, length-set}
 use Rattle.model.specs.Limits.{mostTips, mostPairs}
-use Rattle.model.specs.Count.{largest}
 use Rattle.model.specs.Plan.{choose2}
 use Rattle.model.specs.Choice.{bare}
 use Rattle.model.specs.Interval.{inside, split, C}
@@ -14,10 +14,10 @@ use Rattle.model.proofs.Tests.{le-or-lt}
 use Rattle.model.proofs.Largest.{largest-cong, largest-ge}
 use Rattle.model.proofs.Limits.{C-few}
 use Rattle.model.proofs.Best.{C-split}
-use Rattle.goals.specs.Tables.{before, behind, Out}
+use Rattle.goals.specs.Tables.{before, behind, around, Out, always}
 use Rattle.goals.proofs.Solved.{C-solved, whole-le}
-use Rattle.goals.proofs.Outer.{largest-le, Out-is}
-use Rattle.striking.specs.Striking.{RunSums, pairsBy, beforeBy, behindBy, outsideBy, InsideAll, Outside}
+use Rattle.goals.proofs.Outer.{largest-le, Out-is, Out-open, Out-le}
+use Rattle.striking.specs.Striking.{RunSums, pairsBy, outsideBy, aroundBy, InsideAll, Outside}
 use Rattle.striking.proofs.Read.{pairs-same}
 use Rattle.striking.proofs.Inner.{place, stored, kept}
 
@@ -27,7 +27,7 @@ module _ {names m q : ℕ} {lines xs : List ℕ} (k : RunSums names m q lines xs
   D = C lines
 
   abbrev O : ℕ → ℕ → ℕ
-  O = Out m D lines
+  O = Out always m D lines
 
   splits : (a w i : ℕ) → i < w → split D lines a w i ≤ D a w
   splits a w i l = rw (C-split lines a w) (largest-ge (split D lines a w) w i l)
@@ -59,7 +59,7 @@ module _ {names m q : ℕ} {lines xs : List ℕ} (k : RunSums names m q lines xs
         let whole = whole-le (C-solved bare m lines (k .runs)) a w b in
         omega (
           arith,
-          Out-is m D lines a w b,
+          Out-le always m D lines a w b,
           largest-le (before O D lines a w) (m - (a + w)) whole by-before,
           largest-le (behind O D lines a w) a whole by-behind,
         )
@@ -69,23 +69,20 @@ module _ {names m q : ℕ} {lines xs : List ℕ} (k : RunSums names m q lines xs
   chain (suc n) a w h b = chain-step a w b (λ c v x y. chain n c v (omega arith) y)
 
   -- so the outside table has small numbers
-  Out-few : (a w : ℕ) → a + w ≤ m → O a w ≤ mostTips * mostPairs
+  pub Out-few : (a w : ℕ) → a + w ≤ m → O a w ≤ mostTips * mostPairs
   Out-few a w b = omega (arith, chain (m - w) a w (omega arith) b, C-few lines (omega (arith, k .few)) 0 m (k .rack))
 
-module _ {names m : ℕ} {lines xs : List ℕ} (k : RunSums names m 0 lines xs) {inner : List ℕ} (i : InsideAll m lines inner)
-    {outer : List ℕ} {w a : ℕ} (o : Outside m lines outer w a) (p : 0 < w) (b : a + w ≤ m) where
-  -- the most pairs outside the interval, by the sums and the two tables
-  abbrev pub outBy : ℕ
-  outBy = max (largest (beforeBy names m xs inner outer a w) (m - (a + w))) (largest (behindBy names m xs inner outer a w) a)
-
-  on-tip : (e v c : ℕ) → e + v ≤ m → e ≤ c → c < e + v → pairsBy names xs 0 e v c ≡ choose2 (inside lines e v c)
+module _ {names m q : ℕ} {lines rest xs : List ℕ} (k : RunSums names m q rest xs) {inner : List ℕ} (i : InsideAll m lines inner)
+    {isOpen : ℕ → ℕ → Bool} {outer : List ℕ} {w a : ℕ} (o : Outside m isOpen (C lines) rest outer w a) (p : 0 < w) (b : a + w ≤ m) where
+  on-tip : (e v c : ℕ) → e + v ≤ m → e ≤ c → c < e + v → pairsBy names xs 0 e v c ≡ choose2 (inside rest e v c)
   on-tip e v c x y z =
-      let n : inside lines e v c + 0 ≡ inside lines e v c = omega arith in
+      let n : inside rest e v c + 0 ≡ inside rest e v c = omega arith in
       pairs-same k 0 e v c x y z ∙ ap choose2 n
 
-  out-same : outBy ≡ Out m (C lines) lines a w
+  -- what is found by the sums and the two tables
+  pub around-same : aroundBy names m xs inner outer a w ≡ around m (Out isOpen m (C lines) rest) (C lines) rest a w
   unfolding outsideBy
-  out-same = ap₂ max
+  around-same = ap₂ max
       (largest-cong _ _ (m - (a + w)) (λ j l. omega (
         arith,
         o .wider a (w + 1 + j) (omega arith) (omega arith),
@@ -98,25 +95,33 @@ module _ {names m : ℕ} {lines xs : List ℕ} (k : RunSums names m 0 lines xs) 
         on-tip j (a - j + w) (a - 1) (omega arith) (omega arith) (omega arith),
         i .narrower j (a - (j + 1)) (omega arith) (omega arith),
       )))
-      ∙ sym (Out-is m (C lines) lines a w b)
-
-  pub out-few : outBy ≤ mostTips * mostPairs
-  out-few = omega (arith, out-same, Out-few k a w b)
 
   -- one interval more
-  pub outside-more : {v : ℕ} → v ≡ outBy → Outside m lines (set outer (place m a w) v) w (a + 1)
+  pub outside-more : {v : ℕ} → v ≡ cond (isOpen a w) (aroundBy names m xs inner outer a w) 0
+      → Outside m isOpen (C lines) rest (set outer (place m a w) v) w (a + 1)
   outside-more {v} e = record {
     room = rw length-set (o .room);
     wider = λ c x l g. kept m a w p b outer (o .room) v c x g (λ _ z. omega arith) ∙ o .wider c x l g;
     row = λ c l g. ⊎-elim
-        (λ y. let z : a ≡ c = omega arith in rw (← z) (stored m a w p b outer (o .room) v ∙ e ∙ out-same))
+        (λ y. let z : a ≡ c = omega arith in rw (← z) (stored m a w p b outer (o .room) v ∙ e ∙ value))
         (λ y. kept m a w p b outer (o .room) v c w g (λ z _. omega arith) ∙ o .row c y g)
         (le-or-lt a c);
   }
+    where
+      value : cond (isOpen a w) (aroundBy names m xs inner outer a w) 0 ≡ Out isOpen m (C lines) rest a w
+      value = ap (λ x. cond (isOpen a w) x 0) around-same ∙ sym (Out-is isOpen m (C lines) rest a w b)
+
+-- of all lines, and every interval: the numbers are small
+pub out-few : {names m : ℕ} {lines xs : List ℕ} (k : RunSums names m 0 lines xs) {inner : List ℕ} (i : InsideAll m lines inner)
+    {outer : List ℕ} {w a : ℕ} (o : Outside m always (C lines) lines outer w a) → 0 < w → a + w ≤ m
+    → aroundBy names m xs inner outer a w ≤ mostTips * mostPairs
+out-few {m = m} {lines} k i {w = w} {a} o p b =
+    omega (arith, around-same k i o p b, Out-open always m (C lines) lines a w b tt, Out-few k a w b)
 
 -- a whole row: all intervals of a width one less come next
-pub outside-next : {m : ℕ} {lines tab : List ℕ} {w a : ℕ} → 0 < w → m < a + w → Outside m lines tab w a → Outside m lines tab (w - 1) 0
-outside-next {m} {w} p h o = record {
+pub outside-next : {m : ℕ} {isOpen : ℕ → ℕ → Bool} {D : ℕ → ℕ → ℕ} {lines tab : List ℕ} {w a : ℕ} → 0 < w → m < a + w
+    → Outside m isOpen D lines tab w a → Outside m isOpen D lines tab (w - 1) 0
+outside-next {m} {w = w} p h o = record {
   room = o .room;
   wider = λ c x l g. ⊎-elim
       (λ y. let z : w ≡ x = omega arith in rw (← z) (o .row c (omega arith) (omega arith)))
@@ -126,5 +131,6 @@ outside-next {m} {w} p h o = record {
 }
 
 -- at first: no interval is wider than the rack
-pub outside-first : {m : ℕ} (lines tab : List ℕ) → m * m ≤ length tab → Outside m lines tab m 0
-outside-first {m} lines tab e = record { room = e; wider = λ c x l g. absurd (omega arith); row = λ c l g. absurd (omega arith) }
+pub outside-first : {m : ℕ} (isOpen : ℕ → ℕ → Bool) (D : ℕ → ℕ → ℕ) (lines tab : List ℕ) → m * m ≤ length tab → Outside m isOpen D lines tab m 0
+outside-first {m} isOpen D lines tab e =
+    record { room = e; wider = λ c x l g. absurd (omega arith); row = λ c l g. absurd (omega arith) }

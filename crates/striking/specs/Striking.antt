@@ -1,21 +1,22 @@
--- Striking by the inside and the outside table of the other lines, from the sums of their placements by lowest and highest tip.
-use Prim.Native.Nat.{ℕ, _+_, _*_, _-_, _/_, _%_, _≤_, _<_}
+-- Striking by the inside table of all lines and the outside table of the other lines, from the sums of their placements by lowest and highest tip.
+use Prim.Native.Nat.{ℕ, _+_, _*_, _-_, _/_, _%_, _≤_, _<_, max}
 use mathlib.Core.Path.{_≡_}
-use mathlib.Core.Bool.{Bool, not, cond, _&&_}
+use mathlib.Core.Bool.{Bool, cond, _&&_}
 use mathlib.Core.List.{List}
-use lib.Dec.{ltb}
+use lib.Dec.{T, leb, ltb}
 use lib.ListN.{length, getD}
-use Rattle.model.specs.Limits.{mostTips, mostPlacements}
-use Rattle.model.specs.Count.{All, every, listOf}
+use Rattle.model.specs.Limits.{mostTips, mostPlacements, mostPairs}
+use Rattle.model.specs.Count.{All, largest, listOf}
 use Rattle.model.specs.Plan.{has, choose2}
-use Rattle.model.specs.Interval.{low, high, Line, C}
+use Rattle.model.specs.CommonTip.{setOf}
+use Rattle.model.specs.Interval.{low, high, Line, inside as allowing, C}
 use Rattle.placements.specs.Repeated.{repeated}
 use Rattle.refusal.specs.declared.Refusal.{Refusal}
 use Rattle.refusal.specs.Refusal.{when, accepts}
-use Rattle.spans.specs.Spans.{sumsWidth, sumsSize, sums, insideBy, Summed}
+use Rattle.spans.specs.Spans.{sumsWidth, sumsSize, sums, sumAt, insideBy, Summed}
 use Rattle.goals.specs.Check.{entry}
 use Rattle.goals.specs.Goal.{strike}
-use Rattle.goals.specs.Tables.{Out}
+use Rattle.goals.specs.Tables.{Out, always, ended, Ends}
 
 -- the best plan has fewer than K pairs
 unfoldable pub goalRefusal : ℕ → List ℕ → List ℕ → ℕ → Refusal
@@ -71,17 +72,43 @@ beforeBy names m xs inner outer a w j = outsideBy names m xs inner outer a (w + 
 abbrev pub behindBy : ℕ → ℕ → List ℕ → List ℕ → List ℕ → ℕ → ℕ → ℕ → ℕ
 behindBy names m xs inner outer a w j = outsideBy names m xs inner outer j (a - j + w) (a - 1) j (a - (j + 1))
 
--- the pairs if the chain ends at the interval, whose tip a + i takes its lines and q placements more
-abbrev pub endedBy : ℕ → ℕ → List ℕ → List ℕ → List ℕ → ℕ → ℕ → ℕ → ℕ → ℕ
-endedBy names m xs inner outer q a w i = entry m outer a w + splitBy names m xs inner q a w i
+-- the most pairs outside the interval, by the sums and the two tables
+abbrev pub aroundBy : ℕ → ℕ → List ℕ → List ℕ → List ℕ → ℕ → ℕ → ℕ
+aroundBy names m xs inner outer a w =
+    max (largest (beforeBy names m xs inner outer a w) (m - (a + w))) (largest (behindBy names m xs inner outer a w) a)
 
--- no chain that ends at an interval of first tip a with tip t has K pairs
-unfoldable pub missesBy : ℕ → ℕ → List ℕ → List ℕ → List ℕ → ℕ → ℕ → ℕ → ℕ → Bool
-missesBy names m xs inner outer q K t a = every (λ j. ltb (endedBy names m xs inner outer q a (t - a + 1 + j) (t - a)) K) (m - t)
+-- the placements of the lines lying within the interval, from two places of the sums
+unfoldable pub lyingBy : List ℕ → ℕ → ℕ → ℕ
+lyingBy xs a w = sumAt xs mostTips (a + w) - sumAt xs a (a + w)
 
--- tip t is in the set s, and some chain has K pairs
-unfoldable pub staysBy : ℕ → ℕ → List ℕ → List ℕ → List ℕ → ℕ → ℕ → ℕ → ℕ → Bool
-staysBy names m xs inner outer q s K t = has s t && not (every (missesBy names m xs inner outer q K t) (t + 1))
+-- the interval is in the largest rack, and the two places can be subtracted
+pub record Lying (xs : List ℕ) (a w : ℕ) : Type 0 where
+  pub size : length xs ≡ sumsSize
+  pub ends : a + w ≤ mostTips
+  pub covers : sumAt xs a (a + w) ≤ sumAt xs mostTips (a + w)
+  pub few : sumAt xs mostTips (a + w) ≤ mostPlacements
+
+-- so for each interval, and q is few
+pub record Counted (q : ℕ) (xs : List ℕ) : Type 0 where
+  pub own : q ≤ mostPlacements
+  pub lying : (a w : ℕ) → a + w ≤ mostTips → Lying xs a w
+
+-- no chain through the interval to a tip with q placements more has more pairs: outside by the table of all lines, inside by theirs, and each of
+-- the q with all that lie within the interval
+unfoldable pub limitBy : ℕ → List ℕ → List ℕ → List ℕ → ℕ → ℕ → ℕ → ℕ
+limitBy m xs inner upper q a w = entry m upper a w + (entry m inner a w + (q * lyingBy xs a w + choose2 q))
+
+-- an interval is followed if it may have a tip of the set s, and a chain through it can have K pairs
+unfoldable pub openBy : ℕ → List ℕ → List ℕ → List ℕ → ℕ → ℕ → ℕ → ℕ → ℕ → Bool
+openBy m xs inner upper q s K a w = leb a (high s) && (ltb (low s) (a + w) && leb K (limitBy m xs inner upper q a w))
+
+-- the tip t of the interval is in the set s, and takes its lines and q placements more for K pairs, where there are so many outside
+unfoldable pub endsBy : ℕ → ℕ → List ℕ → List ℕ → ℕ → ℕ → ℕ → ℕ → ℕ → ℕ → ℕ → Bool
+endsBy names m xs inner q s K outside a w t = leb a t && (has s t && leb K (outside + splitBy names m xs inner q a w (t - a)))
+
+-- the tips of the set at which a chain ends in the interval
+abbrev pub tipsBy : ℕ → ℕ → List ℕ → List ℕ → ℕ → ℕ → ℕ → ℕ → ℕ → ℕ → ℕ
+tipsBy names m xs inner q s K outside a w = setOf (endsBy names m xs inner q s K outside a w) (a + w)
 
 -- the inside table in the making: the intervals narrower than w are right, and those of width w with a first tip below a
 pub record Inside (m : ℕ) (lines tab : List ℕ) (w a : ℕ) : Type 0 where
@@ -90,14 +117,29 @@ pub record Inside (m : ℕ) (lines tab : List ℕ) (w a : ℕ) : Type 0 where
   pub row : (b : ℕ) → b < a → b + w ≤ m → entry m tab b w ≡ C lines b w
 
 -- the outside table in the making: the intervals wider than w are right, and those of width w with a first tip below a
-pub record Outside (m : ℕ) (lines tab : List ℕ) (w a : ℕ) : Type 0 where
+pub record Outside (m : ℕ) (isOpen : ℕ → ℕ → Bool) (D : ℕ → ℕ → ℕ) (lines tab : List ℕ) (w a : ℕ) : Type 0 where
   pub room : m * m ≤ length tab
-  pub wider : (b v : ℕ) → w < v → b + v ≤ m → entry m tab b v ≡ Out m (C lines) lines b v
-  pub row : (b : ℕ) → b < a → b + w ≤ m → entry m tab b w ≡ Out m (C lines) lines b w
+  pub wider : (b v : ℕ) → w < v → b + v ≤ m → entry m tab b v ≡ Out isOpen m D lines b v
+  pub row : (b : ℕ) → b < a → b + w ≤ m → entry m tab b w ≡ Out isOpen m D lines b w
 
 -- both whole
 abbrev pub InsideAll : ℕ → List ℕ → List ℕ → Type 0
 InsideAll m lines tab = Inside m lines tab (m + 1) 0
 
 abbrev pub OutsideAll : ℕ → List ℕ → List ℕ → Type 0
-OutsideAll m lines tab = Outside m lines tab 0 0
+OutsideAll m lines tab = Outside m always (C lines) lines tab 0 0
+
+-- the sums of some of the lines, and the two tables of all
+pub record Known (names m q : ℕ) (lines rest xs inner upper : List ℕ) : Type 0 where
+  pub others : RunSums names m q rest xs
+  pub inside : InsideAll m lines inner
+  pub outside : OutsideAll m lines upper
+  pub fewer : (a w c : ℕ) → allowing rest a w c ≤ allowing lines a w c
+  pub few : (a w : ℕ) → a + w ≤ m → Out always m (C lines) lines a w ≤ mostTips * mostPairs
+
+-- the outside table of some lines in the making, and with it the tips of the set s at which a chain has ended with K pairs
+pub record Followed (m q s K : ℕ) (isOpen : ℕ → ℕ → Bool) (D : ℕ → ℕ → ℕ) (rest tab : List ℕ) (kept w a : ℕ) : Type 0 where
+  pub table : Outside m isOpen D rest tab w a
+  pub right : (t : ℕ) → T (has kept t) → T (has s t) × Ends isOpen m D rest q K t
+  pub wider : (b v i : ℕ) → w < v → b + v ≤ m → i < v → T (isOpen b v) → T (has s (b + i)) → K ≤ ended isOpen m D rest q b v i → T (has kept (b + i))
+  pub row : (b i : ℕ) → b < a → b + w ≤ m → i < w → T (isOpen b w) → T (has s (b + i)) → K ≤ ended isOpen m D rest q b w i → T (has kept (b + i))

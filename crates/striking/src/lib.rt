@@ -1,4 +1,4 @@
-// The kept set of each line for a goal of K pairs, by the inside and the outside table of the other lines.
+// The kept set of each line for a goal of K pairs, by the inside table of all lines and the outside table of the other lines.
 mod inside;
 mod outside;
 mod reach;
@@ -13,7 +13,7 @@ ghost use Rattle.spans.specs.Spans.{sumsSize, sums as sumsOf};
 ghost use Rattle.checking.specs.Checking.{NamedRuns};
 ghost use Rattle.goals.specs.Goal.{goalTips, strike};
 ghost use Rattle.pair_count.specs.PairTable.{PairTable};
-ghost use Rattle.striking.specs.Striking.{goalRefusal, struckBy};
+ghost use Rattle.striking.specs.Striking.{goalRefusal, struckBy, InsideAll, OutsideAll};
 use refusal::Refusal;
 
 // A place for each interval of the largest rack.
@@ -35,7 +35,7 @@ fn first_same(lines: &[u64], quantities: &[u8], i: usize) -> usize
     i
 }
 
-// The kept set of line i: that of an equal line before it, or else by the sums of the others, their two tables, and the tips that reach the goal.
+// The kept set of line i: that of an equal line before it, or else by the sums of the others and the two tables of all lines.
 fn struck_set(
     names: u64,
     m: usize,
@@ -46,13 +46,15 @@ fn struck_set(
     pairs: &[u32],
     sums: &[u32],
     struck: &[u64],
+    inner: &[u32],
+    upper: &[u32],
     rest: &mut [u32],
-    inner: &mut [u32],
     outer: &mut [u32],
 ) -> u64
     requires { ⌜ NamedRuns names m (now quantities) (now lines) × (now sums ≡ sumsOf (repeated (now quantities) (now lines)))
         × (i < length (now lines)) × (take i (now struck) ≡ listOf (goalTips m (now quantities) (now lines) goal) i)
-        × (i ≤ length (now struck)) × (length (now rest) ≡ sumsSize) × (m * m ≤ length (now inner)) × (m * m ≤ length (now outer))
+        × (i ≤ length (now struck)) × InsideAll m (repeated (now quantities) (now lines)) (now inner)
+        × OutsideAll m (repeated (now quantities) (now lines)) (now upper) × (length (now rest) ≡ sumsSize) × (m * m ≤ length (now outer))
         × PairTable (now pairs) ⌝ }
     ensures { λ r. ⌜ r ≡ goalTips m (now (quantities .entry)) (now (lines .entry)) goal i ⌝ }
 {
@@ -63,8 +65,6 @@ fn struck_set(
     let line = lines[i];
     let quantity = quantities[i];
     rest::sums_without(sums, line, quantity, rest);
-    inside::fill_inside(names, m, pairs, rest, inner);
-    outside::fill_outside(names, m, pairs, rest, inner, outer);
     reach::kept_tips(
         names,
         m,
@@ -74,6 +74,7 @@ fn struck_set(
         pairs,
         rest,
         inner,
+        upper,
         outer,
     )
 }
@@ -86,14 +87,15 @@ fn strike_each(
     goal: u32,
     pairs: &[u32],
     sums: &[u32],
+    inner: &[u32],
+    upper: &[u32],
     rest: &mut [u32],
-    inner: &mut [u32],
     outer: &mut [u32],
     struck: &mut [u64],
 )
     requires { ⌜ NamedRuns names m (now quantities) (now lines) × (now sums ≡ sumsOf (repeated (now quantities) (now lines)))
-        × (length (now rest) ≡ sumsSize) × (m * m ≤ length (now inner)) × (m * m ≤ length (now outer))
-        × (length (now struck) ≡ length (now lines)) × PairTable (now pairs) ⌝ }
+        × InsideAll m (repeated (now quantities) (now lines)) (now inner) × OutsideAll m (repeated (now quantities) (now lines)) (now upper)
+        × (length (now rest) ≡ sumsSize) × (m * m ≤ length (now outer)) × (length (now struck) ≡ length (now lines)) × PairTable (now pairs) ⌝ }
     ensures { λ _. ⌜ now (struck .exit) ≡ strike m (now (quantities .entry)) (now (lines .entry)) goal ⌝ }
 {
     let mut i = 0;
@@ -108,8 +110,9 @@ fn strike_each(
             pairs,
             sums,
             struck,
-            rest,
             inner,
+            upper,
+            rest,
             outer,
         );
         struck[i] = kept;
@@ -118,7 +121,7 @@ fn strike_each(
 }
 
 // 34 where the best plan has fewer pairs than the goal, and nothing is struck. `names` is the set of the tips that the lines name.
-// The five arrays take 74,764 bytes of the stack.
+// The six arrays take 91,148 bytes of the stack.
 pub fn strike(
     names: u64,
     m: usize,
@@ -139,6 +142,8 @@ pub fn strike(
     if checking::entry_at(m, 0, m, &inner) < goal as u64 {
         return refusal::refuse(34);
     }
+    let mut upper = [0u32; TABLE_SIZE];
+    outside::fill_outside(names, m, &pairs, &sums, &inner, &mut upper);
     let mut rest = [0u32; spans::SUMS_SIZE];
     let mut outer = [0u32; TABLE_SIZE];
     strike_each(
@@ -149,8 +154,9 @@ pub fn strike(
         goal,
         &pairs,
         &sums,
+        &inner,
+        &upper,
         &mut rest,
-        &mut inner,
         &mut outer,
         struck,
     );

@@ -33,7 +33,7 @@ fn outside_at(
 }
 
 // The interval lies before a tip of one with the same first tip, or behind a tip of one with the same last tip.
-fn best_outside(
+pub fn best_outside(
     names: u64,
     m: usize,
     a: usize,

@@ -10,7 +10,7 @@ use Rattle.placements.specs.Repeated.{repeated}
 use Rattle.placements.proofs.Good.{wider}
 use Rattle.pair_count.specs.PairTable.{PairTable}
 use Rattle.refusal.specs.Refusal.{refuse}
-use Rattle.striking.specs.Striking.{RunSums, InsideAll}
+use Rattle.striking.specs.Striking.{RunSums, InsideAll, OutsideAll}
 use Rattle.striking.proofs.Others.{all-sums}
 use Rattle.striking.proofs.Kept.{goal-missed, goal-met}
 use Rattle.striking.proofs.strike.Statement.{statement}
@@ -40,6 +40,17 @@ sums-of c = all-sums (start c .pre .0) (c .sum-spans .ensures)
 
 inside-of : (c : tie.After-fill-inside) → InsideAll (start (summed c) .args .m) (placed (start (summed c))) (c .fill-inside .last .1 .1 .1 .1 .0)
 inside-of c = c .fill-inside .ensures (placed (start (summed c))) (sums-of (summed c))
+
+-- and from the outside table
+abbrev filled : tie.After-fill-outside → tie.After-fill-inside
+filled c = c .before .before .before .before .before .before .before .before .before
+
+outside-of : (c : tie.After-fill-outside)
+    → let f = summed (filled c) in
+    OutsideAll (start f .args .m) (placed (start f)) (c .fill-outside .last .1 .1 .1 .1 .1 .0)
+outside-of c =
+    let f = filled c in
+    c .fill-outside .ensures (placed (start (summed f))) (sums-of (summed f)) (inside-of f)
 
 -- the most pairs of the lines
 most : (c : tie.After-entry-at)
@@ -93,6 +104,24 @@ returns c =
     let by = missed (omega (arith, most e, c .before .if1 .taken)) in
     (c .refuse .ensures ∙ by .0, by .1)
 
+slice-aggregate-fill-outside : tie.Need-slice-aggregate-fill-outside
+slice-aggregate-fill-outside c = search needs
+
+slice-aggregate-fill-outside-2 : tie.Need-slice-aggregate-fill-outside-2
+slice-aggregate-fill-outside-2 c = search needs
+
+slice-aggregate-fill-outside-3 : tie.Need-slice-aggregate-fill-outside-3
+slice-aggregate-fill-outside-3 c = search needs
+
+slice-aggregate-fill-outside-4 : tie.Need-slice-aggregate-fill-outside-4
+slice-aggregate-fill-outside-4 c = search needs
+
+fill-outside-requires : tie.Need-fill-outside-requires
+fill-outside-requires c κs =
+    let f = c .before .before .before .before .before .before .before .before in
+    let s = start (summed f) in
+    ((placed s, sums-of (summed f), inside-of f), room s, paired (summed f))
+
 slice-aggregate-strike-each : tie.Need-slice-aggregate-strike-each
 slice-aggregate-strike-each c = search needs
 
@@ -108,11 +137,15 @@ slice-aggregate-strike-each-4 c = search needs
 slice-aggregate-strike-each-5 : tie.Need-slice-aggregate-strike-each-5
 slice-aggregate-strike-each-5 c = search needs
 
+slice-aggregate-strike-each-6 : tie.Need-slice-aggregate-strike-each-6
+slice-aggregate-strike-each-6 c = search needs
+
 strike-each-requires : tie.Need-strike-each-requires
 strike-each-requires c κs =
-    let f = c .before .before .before .before .before .before .before .before .before .before in
+    let o = c .before .before .before .before .before .before .before .before in
+    let f = filled o in
     let s = start (summed f) in
-    (s .pre .0, summed f .sum-spans .ensures, refl, inside-of f .room, room s, s .pre .1, paired (summed f))
+    (s .pre .0, summed f .sum-spans .ensures, inside-of f, outside-of o, refl, room s, s .pre .1, paired (summed f))
 
 refuse-requires-2 : tie.Need-refuse-requires-2
 refuse-requires-2 c κs = search needs
@@ -122,8 +155,8 @@ same-length c = search needs
 
 returns-2 : tie.Need-returns-2
 returns-2 c =
-    let each = c .before .before .before .before .before .before in
-    let left = each .before .before .before .before .before .before .before in
+    let each = c .before .before .before .before .before in
+    let left = each .before .before .before .before .before .before .before .before .before .before .before .before .before .before in
     let e = left .before in
     let args = start (summed (e .before .before .before)) .args in
     let met = goal-met (args .m) (args .quantities .now) (args .lines .now) (args .goal) (args .struck .now) in
@@ -145,11 +178,17 @@ strike-spec =
     entry-at-requires
     refuse-requires
     returns
+    slice-aggregate-fill-outside
+    slice-aggregate-fill-outside-2
+    slice-aggregate-fill-outside-3
+    slice-aggregate-fill-outside-4
+    fill-outside-requires
     slice-aggregate-strike-each
     slice-aggregate-strike-each-2
     slice-aggregate-strike-each-3
     slice-aggregate-strike-each-4
     slice-aggregate-strike-each-5
+    slice-aggregate-strike-each-6
     strike-each-requires
     refuse-requires-2
     same-length

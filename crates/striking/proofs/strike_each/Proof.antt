@@ -12,20 +12,20 @@ use Rattle.striking.proofs.strike_each.Statement.{statement}
 use Rattle.striking.proofs.strike_each.Tie as tie
 
 abbrev Inv-loop : tie.InvT-loop
-Inv-loop names m lines quantities goal pairs sums rest₀ inner₀ outer₀ struck₀ i₀ rest inner outer struck i =
-    (i ≤ length lines) × (length rest ≡ sumsSize) × (length inner ≡ length inner₀) × (length outer ≡ length outer₀)
+Inv-loop names m lines quantities goal pairs sums inner upper rest₀ outer₀ struck₀ i₀ rest outer struck i =
+    (i ≤ length lines) × (length rest ≡ sumsSize) × (length outer ≡ length outer₀)
     × (length struck ≡ length lines) × (take i struck ≡ listOf (goalTips m quantities lines goal) i)
 
 abbrev μ-loop : tie.MeasureT-loop
-μ-loop names m lines quantities goal pairs sums rest₀ inner₀ outer₀ struck₀ i₀ rest inner outer struck i = length lines - i
+μ-loop names m lines quantities goal pairs sums inner upper rest₀ outer₀ struck₀ i₀ rest outer struck i = length lines - i
 
 -- the call's start, from the loop
 abbrev start : tie.At-loop Inv-loop μ-loop → tie.Start Inv-loop μ-loop
-start c = c .before .before .before .before .before .before .before .before .before
+start c = c .before .before .before .before .before .before .before .before .before .before
 
 -- the loop, from the set found
 abbrev looped : tie.After-struck-set Inv-loop μ-loop → tie.In-loop Inv-loop μ-loop
-looped c = c .before .before .before .before .before
+looped c = c .before .before .before .before
 
 -- the tips of each line
 abbrev tips : tie.At-loop Inv-loop μ-loop → ℕ → ℕ
@@ -33,36 +33,37 @@ tips c =
     let args = start c .args in
     goalTips (args .m) (args .quantities .now) (args .lines .now) (args .goal)
 
-abbrev at : tie.After-slice-known7 Inv-loop μ-loop → tie.In-loop Inv-loop μ-loop
-at c = looped (c .before .before .before .before .before .before)
+abbrev at : tie.After-slice-known5 Inv-loop μ-loop → tie.In-loop Inv-loop μ-loop
+at c = looped (c .before .before .before .before)
 
 loop-holds : tie.Need-loop-holds Inv-loop μ-loop
 unfolding listOf
 loop-holds c =
-    let p = c .before .before .before .before .before .before .before .before .pre in
-    (search needs, p .2, refl, refl, p .5, refl)
+    let p = c .before .before .before .before .before .before .before .before .before .pre in
+    (search needs, p .4, refl, p .6, refl)
 
 struck-set-requires : tie.Need-struck-set-requires Inv-loop μ-loop
 struck-set-requires c κs =
-    let b = c .before .before .before .before in
+    let b = c .before .before .before in
     let p = start (b .before) .pre in
     let v = b .before .loop .inv in (
       p .0,
       p .1,
       b .loop-test .taken,
-      v .5,
-      omega (arith, b .loop-test .taken, v .4),
+      v .4,
+      omega (arith, b .loop-test .taken, v .3),
+      p .2,
+      p .3,
       v .1,
-      omega (arith, v .2, p .3),
-      omega (arith, v .3, p .4),
-      p .6,
+      omega (arith, v .2, p .5),
+      p .7,
     )
 
 mul-struck : tie.Need-mul-struck Inv-loop μ-loop
 mul-struck c = record { fits = omega (arith, at c .loop-test .taken, start (at c .before) .pre .0 .good .few-lines) }
 
 slice-write-struck : tie.Need-slice-write-struck Inv-loop μ-loop
-slice-write-struck c = omega (arith, at c .loop-test .taken, at c .before .loop .inv .4)
+slice-write-struck c = omega (arith, at c .loop-test .taken, at c .before .loop .inv .3)
 
 add-i : tie.Need-add-i Inv-loop μ-loop
 add-i c = record { fits = omega (arith, at c .loop-test .taken, start (at c .before) .pre .0 .good .few-lines) }
@@ -74,34 +75,30 @@ loop-again : tie.Need-loop-again Inv-loop μ-loop
 loop-again c =
     let b = at c in
     let l = b .before .loop in
-    let below : l .i < length (l .struck) = omega (arith, b .loop-test .taken, l .inv .4) in (
+    let below : l .i < length (l .struck) = omega (arith, b .loop-test .taken, l .inv .3) in (
       omega (arith, b .loop-test .taken),
-      c .before .before .before .before .before .rest .given ∙ l .inv .1,
-      c .before .before .before .inner .given ∙ l .inv .2,
-      c .before .outer .given ∙ l .inv .3,
-      rw length-set (l .inv .4),
-      filled-more (tips (b .before)) (l .struck) (l .i) _ below (l .inv .5) (c .before .before .before .before .before .before .struck-set .ensures),
+      c .before .before .before .rest .given ∙ l .inv .1,
+      c .before .outer .given ∙ l .inv .2,
+      rw length-set (l .inv .3),
+      filled-more (tips (b .before)) (l .struck) (l .i) _ below (l .inv .4) (c .before .before .before .before .struck-set .ensures),
     )
 
 same-length : tie.Need-same-length Inv-loop μ-loop
-same-length c = c .before .loop .inv .1 ∙ sym (start (c .before) .pre .2)
+same-length c = c .before .loop .inv .1 ∙ sym (start (c .before) .pre .4)
 
 same-length-2 : tie.Need-same-length-2 Inv-loop μ-loop
 same-length-2 c = c .before .loop .inv .2
 
 same-length-3 : tie.Need-same-length-3 Inv-loop μ-loop
-same-length-3 c = c .before .loop .inv .3
-
-same-length-4 : tie.Need-same-length-4 Inv-loop μ-loop
-same-length-4 c = c .before .loop .inv .4 ∙ sym (start (c .before) .pre .5)
+same-length-3 c = c .before .loop .inv .3 ∙ sym (start (c .before) .pre .6)
 
 returns : tie.Need-returns Inv-loop μ-loop
 unfolding strike
 returns c =
     let l = c .before .loop in
     let n : l .i ≡ length (start (c .before) .args .lines .now) = omega arith in
-    let all : take (l .i) (l .struck) ≡ l .struck = take-all (l .i) (l .struck) (omega (arith, l .inv .4)) in
-    sym all ∙ l .inv .5 ∙ ap (listOf (tips (c .before))) n
+    let all : take (l .i) (l .struck) ≡ l .struck = take-all (l .i) (l .struck) (omega (arith, l .inv .3)) in
+    sym all ∙ l .inv .4 ∙ ap (listOf (tips (c .before))) n
 
 pub strike-each-spec : {M : Type 1} → statement M
 strike-each-spec =
@@ -119,5 +116,4 @@ strike-each-spec =
     same-length
     same-length-2
     same-length-3
-    same-length-4
     returns)

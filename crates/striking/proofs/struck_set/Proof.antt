@@ -4,32 +4,29 @@ use mathlib.Core.Path.{_∙_}
 use mathlib.Core.List.{List}
 use lib.ListN.{getD}
 use borrow.Author.Needs.{needs}
+use Rattle.placements.specs.Repeated.{repeated}
 use Rattle.goals.specs.Goal.{others, goalTips}
 use Rattle.goals.proofs.Same.{same-tips}
-use Rattle.striking.specs.Striking.{RunSums, InsideAll, OutsideAll}
-use Rattle.striking.proofs.Others.{removable, rest-sums}
-use Rattle.striking.proofs.Read.{ready, with-none}
-use Rattle.striking.proofs.Kept.{kept-goal, struck-before}
+use Rattle.striking.specs.Striking.{RunSums, Known}
+use Rattle.striking.proofs.Others.{all-sums, removable, rest-sums}
+use Rattle.striking.proofs.Kept.{known, kept-goal, struck-before}
 use Rattle.striking.proofs.struck_set.Statement.{statement}
 use Rattle.striking.proofs.struck_set.Tie as tie
 
--- the sums from the inside table, this from the outside table, and the call's start
-abbrev summed : tie.After-fill-inside → tie.After-sums-without
-summed c = c .before .before .before .before .before
-
-abbrev filled : tie.After-fill-outside → tie.After-fill-inside
-filled c = c .before .before .before .before .before .before
-
+-- the call's start
 abbrev start : tie.After-first-same → tie.Start
-start c = c .before .before .before .before .before .before .before .before .before
+start c = c .before .before .before .before .before .before .before .before .before .before
 
 abbrev begun : tie.After-sums-without → tie.Start
 begun c = start (c .before .before .before .before .before)
 
--- the quantity of the line, and the placements of the other lines
+-- the quantity of the line, and the placements of all lines and of the others
 module _ (c : tie.Start) where
   abbrev quantity : ℕ
   quantity = getD (c .args .quantities .now) (c .args .i) 0
+
+  abbrev placed : List ℕ
+  placed = repeated (c .args .quantities .now) (c .args .lines .now)
 
   abbrev rest : List ℕ
   rest = others (c .args .quantities .now) (c .args .lines .now) (c .args .i)
@@ -42,22 +39,18 @@ sums-of c =
     let s = begun c in
     rest-sums (s .pre .0) (s .args .i) (s .pre .2) (s .pre .1) (c .sums-without .ensures)
 
--- their tables
-inside-of : (c : tie.After-fill-inside)
-    → let s = begun (summed c) in
-    InsideAll (s .args .m) (rest s) (c .fill-inside .last .1 .1 .1 .1 .0)
-inside-of c = c .fill-inside .ensures (rest (begun (summed c))) (with-none (sums-of (summed c)))
-
-outside-of : (c : tie.After-fill-outside)
-    → let s = begun (summed (filled c)) in
-    OutsideAll (s .args .m) (rest s) (c .fill-outside .last .1 .1 .1 .1 .1 .0)
-outside-of c =
-    let k = with-none (sums-of (summed (filled c))) in
-    c .fill-outside .ensures (rest (begun (summed (filled c)))) k (inside-of (filled c))
+-- and the two tables of all lines
+known-of : (c : tie.After-sums-without)
+    → let s = begun c in
+    let args = s .args in
+    Known (args .names) (args .m) (quantity s) (placed s) (rest s) (c .sums-without .last .1 .1 .1 .0) (args .inner .now) (args .upper .now)
+known-of c =
+    let s = begun c in
+    known (s .pre .0) (s .args .i) (s .pre .2) (all-sums (s .pre .0) (s .pre .1)) (sums-of c) (s .pre .5) (s .pre .6)
 
 first-same-requires : tie.Need-first-same-requires
 first-same-requires c κs =
-    let s = c .before .before .before .before .before .before .before .before in
+    let s = c .before .before .before .before .before .before .before .before .before in
     (s .pre .2, s .pre .0 .good .same)
 
 mul-result : tie.Need-mul-result
@@ -92,29 +85,18 @@ shared-slice-read-quantity c =
 sums-without-requires : tie.Need-sums-without-requires
 sums-without-requires c κs =
     let s = start (c .before .before .before .before) in
-    (rw (s .pre .1) (removable (s .pre .0) (s .args .i) (s .pre .2)), s .pre .5)
-
-fill-inside-requires : tie.Need-fill-inside-requires
-fill-inside-requires c κs =
-    let f = c .before .before .before .before in
-    ((rest (begun f), with-none (sums-of f)), begun f .pre .6, begun f .pre .8)
-
-fill-outside-requires : tie.Need-fill-outside-requires
-fill-outside-requires c κs =
-    let f = c .before .before .before .before .before in
-    let s = begun (summed f) in
-    ((rest s, with-none (sums-of (summed f)), inside-of f), s .pre .7, s .pre .8)
+    (rw (s .pre .1) (removable (s .pre .0) (s .args .i) (s .pre .2)), s .pre .7)
 
 cast-kept-tips : tie.Need-cast-kept-tips
 cast-kept-tips c =
-    let f = summed (filled (c .before .before)) in
-    record { fits = omega (arith, f .before .before .shared-slice-known8 .given (begun f .args .i)) }
+    let f = c .before .before in
+    record { fits = omega (arith, f .before .before .shared-slice-known10 .given (begun f .args .i)) }
 
 kept-tips-requires : tie.Need-kept-tips-requires
 kept-tips-requires c κs =
-    let f = c .before .before .before .before .before in
-    let k = sums-of (summed (filled f)) in
-    (ready k, k .rack, inside-of (filled f) .room, outside-of f .room, begun (summed (filled f)) .pre .8)
+    let f = c .before .before .before .before in
+    let s = begun f in
+    ((placed s, rest s, known-of f), s .pre .8, s .pre .9)
 
 same-length : tie.Need-same-length
 same-length c = search needs
@@ -122,15 +104,12 @@ same-length c = search needs
 same-length-2 : tie.Need-same-length-2
 same-length-2 c = search needs
 
-same-length-3 : tie.Need-same-length-3
-same-length-3 c = search needs
-
 returns-2 : tie.Need-returns-2
 returns-2 c =
-    let f = c .before .before .before .before .before .before in
-    let s = begun (summed (filled f)) in
-    let k = sums-of (summed (filled f)) in
-    c .kept-tips .ensures ∙ kept-goal (s .pre .0) (s .args .i) (s .pre .2) (s .args .goal) k (inside-of (filled f)) (outside-of f)
+    let f = c .before .before .before .before .before .before .before in
+    let s = begun f in
+    kept-goal (s .pre .0) (s .args .i) (s .pre .2) (all-sums (s .pre .0) (s .pre .1)) (sums-of f) (s .pre .5) (s .pre .6) (s .args .goal) _
+    (c .before .before .kept-tips .ensures (placed s) (rest s) (known-of f))
 
 pub struck-set-spec : {M : Type 1} → statement M
 struck-set-spec =
@@ -144,11 +123,8 @@ struck-set-spec =
     shared-slice-read-line
     shared-slice-read-quantity
     sums-without-requires
-    fill-inside-requires
-    fill-outside-requires
     cast-kept-tips
     kept-tips-requires
     same-length
     same-length-2
-    same-length-3
     returns-2)

@@ -1,29 +1,76 @@
-use Prim.Native.Nat.{_-_, _≤_, _/_}
-use mathlib.Core.Path.{_≡_, refl, sym, _∙_}
+use Prim.Native.Nat.{_-_, _≤_, _<_, _/_, min}
+use mathlib.Core.Path.{_≡_, refl, ap, sym, _∙_}
+use mathlib.Core.Bool.{true}
 use native.Mathlib.Omega.{arith}
 use lib.ListN.{length, drop}
+use Rattle.model.proofs.Tests.{passes, fails, T-true}
+use Rattle.ordering.specs.Parts.{ruleOk}
 use Rattle.placing.specs.Rows.{withRules}
 use Rattle.placing.specs.Numbers.{rulesIn}
-use Rattle.placing.proofs.Numbered.{rules-more, rules-all}
+use Rattle.placing.proofs.Rules.{rule-parts}
+use Rattle.placing.proofs.Numbered.{rules-all, rules-marked, rules-spoiled}
 use borrow.Author.Needs.{needs}
 use Rattle.placing.proofs.numbers.with_rules_in.Statement.{statement}
 use Rattle.placing.proofs.numbers.with_rules_in.Tie as tie
 
 abbrev Inv-loop : tie.InvT-loop
-Inv-loop rows₀ numbers n i₀ rows i =
-    (i ≤ n) × (n ≡ length numbers / 2) × (withRules rows i (drop i (rulesIn numbers)) ≡ withRules rows₀ 0 (rulesIn numbers))
+Inv-loop rows numbers n parts low₀ high₀ i₀ low high i = (i ≤ n) × (n ≡ length numbers / 2) × (parts ≡ min (rows .parts) 128)
+    × (rows .good ≡ true → withRules (record { parts = rows .parts; good = rows .good; bad = rows .bad; low = low; high = high }) i
+    (drop i (rulesIn numbers)) ≡ withRules rows 0 (rulesIn numbers))
 
 abbrev μ-loop : tie.MeasureT-loop
-μ-loop rows₀ numbers n i₀ rows i = n - i
+μ-loop rows numbers n parts low₀ high₀ i₀ low high i = n - i
+
+at-most-128-requires : tie.Need-at-most-128-requires Inv-loop μ-loop
+at-most-128-requires c κs = search needs
 
 loop-holds : tie.Need-loop-holds Inv-loop μ-loop
-loop-holds c = (search needs, refl, refl)
+loop-holds c = (search needs, refl, c .before .before .at-most-128 .ensures, λ _. refl)
 
 rule-in-requires : tie.Need-rule-in-requires Inv-loop μ-loop
 rule-in-requires c κs = search needs
 
-with-rule-requires : tie.Need-with-rule-requires Inv-loop μ-loop
-with-rule-requires c κs = search needs
+is-rule-ok-requires : tie.Need-is-rule-ok-requires Inv-loop μ-loop
+is-rule-ok-requires c κs = search needs
+
+-- what is known of the test
+rule-test : (c : tie.After-is-rule-ok Inv-loop μ-loop)
+    → c .is-rule-ok .result ≡ ruleOk (min (c .before .before .before .before .before .before .before .before .args .rows .parts) 128) (c .before .rule-in .result)
+rule-test c = c .is-rule-ok .ensures ∙ ap (λ n. ruleOk n (c .before .rule-in .result)) (c .before .before .before .loop .inv .2)
+
+returns : tie.Need-returns Inv-loop μ-loop
+returns c = λ g.
+    let l = c .before .before .before .before .loop in
+    sym (rules-spoiled _ (c .before .before .before .before .before .before .before .before .before .args .rows) g (l .low) (l .high) (l .i) (omega arith) _ (c .before .before .rule-in .ensures) (fails (rule-test (c .before)) (c .if1 .taken)))
+    ∙ l .inv .3 g
+
+-- a good rule names parts
+good : (c : tie.Else1 Inv-loop μ-loop) → ruleOk (min (c .before .before .before .before .before .before .before .before .before .args .rows .parts) 128) (c .before .before .rule-in .result) ≡ true
+good c = passes (rule-test (c .before)) (c .if1 .left)
+
+named : (c : tie.Else1 Inv-loop μ-loop) → (c .before .before .rule-in .result .earlier < 128) × (c .before .before .rule-in .result .later < 128)
+named c = let p = rule-parts _ _ (T-true (good c)) in (omega (arith, p), omega (arith, p))
+
+single-part-requires : tie.Need-single-part-requires Inv-loop μ-loop
+single-part-requires c κs = named c .0
+
+mul-low : tie.Need-mul-low Inv-loop μ-loop
+mul-low c = record { fits = omega (arith, named (c .before)) }
+
+array-read-low : tie.Need-array-read-low Inv-loop μ-loop
+array-read-low c = named (c .before) .1
+
+array-write-low : tie.Need-array-write-low Inv-loop μ-loop
+array-write-low c = named (c .before .before) .1
+
+mul-high : tie.Need-mul-high Inv-loop μ-loop
+mul-high c = record { fits = omega (arith, named (c .before .before)) }
+
+array-read-high : tie.Need-array-read-high Inv-loop μ-loop
+array-read-high c = named (c .before .before) .1
+
+array-write-high : tie.Need-array-write-high Inv-loop μ-loop
+array-write-high c = named (c .before .before .before) .1
 
 add-i : tie.Need-add-i Inv-loop μ-loop
 add-i c = search needs
@@ -33,11 +80,17 @@ loop-less c = search needs
 
 loop-again : tie.Need-loop-again Inv-loop μ-loop
 loop-again c =
-    let l = c .before .before .before .loop in
-    (search needs, refl, rw (c .with-rule .ensures, c .before .rule-in .ensures) (sym (rules-more _ (l .rows) (l .i) (omega arith)) ∙ l .inv .2))
+    let d = c .before .before .before in
+    let l = d .before .before .before .before .loop in (
+      search needs,
+      refl,
+      l .inv .2,
+      λ g. sym (rules-marked _ (d .before .before .before .before .before .before .before .before .before .args .rows) g (l .low) (l .high) (l .i) (omega arith) _ (d .before .before .rule-in .ensures) _ (c .before .before .single-part .ensures)
+          (good d)) ∙ l .inv .3 g,
+    )
 
-returns : tie.Need-returns Inv-loop μ-loop
-returns c = sym (rules-all _ _ (c .before .loop .i) (omega (arith, c .before .loop .inv .1))) ∙ c .before .loop .inv .2
+returns-2 : tie.Need-returns-2 Inv-loop μ-loop
+returns-2 c = λ g. sym (rules-all _ _ (c .before .loop .i) (omega (arith, c .before .loop .inv .1))) ∙ c .before .loop .inv .3 g
 
 pub with-rules-in-spec : {M : Type 1} → statement M
 with-rules-in-spec =
@@ -45,10 +98,19 @@ with-rules-in-spec =
     (tie.spec
     Inv-loop
     μ-loop
+    at-most-128-requires
     loop-holds
     rule-in-requires
-    with-rule-requires
+    is-rule-ok-requires
+    returns
+    single-part-requires
+    mul-low
+    array-read-low
+    array-write-low
+    mul-high
+    array-read-high
+    array-write-high
     add-i
     loop-less
     loop-again
-    returns)
+    returns-2)

@@ -8,7 +8,7 @@ use Rattle.ordering.proofs.Parts.{windows-good}
 use Rattle.placing.specs.Given.{partsOf}
 use Rattle.placing.proofs.Listed.{listed, listed-at}
 use Rattle.placing.proofs.Flagged.{full}
-use Rattle.placing.proofs.Answered.{flat-order}
+use Rattle.placing.proofs.Answered.{firsts-in, lasts-in, flat-order}
 use borrow.Author.Needs.{needs}
 use Rattle.placing.proofs.placement.search.Statement.{statement}
 use Rattle.placing.proofs.placement.search.Tie as tie
@@ -46,19 +46,20 @@ slice-aggregate-least-order-4 c = search needs
 
 least-order-requires : tie.Need-least-order-requires
 least-order-requires c κs =
-    let a = c .before .before .before .before .before .before .before .before .before .before .args in
-    let s = sizes (c .before .before .before .before .before .before .before .before .before .before) in
-    let e = length-take-le (a .parts .count) (c .before .before .before .before .before .before .before .lasts-of .result)
-    (omega (arith, c .before .before .before .before .before .before .before .lasts-of .ensures .0)) in
-    let q : length (a .order .now) ≡ length (take (a .parts .count) (c .before .before .before .before .before .before .before .lasts-of .result))
-    = omega (arith, e) in (
-      record {
-        parts = omega (arith, e);
-        firsts = omega (arith, e, c .before .before .before .before .before .before .before .before .firsts-of .ensures .0);
-        low = omega (arith, e, s .0);
-        high = omega (arith, e, s .1);
-      },
+    let start = c .before .before .before .before .before .before .before .before .before .before in
+    let a = start .args in
+    let s = sizes start in
+    let f = c .before .before .before .before .before .before .before .before .firsts-of in
+    let l = c .before .before .before .before .before .before .before .lasts-of in
+    let n = a .parts .count in
+    let e = length-take-le n (l .result) (omega (arith, l .ensures .0)) in
+    let q : length (a .order .now) ≡ length (take n (l .result)) = omega (arith, e) in
+    let size = listed (partAt (a .parts .parts)) n in
+    let windows = windows-good (partsOf (a .parts)) (omega (arith, size)) in (
+      record { parts = omega (arith, e); firsts = omega (arith, e, f .ensures .0); low = omega (arith, e, s .0); high = omega (arith, e, s .1) },
       q,
+      rw e (firsts-in (a .parts) windows (f .result) (f .ensures .1)),
+      rw e (lasts-in (a .parts) windows (l .result) (l .ensures .1)),
     )
 
 same-length : tie.Need-same-length

@@ -6,6 +6,8 @@ use mathlib.Core.List.{List}
 use lib.ListN.{length, length-set}
 use borrow.Author.Needs.{needs}
 use Rattle.model.specs.Limits.{mostTips, mostPairs}
+use Rattle.model.specs.Interval.{C}
+use Rattle.goals.specs.Tables.{always}
 use Rattle.checking.proofs.Bounds.{place-lt}
 use Rattle.striking.specs.Striking.{RunSums, InsideAll, Outside}
 use Rattle.striking.proofs.Read.{ready}
@@ -16,7 +18,7 @@ use Rattle.striking.proofs.outside.fill_outside.Tie as tie
 abbrev Inv-loop2 : tie.InvT-loop2
 Inv-loop2 names m pairs sums inner outer₀ w a₀ outer a =
     (a + w ≤ m + 1) × (length outer ≡ length outer₀)
-    × ((lines : List ℕ) → RunSums names m 0 lines sums → InsideAll m lines inner → Outside m lines outer w a)
+    × ((lines : List ℕ) → RunSums names m 0 lines sums → InsideAll m lines inner → Outside m always (C lines) lines outer w a)
 
 abbrev μ-loop2 : tie.MeasureT-loop2
 μ-loop2 names m pairs sums inner outer₀ w a₀ outer a = m + 1 - (a + w)
@@ -24,7 +26,7 @@ abbrev μ-loop2 : tie.MeasureT-loop2
 abbrev Inv-loop : tie.InvT-loop
 Inv-loop names m pairs sums inner outer₀ w₀ outer w =
     (w ≤ m) × (length outer ≡ length outer₀)
-    × ((lines : List ℕ) → RunSums names m 0 lines sums → InsideAll m lines inner → Outside m lines outer w 0)
+    × ((lines : List ℕ) → RunSums names m 0 lines sums → InsideAll m lines inner → Outside m always (C lines) lines outer w 0)
 
 abbrev μ-loop : tie.MeasureT-loop
 μ-loop names m pairs sums inner outer₀ w₀ outer w = w
@@ -66,7 +68,7 @@ few c =
 loop-holds : tie.Need-loop-holds Inv-loop2 μ-loop2 Inv-loop μ-loop
 loop-holds c =
     let b = c .before .before .before .before in
-    (search needs, refl, λ lines k i. outside-first lines (b .args .outer .now) (b .pre .1))
+    (search needs, refl, λ lines k i. outside-first always (C lines) lines (b .args .outer .now) (b .pre .1))
 
 loop2-holds : tie.Need-loop2-holds Inv-loop2 μ-loop2 Inv-loop μ-loop
 loop2-holds c = (omega (arith, c .before .loop .inv .0), refl, c .before .loop .inv .2)

@@ -1,0 +1,16 @@
+// Calls that lay a plan for a job file, check one or print both, exported for C.
+ghost use lib.ListN.{length};
+ghost use Rattle.text.specs.Buffer.{Printed};
+ghost use Rattle.file_report.specs.Summary.{summaryOf};
+
+mod best_call;
+mod check_call;
+mod junior_call;
+mod quick_call;
+
+#[no_mangle]
+pub extern "C" fn tipshare_report(file: &[u8], out: &mut [u8]) -> usize
+    ensures { λ r. ⌜ Printed (summaryOf (now (file .entry)) (length (now (out .entry)))) (now (out .entry)) r (now (out .exit)) ⌝ }
+{
+    file_report::summarize(file, out)
+}
