@@ -78,7 +78,8 @@ module _ (positions : List ℕ) (i : ℕ) (low high : List ℕ) (at : ℕ) (e : 
       (λ h. rw (lt-ltb x i h, lt-ltb x (i + 1) (omega arith)))
       (le-or-lt i x)
 
-  pub parts-more : PartsAt positions (i + 1) (set low at (bitOr (getD low at 0) (single i .low))) (set high at (bitOr (getD high at 0) (single i .high)))
+  pub parts-more :
+      PartsAt positions (i + 1) (set low at (bitOr (getD low at 0) (single i .low))) (set high at (bitOr (getD high at 0) (single i .high)))
   unfolding joined
   parts-more =
       let row = joined (rowAt low high at) (single i) in

@@ -71,7 +71,8 @@ module _ (counts : List ℕ) (last v : ℕ) where
   up-same zero l = getD-set-other counts last 0 v 0 (λ e. omega arith)
   up-same (suc p) l = omega (arith, up-same p (omega arith), getD-set-other counts last (suc p) v 0 (λ e. omega arith))
 
-  pub up-set : (p before : ℕ) → p ≤ last → before + getD counts p 0 ≡ upTo counts p → before + getD (set counts last v) p 0 ≡ upTo (set counts last v) p
+  pub up-set : (p before : ℕ) → p ≤ last → before + getD counts p 0 ≡ upTo counts p
+      → before + getD (set counts last v) p 0 ≡ upTo (set counts last v) p
   unfolding upTo
   up-set zero before l e = omega arith
   up-set (suc p) before l e = omega (arith, up-same p (omega arith))

@@ -152,7 +152,9 @@ module _ (lasts₀ lasts ends-low ends-high : List ℕ) (j e r : ℕ) (left due 
       at : (x : ℕ) → cond (hasPart here x) r (getD lasts x 0) ≡ cond (hasPart due x) e (getD lasts x 0)
       at x =
           ⊎-elim
-          (λ t. let s : r ≡ e = ⊎-elim (λ h. omega (arith, m .from)) (λ h. absurd (not-before e x (omega arith) h (due-still e x t))) (le-or-lt r e) in
+          (λ t.
+          let late : e < r → ⊥ = λ h. not-before e x (omega arith) h (due-still e x t) in
+          let s : r ≡ e = ⊎-elim (λ h. omega (arith, m .from)) (λ h. absurd (late h)) (le-or-lt r e) in
           rw (true-T (hasPart due x) t, true-T (hasPart here x) (due-still r x t)) s)
           (λ u. rw (false-T (hasPart due x) u) (⊎-elim
           (λ t. rw (true-T (hasPart here x) t) (omega (arith, due-out r x q t u, later q x (due-left r x t))))

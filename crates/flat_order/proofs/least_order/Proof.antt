@@ -15,7 +15,12 @@ greedy-order-requires c κs =
     let g = c .before .before .before .before .before .before .before .before .before .before .before in
     let e : length (s .last .1 .1 .0) ≡ length (g .args .lasts .now) = s .kept .1 .1 .0 in
     let p = g .pre .0 in (
-      record { parts = omega (arith, e, p .parts); firsts = omega (arith, e, p .firsts); low = omega (arith, e, p .low); high = omega (arith, e, p .high) },
+      record {
+        parts = omega (arith, e, p .parts);
+        firsts = omega (arith, e, p .firsts);
+        low = omega (arith, e, p .low);
+        high = omega (arith, e, p .high);
+      },
       omega (arith, e, g .pre .1),
       rw e (g .pre .2),
       rw e (s .ensures .1),

@@ -22,7 +22,8 @@ use Rattle.flat_order.proofs.picking.greedy_order.Tie as tie
 abbrev Inv-loop : tie.InvT-loop
 Inv-loop firsts lasts low high order₀ n firsts-low firsts-high lasts-low lasts-high left₀ counts₀ before₀ p₀ order left counts before p =
     (p ≤ n) × (n ≡ length lasts) × Placing firsts lasts low high p order left × Counted left lasts (length lasts) counts
-    × (before + getD counts p 0 ≡ upTo counts p) × Below firsts (length lasts) firsts-low firsts-high × Below lasts (length lasts) lasts-low lasts-high
+    × (before + getD counts p 0 ≡ upTo counts p) × Below firsts (length lasts) firsts-low firsts-high
+    × Below lasts (length lasts) lasts-low lasts-high
 
 abbrev μ-loop : tie.MeasureT-loop
 μ-loop firsts lasts low high order₀ n firsts-low firsts-high lasts-low lasts-high left₀ counts₀ before₀ p₀ order left counts before p = n - p
@@ -40,15 +41,16 @@ ends-requires : tie.Need-ends-requires Inv-loop μ-loop
 ends-requires c κs = c .before .before .before .before .before .before .before .before .before .before .before .before .pre .0 .parts
 
 loop-holds : tie.Need-loop-holds Inv-loop μ-loop
-loop-holds c = (
-  search needs,
-  refl,
-  placing-none _ _ _ _ _ _ (c .before .before .before .before .before .before .before .before .before .before .before .before .before .pre .1) (c .before .first-parts .ensures),
-  c .ends .ensures,
-  up-first _,
-  c .before .before .before .before .before .before .before .parts-below .ensures,
-  c .before .before .before .before .parts-below2 .ensures,
-)
+loop-holds c =
+    let s = c .before .before .before .before .before .before .before .before .before .before .before .before .before in (
+      search needs,
+      refl,
+      placing-none _ _ _ _ _ _ (s .pre .1) (c .before .first-parts .ensures),
+      c .ends .ensures,
+      up-first _,
+      c .before .before .before .before .before .before .before .parts-below .ensures,
+      c .before .before .before .before .parts-below2 .ensures,
+    )
 
 -- the start of the call, and of a turn
 abbrev begun : tie.At-loop Inv-loop μ-loop → tie.Start Inv-loop μ-loop
@@ -133,8 +135,8 @@ tight c = c .before .before .before .before .before .before
 
 -- the part found is the pick
 found : (c : tie.After-lowest-free Inv-loop μ-loop)
-    → (let t = turn (tight c) in let a = begun t .args in
-    c .lowest-free .result ≡ lowest (isPick (among t (tight c .tight-end .result)) (t .loop .left) (a .low .now) (a .high .now)) (length (a .lasts .now)))
+    → (let t = turn (tight c) in let a = begun t .args in let v = tight c .tight-end .result in
+    c .lowest-free .result ≡ lowest (isPick (among t v) (t .loop .left) (a .low .now) (a .high .now)) (length (a .lasts .now)))
 found c =
     let t = turn (tight c) in
     let a = begun t .args in
@@ -149,7 +151,8 @@ picked c =
     let a = begun t .args in
     found c ∙ ap (λ v. lowest (isPick (among t v) (t .loop .left) (a .low .now) (a .high .now)) (length (a .lasts .now))) (tight-found (tight c))
     ∙ sym (pick-is (a .firsts .now) (a .lasts .now) (a .low .now) (a .high .now) (t .loop .left) (t .loop .inv .2 .inside)
-    (words (t .before .before .before .before .before .before .before .before .before .before)) _ _ _ _ (t .loop .inv .5) (t .loop .inv .6) (t .loop .p) (in-turn (tight c .before .before)))
+    (words (t .before .before .before .before .before .before .before .before .before .before)) _ _ _ _ (t .loop .inv .5) (t .loop .inv .6)
+    (t .loop .p) (in-turn (tight c .before .before)))
 
 -- the part found is left, and its last position is not before that of the turn
 left-found : (c : tie.After-lowest-free Inv-loop μ-loop) → c .lowest-free .result < length (begun (turn (tight c)) .args .lasts .now)
@@ -164,8 +167,8 @@ left-found c h =
     let e : c .lowest-free .result ≡ lowest test n = found c in
     let k : lowest test n < n = omega (arith, e, h) in
     let f = pick-known (a .firsts .now) (a .lasts .now) (a .low .now) (a .high .now) (t .loop .left) (t .loop .inv .2 .inside)
-    (words (t .before .before .before .before .before .before .before .before .before .before)) _ _ _ _ (t .loop .inv .5) (t .loop .inv .6) (t .loop .p) v (c .lowest-free .result) (omega arith)
-    (tight-within (tight c)) h (subst (λ y. T (test y)) (sym e) (lowest-passes test n k)) in
+    (words (t .before .before .before .before .before .before .before .before .before .before)) _ _ _ _ (t .loop .inv .5) (t .loop .inv .6)
+    (t .loop .p) v (c .lowest-free .result) (omega arith) (tight-within (tight c)) h (subst (λ y. T (test y)) (sym e) (lowest-passes test n k)) in
     (f .0, f .1, omega (arith, f .2, tight-within (tight c), begun t .pre .0 .parts))
 
 lowest-free-requires : tie.Need-lowest-free-requires Inv-loop μ-loop

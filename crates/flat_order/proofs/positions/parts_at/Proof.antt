@@ -65,8 +65,9 @@ loop-less c = search needs
 
 loop-again : tie.Need-loop-again Inv-loop μ-loop
 loop-again c =
-    let l = c .before .before .before .before .before .loop in
-    (search needs, rw (c .before .before .single-part .ensures) (parts-more _ (l .i) (l .low) (l .high) _ refl (within (c .before .before .before .before)) (l .inv .1)))
+    let t = c .before .before .before .before in
+    let l = t .before .loop in
+    (search needs, rw (c .before .before .single-part .ensures) (parts-more _ (l .i) (l .low) (l .high) _ refl (within t) (l .inv .1)))
 
 returns : tie.Need-returns Inv-loop μ-loop
 returns c = let e : c .before .loop .i ≡ c .before .before .before .before .before .args .n = omega arith in rw (← e) (c .before .loop .inv .1)

@@ -20,13 +20,15 @@ lowest-requires-2 c κs = search needs
 
 add-result : tie.Need-add-result
 add-result c =
+    let k = c .before .before .before .before in
     let h : c .lowest2 .result < 64 =
-    rw (c .lowest2 .ensures) (low-below (c .before .before .before .before .before .args .s .high) (c .before .before .before .before .struct-known .given .1 .0 .fits) (omega arith)) in
+    rw (c .lowest2 .ensures) (low-below (k .before .args .s .high) (k .struct-known .given .1 .0 .fits) (omega arith)) in
     record { fits = omega (arith, h) }
 
 returns-3 : tie.Need-returns-3
-returns-3 c = lowest-high (c .before .before .before .before .before .args .s) (omega arith) (c .before .before .before .before .struct-known .given .1 .0 .fits)
-    (omega arith) _ (ap (λ k. 64 + k) (c .lowest2 .ensures))
+returns-3 c =
+    let k = c .before .before .before .before in
+    lowest-high (k .before .args .s) (omega arith) (k .struct-known .given .1 .0 .fits) (omega arith) _ (ap (λ j. 64 + j) (c .lowest2 .ensures))
 
 pub lowest-part-spec : {M : Type 1} → statement M
 lowest-part-spec =

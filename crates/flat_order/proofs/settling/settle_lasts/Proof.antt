@@ -8,7 +8,8 @@ use Rattle.flat_order.specs.declared.PartSets.{PartSets}
 use Rattle.flat_order.specs.Sets.{hasPart, single, joined, removed, met, IsLowest}
 use Rattle.flat_order.specs.Flat.{Below, rowAt, opened}
 use Rattle.flat_order.proofs.Settled.{Settling, settling-none, settling-all}
-use Rattle.flat_order.proofs.Waiting.{Waiting, viewed, waiting-none, viewed-none, end-below, waiting-opened, viewed-opened, strictly, due-found, settled-one, viewed-all}
+use Rattle.flat_order.proofs.Waiting.{Waiting, viewed, waiting-none, viewed-none, end-below, waiting-opened, viewed-opened, strictly}
+use Rattle.flat_order.proofs.Waiting.{due-found, settled-one, viewed-all}
 use borrow.Author.Needs.{needs}
 use Rattle.flat_order.proofs.settling.settle_lasts.Statement.{statement}
 use Rattle.flat_order.proofs.settling.settle_lasts.Tie as tie
@@ -117,7 +118,10 @@ remove-requires : tie.Need-remove-requires Inv-loop μ-loop
 remove-requires c κs = search needs
 
 row-requires : tie.Need-row-requires Inv-loop μ-loop
-row-requires c κs = let l = part-in (c .before .before) in let s = begun (turn (next (c .before .before))) in (omega (arith, l, s .pre .1), omega (arith, l, s .pre .2))
+row-requires c κs =
+    let l = part-in (c .before .before) in
+    let s = begun (turn (next (c .before .before))) in
+    (omega (arith, l, s .pre .1), omega (arith, l, s .pre .2))
 
 join-requires : tie.Need-join-requires Inv-loop μ-loop
 join-requires c κs = search needs
@@ -139,8 +143,9 @@ loop-again c =
     let a = begun t .args in
     let q = f .lowest-part .result in
     let d : f .before .due-now .result ≡ here o = f .before .due-now .ensures in
-    let u : c .before .before .before .before .single-part .result ≡ single q = c .before .before .before .before .single-part .ensures in
-    let m : c .before .before .before .remove .result ≡ removed (t .loop .left) (c .before .before .before .before .single-part .result) = c .before .before .before .remove .ensures in
+    let w = c .before .before .before in
+    let u : w .before .single-part .result ≡ single q = w .before .single-part .ensures in
+    let m : w .remove .result ≡ removed (t .loop .left) (w .before .single-part .result) = w .remove .ensures in
     let r : c .before .before .row .result ≡ rowAt (a .low .now) (a .high .now) q = c .before .before .row .ensures in
     let j : c .before .join .result ≡ joined (f .before .due-now .result) (c .before .before .row .result) = c .before .join .ensures in
     let k : c .meet .result ≡ met (c .before .join .result) (c .before .before .before .remove .result) = c .meet .ensures in

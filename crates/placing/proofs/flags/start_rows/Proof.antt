@@ -33,8 +33,9 @@ no-rows-requires c κs = search needs
 loop-holds : tie.Need-loop-holds Inv-loop μ-loop
 loop-holds c =
     let r = c .before .before .no-rows in
-    let z : Rowed (c .before .before .before .before .before .before .args .t1) (c .before .before .before .before .before .at-most-128 .result) 0 (r .result) = rw (r .ensures) (rowed-none _ _) in
-    (search needs, omega (arith, c .before .before .before .before .before .at-most-128 .ensures), z)
+    let m = c .before .before .before .before .before in
+    let z : Rowed (m .before .args .t1) (m .at-most-128 .result) 0 (r .result) = rw (r .ensures) (rowed-none _ _) in
+    (search needs, omega (arith, m .at-most-128 .ensures), z)
 
 mul-p : tie.Need-mul-p Inv-loop μ-loop
 mul-p c = search needs
@@ -67,13 +68,17 @@ loop-again : tie.Need-loop-again Inv-loop μ-loop
 unfolding withRow
 loop-again c =
     let l = c .before .before .before .loop in
-    let rows = c .before .before .before .before .before .before .no-rows .result in
-    let a = c .before .before .before .before .before .before .before .before .before .before .args in
-    let n = c .before .before .before .before .before .before .before .before .before .at-most-128 .result in
-    let f : (x : ℕ) → x < n → hasPart (c .before .before .before .before .before .before .before .before .fine-parts .result) x ≡ finePitch (partAt (a .t1 .parts) x) =
-    λ x k. c .before .before .before .before .before .before .before .before .fine-parts .ensures x ∙ ap (λ z. z && finePitch (partAt (a .t1 .parts) x)) (lt-ltb x n k) in
-    let s : (x : ℕ) → x < n → hasPart (c .before .before .before .before .before .before .before .short-parts .result) x ≡ not (partAt (a .t1 .parts) x .tall) =
-    λ x k. c .before .before .before .before .before .before .before .short-parts .ensures x ∙ ap (λ z. z && not (partAt (a .t1 .parts) x .tall)) (lt-ltb x n k) in (
+    let made = c .before .before .before .before .before .before in
+    let short = made .before in
+    let fine = short .before in
+    let m = fine .before in
+    let rows = made .no-rows .result in
+    let a = m .before .args in
+    let n = m .at-most-128 .result in
+    let f : (x : ℕ) → x < n → hasPart (fine .fine-parts .result) x ≡ finePitch (partAt (a .t1 .parts) x) =
+    λ x k. fine .fine-parts .ensures x ∙ ap (λ z. z && finePitch (partAt (a .t1 .parts) x)) (lt-ltb x n k) in
+    let s : (x : ℕ) → x < n → hasPart (short .short-parts .result) x ≡ not (partAt (a .t1 .parts) x .tall) =
+    λ x k. short .short-parts .ensures x ∙ ap (λ z. z && not (partAt (a .t1 .parts) x .tall)) (lt-ltb x n k) in (
       search needs,
       l .inv .1,
       rw (c .flag-row .ensures)
@@ -84,7 +89,8 @@ loop-again c =
 returns : tie.Need-returns Inv-loop μ-loop
 returns c =
     let l = c .before .loop in
-    let e : c .before .before .before .before .before .before .before .at-most-128 .result ≡ min (c .before .before .before .before .before .before .before .before .args .t1 .count) 128 = c .before .before .before .before .before .before .before .at-most-128 .ensures in
+    let m = c .before .before .before .before .before .before .before in
+    let e : m .at-most-128 .result ≡ min (m .before .args .t1 .count) 128 = m .at-most-128 .ensures in
     let r = l .inv .2 in
     record {
       parts = r .parts;

@@ -37,7 +37,8 @@ returns-3 c =
     let a = read .before .before .before .before .before .before .args in
     let rules = rulesIn (a .rules .now) in
     let (count, parts) = read .parts-in .ensures in
-    let answer = put .place .ensures rules (λ few. rw (added .with-rules-in .ensures (started .start-rows .ensures .good)) (rows-for given rules _ few (started .start-rows .ensures))) in
+    let flags = started .start-rows .ensures in
+    let answer = put .place .ensures rules (λ few. rw (added .with-rules-in .ensures (flags .good)) (rows-for given rules _ few flags)) in
     fit-answer (a .parts .now) (a .rules .now) (a .order .now) given count parts (omega arith) (omega arith) (answer .0) (answer .1)
 
 pub order-numbers-spec : {M : Type 1} → statement M

@@ -5,6 +5,7 @@ use native.Mathlib.Omega.{arith}
 use lib.ListN.{length, drop}
 use Rattle.model.proofs.Tests.{passes, fails, T-true}
 use Rattle.ordering.specs.Parts.{ruleOk}
+use Rattle.placing.specs.declared.Rows.{Rows}
 use Rattle.placing.specs.Rows.{withRules}
 use Rattle.placing.specs.Numbers.{rulesIn}
 use Rattle.placing.proofs.Rules.{rule-parts}
@@ -33,19 +34,23 @@ rule-in-requires c κs = search needs
 is-rule-ok-requires : tie.Need-is-rule-ok-requires Inv-loop μ-loop
 is-rule-ok-requires c κs = search needs
 
+-- the rows as they were given
+abbrev given : tie.After-is-rule-ok Inv-loop μ-loop → Rows
+given c = c .before .before .before .before .before .before .before .before .args .rows
+
 -- what is known of the test
-rule-test : (c : tie.After-is-rule-ok Inv-loop μ-loop)
-    → c .is-rule-ok .result ≡ ruleOk (min (c .before .before .before .before .before .before .before .before .args .rows .parts) 128) (c .before .rule-in .result)
+rule-test : (c : tie.After-is-rule-ok Inv-loop μ-loop) → c .is-rule-ok .result ≡ ruleOk (min (given c .parts) 128) (c .before .rule-in .result)
 rule-test c = c .is-rule-ok .ensures ∙ ap (λ n. ruleOk n (c .before .rule-in .result)) (c .before .before .before .loop .inv .2)
 
 returns : tie.Need-returns Inv-loop μ-loop
 returns c = λ g.
     let l = c .before .before .before .before .loop in
-    sym (rules-spoiled _ (c .before .before .before .before .before .before .before .before .before .args .rows) g (l .low) (l .high) (l .i) (omega arith) _ (c .before .before .rule-in .ensures) (fails (rule-test (c .before)) (c .if1 .taken)))
+    sym (rules-spoiled _ (given (c .before)) g (l .low) (l .high) (l .i) (omega arith) _ (c .before .before .rule-in .ensures)
+    (fails (rule-test (c .before)) (c .if1 .taken)))
     ∙ l .inv .3 g
 
 -- a good rule names parts
-good : (c : tie.Else1 Inv-loop μ-loop) → ruleOk (min (c .before .before .before .before .before .before .before .before .before .args .rows .parts) 128) (c .before .before .rule-in .result) ≡ true
+good : (c : tie.Else1 Inv-loop μ-loop) → ruleOk (min (given (c .before) .parts) 128) (c .before .before .rule-in .result) ≡ true
 good c = passes (rule-test (c .before)) (c .if1 .left)
 
 named : (c : tie.Else1 Inv-loop μ-loop) → (c .before .before .rule-in .result .earlier < 128) × (c .before .before .rule-in .result .later < 128)
@@ -85,8 +90,9 @@ loop-again c =
       search needs,
       refl,
       l .inv .2,
-      λ g. sym (rules-marked _ (d .before .before .before .before .before .before .before .before .before .args .rows) g (l .low) (l .high) (l .i) (omega arith) _ (d .before .before .rule-in .ensures) _ (c .before .before .single-part .ensures)
-          (good d)) ∙ l .inv .3 g,
+      λ g. sym (rules-marked _ (given (d .before)) g (l .low) (l .high) (l .i) (omega arith) _ (d .before .before .rule-in .ensures) _
+          (c .before .before .single-part .ensures) (good d))
+          ∙ l .inv .3 g,
     )
 
 returns-2 : tie.Need-returns-2 Inv-loop μ-loop
