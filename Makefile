@@ -21,8 +21,6 @@ CFLAGS = -std=c11 -Wall -Wextra -Werror -O2
 version := $(shell sed -n 's/^version = "\(.*\)"/\1/p' Cargo.toml)
 soname := libtipshare.so.$(firstword $(subst ., ,$(version)))
 library := target/staticlib/libtipshare_c.a
-# The crates whose functions the library exports.
-exported := c_boards c_plans c_mend c_order
 tipshare := target/bin/tipshare
 example := target/example
 parts := target-rust/release/parts
@@ -33,16 +31,12 @@ sources := crates.txt $(shell find crates \( -path 'crates/try_*' -o -name must-
 
 all: $(library) $(archive) $(shared) $(tipshare) parts pages
 
-# rt check proves crates side by side; of each crate that exports functions there is then a static library, whose object
-# has no other name that is seen outside.
+# rt check proves crates side by side, and rt staticlib one after the other.
 $(library): $(sources)
-	rt check $(exported)
+	rt check tipshare_c
 	mkdir -p $(@D)
-	for crate in $(exported); do rt staticlib $$crate > $(@D)/$$crate.report || { cat $(@D)/$$crate.report; exit 1; }; done
-	tools/no-axioms $(exported:%=$(@D)/%.report)
-	rm -f $@
-	cd $(@D) && for crate in $(exported); do ar x lib$$crate.a; done
-	cd $(@D) && ar rcs $(@F) $(exported:%=%.o)
+	rt staticlib tipshare_c > $(@:.a=.report) || { cat $(@:.a=.report); exit 1; }
+	tools/no-axioms $(@:.a=.report)
 
 # Beside the proved functions stand two that are not: the version, and the refusals in words.
 target/lib/words.o: library/words.c library/words.txt include/tipshare.h
