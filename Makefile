@@ -93,7 +93,8 @@ install: all
 	install -m 644 $(shared) $(lib)
 	ln -sf $(notdir $(shared)) $(lib)/$(soname)
 	ln -sf $(soname) $(lib)/libtipshare.so
-	sed 's|@PREFIX@|$(PREFIX)|; s|@LIBDIR@|$(LIBDIR)|; s|@VERSION@|$(version)|' packaging/tipshare.pc.in > $(lib)/pkgconfig/tipshare.pc
+	sed 's|@PREFIX@|$(abspath $(PREFIX))|; s|@LIBDIR@|$(abspath $(LIBDIR))|; s|@VERSION@|$(version)|' \
+		packaging/tipshare.pc.in > $(lib)/pkgconfig/tipshare.pc
 	chmod 644 $(lib)/pkgconfig/tipshare.pc
 	install -m 644 target/man/*.1 $(to)/share/man/man1
 	install -m 644 target/man/*.3 $(to)/share/man/man3

@@ -1,9 +1,9 @@
 /* Times the calls of the proved library beside the hand-written implementations; see README.md. */
 #include <algorithm>
-#include <chrono>
 #include <cstdio>
 #include <cstdlib>
 #include <cstring>
+#include <ctime>
 #include <fstream>
 #include <iterator>
 #include <string>
@@ -19,7 +19,7 @@ constexpr double kBatchSeconds = 200e-6;
 constexpr size_t kDefaultRounds = 201;
 constexpr size_t kMostCalls = 1 << 20;
 constexpr size_t kFilesCounted = 8;
-/* A call that takes longer than a batch is made on so many files, and in fewer rounds: about so many nanoseconds. */
+/* Where a call takes longer than a batch, each batch goes through so many files, in fewer rounds: about so many nanoseconds. */
 constexpr size_t kFilesOfSlow = 3;
 constexpr double kSlowRounds = 5e8;
 
@@ -153,11 +153,12 @@ bool all_agree(Call call, const char *call_name, const Boards &boards)
     return true;
 }
 
-using Clock = std::chrono::steady_clock;
-
-double nanoseconds_since(Clock::time_point start)
+/* Nanoseconds of a processor that this thread has had: what other work takes meanwhile is not in it. */
+double nanoseconds()
 {
-    return std::chrono::duration<double, std::nano>(Clock::now() - start).count();
+    timespec time{};
+    clock_gettime(CLOCK_THREAD_CPUTIME_ID, &time);
+    return 1e9 * static_cast<double>(time.tv_sec) + static_cast<double>(time.tv_nsec);
 }
 
 /* One library making one call on file after file of a board. */
@@ -166,22 +167,23 @@ struct Runner {
     Call call;
     const Boards &boards;
     Buffers &lent;
+    size_t files = boards.files.size();
     size_t next = 0;
 
     void make_calls(size_t calls)
     {
         for (size_t i = 0; i < calls; i++) {
             make_call(library, call, boards.files[next], lent);
-            next = next + 1 < boards.files.size() ? next + 1 : 0;
+            next = next + 1 < files ? next + 1 : 0;
         }
     }
 
     /* Nanoseconds of a batch of this many calls. */
     double batch(size_t calls)
     {
-        const Clock::time_point start = Clock::now();
+        const double start = nanoseconds();
         make_calls(calls);
-        return nanoseconds_since(start);
+        return nanoseconds() - start;
     }
 };
 
@@ -207,19 +209,25 @@ Measured measure(Call call, const Boards &boards, size_t rounds)
 {
     static Buffers lent[kNumber];
     std::vector<Runner> runners;
-    size_t calls[kNumber];
+    bool slow = false;
     for (size_t i = 0; i < kNumber; i++) {
         lent[i].fill_with_junk();
         runners.push_back({kLibraries[i], call, boards, lent[i]});
-        // Warms up, and finds how many calls a batch needs.
-        double nanoseconds = 0;
-        for (calls[i] = 1; calls[i] < kMostCalls; calls[i] *= 2) {
-            nanoseconds = runners[i].batch(calls[i]);
-            if (nanoseconds >= 1e9 * kBatchSeconds) {
+        slow = slow || runners[i].batch(1) >= 1e9 * kBatchSeconds;
+    }
+    size_t calls[kNumber];
+    for (size_t i = 0; i < kNumber; i++) {
+        runners[i].next = 0;
+        runners[i].files = slow ? std::min(kFilesOfSlow, boards.files.size()) : boards.files.size();
+        // Warms up, and finds how many calls a batch needs; of slow ones each file as often.
+        double taken = 0;
+        for (calls[i] = slow ? runners[i].files : 1; calls[i] < kMostCalls; calls[i] *= 2) {
+            taken = runners[i].batch(calls[i]);
+            if (taken >= 1e9 * kBatchSeconds) {
                 break;
             }
         }
-        rounds = std::min(rounds, std::max<size_t>(3, static_cast<size_t>(kSlowRounds / nanoseconds)));
+        rounds = std::min(rounds, std::max<size_t>(3, static_cast<size_t>(kSlowRounds / taken)));
     }
     std::vector<double> results[kNumber];
     for (size_t round = 0; round < rounds; round++) {
@@ -238,6 +246,8 @@ Measured measure(Call call, const Boards &boards, size_t rounds)
 struct Settings {
     size_t rounds = kDefaultRounds;
     bool json = false;
+    bool ratios = false;
+    bool growth = false;
     std::string only_call;
     std::string only_board;
 };
@@ -247,14 +257,21 @@ class Output {
 public:
     explicit Output(bool json) : json(json) {}
 
-    void result(const char *call, const Boards &boards, const Measured &measured)
+    /* With an axis along which a call's time grows, also what its steps depend on. */
+    void result(const char *call, const Boards &boards, const Measured &measured, const char *axis = nullptr)
     {
         for (size_t i = 0; json && i < kNumber; i++) {
             const Spread &spread = measured.nanoseconds[i];
-            printf("%s{\"call\":\"%s\",\"board\":\"%s\",\"lines\":%zu,\"tips\":%zu,\"library\":\"%s\","
-                   "\"median_ns\":%.1f,\"lower_quartile_ns\":%.1f,\"upper_quartile_ns\":%.1f}",
-                   first ? "[" : ",\n", call, boards.name.c_str(), boards.lines, boards.rack, kLibraries[i].name,
-                   spread.median, spread.lower, spread.upper);
+            printf("%s{\"call\":\"%s\",\"board\":\"%s\",\"lines\":%zu,\"tips\":%zu,\"parts\":%zu,\"library\":\"%s\","
+                   "\"median_ns\":%.1f,\"lower_quartile_ns\":%.1f,\"upper_quartile_ns\":%.1f",
+                   first ? "[" : ",\n", call, boards.name.c_str(), boards.lines, boards.rack, boards.parts,
+                   kLibraries[i].name, spread.median, spread.lower, spread.upper);
+            if (axis) {
+                const Work work = boards.is_order() ? Work{} : work_of(boards);
+                printf(",\"axis\":\"%s\",\"named\":%.1f,\"distinct\":%.1f,\"line_rounds\":%.1f,\"half_rounds\":%.1f",
+                       axis, work.named, work.distinct, work.line_rounds, work.half_rounds);
+            }
+            printf("}");
             first = false;
         }
         for (const Spread &spread : measured.nanoseconds) {
@@ -270,8 +287,8 @@ public:
             printf("%s]\n", first ? "[" : "");
         } else if (!widths.empty()) {
             const Spread spread = spread_of(widths);
-            printf("Noise of this run: half of the batches of a cell lie within %.1f %% of its median (the median of "
-                   "all cells; %.1f %% for a quarter of the cells or more).\n",
+            printf("Noise of this run: half of the\nbatches of a cell lie within %.1f %% of its median (the median of all "
+                   "cells; %.1f %% for a quarter of the cells or more).\n",
                    50 * spread.median, 50 * spread.upper);
         }
     }
@@ -304,7 +321,7 @@ std::string shown(double nanoseconds)
  */
 bool is_measured(const NamedCall &named, const Boards &boards, const Settings &settings)
 {
-    if (boards.is_order != (named.call == Call::order)) {
+    if (boards.is_order() != (named.call == Call::order)) {
         return false;
     }
     const bool needs_runs = named.call == Call::goal || named.call == Call::best || named.call == Call::check;
@@ -314,20 +331,14 @@ bool is_measured(const NamedCall &named, const Boards &boards, const Settings &s
 
 bool main_table(const Settings &settings, Output &output)
 {
-    const std::vector<Boards> all = main_boards();
+    const std::vector<Boards> all = main_boards(settings.only_board);
     if (!output.json) {
-        printf("## Boards\n\n| Board | Lines | Tips | Description |\n|---|---:|---:|---|\n");
-        for (const Boards &boards : all) {
-            printf("| %s | %zu | %zu | %s |\n", boards.name.c_str(), boards.lines, boards.rack,
-                   boards.description.c_str());
-        }
-        printf("\n## Nanoseconds a call\n\n| Call | Board | Proved | C++, same steps | Ratio | C++, tuned | Ratio "
+        printf("## Nanoseconds a call\n\n| Call | Board | Proved | C++, same steps | Ratio | C++, tuned | Ratio "
                "|\n|---|---|---:|---:|---:|---:|---:|\n");
     }
     for (const NamedCall &named : kCalls) {
         for (const Boards &boards : all) {
-            if (!is_measured(named, boards, settings) ||
-                (!settings.only_board.empty() && settings.only_board != boards.name)) {
+            if (!is_measured(named, boards, settings)) {
                 continue;
             }
             if (!all_agree(named.call, named.name, boards)) {
@@ -349,43 +360,19 @@ bool main_table(const Settings &settings, Output &output)
     return true;
 }
 
-/* One table of growth over the given boards; the last column is the last of them by the one before it. */
-bool growth_table(const Settings &settings, Output &output, const char *title, const std::vector<Boards> &all,
-                  size_t Boards::*size, const char *last = "Last doubling")
+/* The times of each call that takes all of the given boards, for bench/plot.py. */
+bool measure_growth(const Settings &settings, Output &output, const char *axis, const std::vector<Boards> &all)
 {
-    const auto grows = [&](const NamedCall &named) { return is_measured(named, all[0], settings); };
-    if (std::none_of(std::begin(kCalls), std::end(kCalls), grows)) {
-        return true;
-    }
-    if (!output.json) {
-        printf("\n## %s, nanoseconds a call\n\n| Call | Library |", title);
-        for (const Boards &boards : all) {
-            printf(" %zu |", boards.*size);
-        }
-        printf(" %s |\n|---|---|", last);
-        for (size_t i = 0; i <= all.size(); i++) {
-            printf("---:|");
-        }
-        printf("\n");
-    }
     for (const NamedCall &named : kCalls) {
-        if (!is_measured(named, all[0], settings)) {
+        const auto measured = [&](const Boards &boards) { return is_measured(named, boards, settings); };
+        if (!std::all_of(all.begin(), all.end(), measured)) {
             continue;
         }
-        std::vector<Measured> row;
         for (const Boards &boards : all) {
             if (!all_agree(named.call, named.name, boards)) {
                 return false;
             }
-            row.push_back(measure(named.call, boards, settings.rounds));
-            output.result(named.name, boards, row.back());
-        }
-        for (size_t i = 0; !output.json && i < kNumber; i++) {
-            printf("| %s | %s |", named.name, kLibraries[i].title);
-            for (const Measured &measured : row) {
-                printf(" %s |", shown(measured.nanoseconds[i].median).c_str());
-            }
-            printf(" x %.2f |\n", row.back().nanoseconds[i].median / row[row.size() - 2].nanoseconds[i].median);
+            output.result(named.name, boards, measure(named.call, boards, settings.rounds), axis);
         }
     }
     return true;
@@ -399,18 +386,18 @@ bool anew_table(const Settings &settings, const Output &output)
     }
     static Buffers expected, lent;
     printf("\n## A goal, the board solved anew for each tip of each line\n\n| Board | Nanoseconds |\n|---|---:|\n");
-    for (const Boards &boards : main_boards()) {
-        if (!boards.runs || (!settings.only_board.empty() && settings.only_board != boards.name)) {
+    for (const Boards &boards : main_boards(settings.only_board)) {
+        if (!boards.runs) {
             continue;
         }
         const File &file = boards.files[0];
         lent.fill_with_junk();
         expected.fill_with_junk();
         const uint64_t returned = make_call(kLibraries[2], Call::goal, file, expected);
-        const Clock::time_point start = Clock::now();
+        const double start = nanoseconds();
         const uint64_t anew = anew_goal(file.bytes.data(), file.bytes.size(), file.claim, lent.out, job::kLongestFile,
                                         lent.answer, TIPSHARE_ANSWER_PLACES);
-        printf("| %s | %s |\n", boards.name.c_str(), shown(nanoseconds_since(start)).c_str());
+        printf("| %s | %s |\n", boards.name.c_str(), shown(nanoseconds() - start).c_str());
         fflush(stdout);
         if (anew != returned || !lent.equals(expected)) {
             fprintf(stderr, "a goal solved anew differs: %s\n", boards.name.c_str());
@@ -420,19 +407,113 @@ bool anew_table(const Settings &settings, const Output &output)
     return true;
 }
 
-bool growth_tables(const Settings &settings, Output &output)
+bool growth(const Settings &settings, Output &output)
 {
-    std::vector<Boards> by_lines, by_rack;
-    for (size_t lines = 32; lines <= 512; lines *= 2) {
+    std::vector<Boards> by_lines, by_rack, by_parts, junior_lines, junior_rack;
+    for (size_t lines = 16; lines <= TIPSHARE_MOST_LINES; lines *= 2) {
         by_lines.push_back(growth_board(lines, 64));
     }
-    for (size_t rack = 8; rack <= 64; rack *= 2) {
+    for (size_t rack = 8; rack <= TIPSHARE_MOST_TIPS; rack *= 2) {
         by_rack.push_back(growth_board(512, rack));
     }
-    return growth_table(settings, output, "Growth with the lines, 64 tips, any-runs", by_lines, &Boards::lines) &&
-           growth_table(settings, output, "Growth with the tips, 512 lines, any-runs", by_rack, &Boards::rack) &&
-           growth_table(settings, output, "The same 20 lines on 8 named tips, in a rack of 8 and of 64",
-                        {eight_tips(1), eight_tips(9)}, &Boards::rack, "64 by 8");
+    for (size_t parts = 8; parts <= TIPSHARE_MOST_PARTS; parts *= 2) {
+        by_parts.push_back(growth_order(parts));
+    }
+    for (size_t lines = 8; lines <= TIPSHARE_JUNIOR_LINES; lines *= 2) {
+        junior_lines.push_back(growth_junior(lines, 8));
+    }
+    for (size_t rack = 2; rack <= TIPSHARE_JUNIOR_TIPS; rack *= 2) {
+        junior_rack.push_back(growth_junior(64, rack));
+    }
+    Settings junior = settings;
+    junior.only_call = "junior";
+    return measure_growth(settings, output, "lines", by_lines) && measure_growth(settings, output, "tips", by_rack) &&
+           measure_growth(settings, output, "parts", by_parts) &&
+           measure_growth(settings, output, "rack", {eight_tips(1), eight_tips(9)}) &&
+           measure_growth(junior, output, "lines", junior_lines) && measure_growth(junior, output, "tips", junior_rack);
+}
+
+/* Boards of one size: the largest with quantities 1 and with others, and small ones. */
+enum Size { kFull, kCounted, kSmall, kSizes };
+
+/* The size of a board for a call, or kSizes: the largest are 64 lines and 8 tips for the Junior, 128 parts for the order. */
+Size size_of(Call call, const Boards &boards)
+{
+    const bool junior = call == Call::junior;
+    const size_t lines = junior ? TIPSHARE_JUNIOR_LINES : TIPSHARE_MOST_LINES;
+    const size_t rack = junior ? TIPSHARE_JUNIOR_TIPS : TIPSHARE_MOST_TIPS;
+    if (boards.is_order()) {
+        return boards.parts == TIPSHARE_MOST_PARTS ? kFull : kSmall;
+    }
+    if (boards.lines == lines && boards.rack == rack) {
+        return boards.counted ? kCounted : kFull;
+    }
+    return boards.lines == 20 && boards.rack == 8 ? kSmall : kSizes;
+}
+
+/* The ratio to the tuned C++ that is wanted. */
+double wanted(Call call, Size size)
+{
+    return call == Call::goal || (size == kSmall && call != Call::order) ? 1.5 : 1.2;
+}
+
+/* Two times in the unit of the larger. */
+std::string shown_range(double least, double most)
+{
+    const double unit = most >= 999500 ? 1e6 : most >= 999.5 ? 1e3 : 1;
+    const auto digits = [](double number) { return number < 9.995 ? 2 : number < 99.95 ? 1 : 0; };
+    char text[64];
+    snprintf(text, sizeof text, "%.*f to %.*f %s", digits(least / unit), least / unit, digits(most / unit), most / unit,
+             unit == 1 ? "ns" : unit == 1e3 ? "µs" : "ms");
+    return text;
+}
+
+/*
+ * For each call and size the board with the largest ratio of the proved library's time to that of the tuned C++, and the
+ * times of the proved library on the largest boards.
+ */
+bool ratio_table(const Settings &settings, Output &output)
+{
+    const std::vector<Boards> all = main_boards();
+    printf("| Call | Goal | 512 lines, 64 tips | with quantities | Goal | 20 lines, 8 tips | Time, 512 lines, 64 tips |\n"
+           "|---|---:|---|---|---:|---|---:|\n");
+    for (const NamedCall &named : kCalls) {
+        double worst[kSizes] = {};
+        double least_time = 1e18;
+        double most_time = 0;
+        std::string cell[kSizes] = {"", "", ""};
+        for (const Boards &boards : all) {
+            const Size size = size_of(named.call, boards);
+            if (size == kSizes || !is_measured(named, boards, settings)) {
+                continue;
+            }
+            if (!all_agree(named.call, named.name, boards)) {
+                return false;
+            }
+            const Measured measured = measure(named.call, boards, settings.rounds);
+            output.result(named.name, boards, measured);
+            const double time = measured.nanoseconds[0].median;
+            if (size != kSmall) {
+                least_time = std::min(least_time, time);
+                most_time = std::max(most_time, time);
+            }
+            const double ratio = time / measured.nanoseconds[2].median;
+            if (ratio > worst[size]) {
+                worst[size] = ratio;
+                char text[64];
+                const char *const mark = ratio > wanted(named.call, size) ? "**" : "";
+                snprintf(text, sizeof text, "%s%.2f%s %s", mark, ratio, mark, boards.name.c_str());
+                cell[size] = text;
+            }
+        }
+        if (!(cell[kFull] + cell[kSmall]).empty()) {
+            printf("| %s | %.1f | %s | %s | %.1f | %s | %s |\n", named.name, wanted(named.call, kFull),
+                   cell[kFull].c_str(), cell[kCounted].c_str(), wanted(named.call, kSmall), cell[kSmall].c_str(),
+                   shown_range(least_time, most_time).c_str());
+            fflush(stdout);
+        }
+    }
+    return true;
 }
 
 std::string first_line_with(const char *path, const std::string &beginning)
@@ -447,21 +528,20 @@ std::string first_line_with(const char *path, const std::string &beginning)
     return "";
 }
 
-void introduction(const Settings &settings)
+std::string machine()
 {
     std::string processor = first_line_with("/proc/cpuinfo", "model name");
     processor.erase(0, std::min(processor.size(), processor.find(": ") + 2));
-    printf("# Benchmark of the calls\n\n");
-    printf("%s. Compiler of the C++: %s. Load when started: %s.\n\n", processor.c_str(), __VERSION__,
-           first_line_with("/proc/loadavg", "").substr(0, 14).c_str());
-    printf("A cell is the median of %zu batches, in nanoseconds a call. A batch lasts about %.0f microseconds and goes "
-           "on through %zu files of the board's description. The libraries take turns batch by batch, after a warm-up. "
-           "Each has its own buffers, of the longest lengths, which are filled with junk once and not cleared between "
-           "calls. Before it is timed, each call is made once by every library on each file (a goal on three), and what "
-           "it returns and writes is compared whole. A call that takes longer than a batch has fewer of them, 3 at "
-           "least. A ratio is the proved library's median over the one before it: above 1 the "
-           "proved library is slower.\n\n",
-           settings.rounds, 1e6 * kBatchSeconds, kFilesEach);
+    // The load over 1, 5 and 15 minutes, then other numbers.
+    const std::string load = first_line_with("/proc/loadavg", "");
+    return processor + ", g++ " __VERSION__ ", load " + load.substr(0, load.find(' ', load.find(' ', load.find(' ') + 1) + 1));
+}
+
+void introduction(const Settings &settings)
+{
+    printf("# Times\n\nMade by `bench/run`; how, and the boards, is in [README.md](README.md). A cell is the median of %zu\n"
+           "batches. A ratio is the proved library's time by the one before it: above 1 the proved library is slower.\n\n",
+           settings.rounds);
 }
 
 /* Makes one call on the files of one board, for a tool that counts instructions. */
@@ -470,7 +550,7 @@ int run_for_counting(const std::string &call, const std::string &board, const st
     static Buffers lent;
     lent.fill_with_junk();
     const size_t calls = times * kFilesCounted;
-    std::vector<Boards> all = main_boards();
+    std::vector<Boards> all = main_boards(board);
     for (Boards &boards : all) {
         boards.files.resize(kFilesCounted);
         for (const NamedCall &named : kCalls) {
@@ -490,11 +570,10 @@ int run_for_counting(const std::string &call, const std::string &board, const st
 /* Whether the call and the board asked for are among those of the main table. */
 bool is_known(const Settings &settings)
 {
-    const std::vector<Boards> all = main_boards();
+    const std::vector<Boards> all = main_boards(settings.only_board);
     for (const NamedCall &named : kCalls) {
         for (const Boards &boards : all) {
-            if (is_measured(named, boards, settings) &&
-                (settings.only_board.empty() || settings.only_board == boards.name)) {
+            if (is_measured(named, boards, settings)) {
                 return true;
             }
         }
@@ -505,8 +584,9 @@ bool is_known(const Settings &settings)
 /* The calls and boards of the main table, a pair a line. */
 int list()
 {
+    const std::vector<Boards> all = main_boards();
     for (const NamedCall &named : kCalls) {
-        for (const Boards &boards : main_boards()) {
+        for (const Boards &boards : all) {
             if (is_measured(named, boards, Settings{})) {
                 printf("%s %s\n", named.name, boards.name.c_str());
             }
@@ -515,13 +595,27 @@ int list()
     return 0;
 }
 
+/* The boards of the main table, described. */
+int describe()
+{
+    printf("| Board | Lines | Tips | Description |\n|---|---:|---:|---|\n");
+    for (const Boards &boards : main_boards()) {
+        const std::string lines = boards.is_order() ? "" : std::to_string(boards.lines) + " ";
+        const std::string rack = boards.is_order() ? "" : std::to_string(boards.rack) + " ";
+        printf("| %s | %s| %s| %s |\n", boards.name.c_str(), lines.c_str(), rack.c_str(), boards.description.c_str());
+    }
+    return 0;
+}
+
 const char kUsage[] =
     "bench [--rounds N] [--json] [--call CALL] [--board BOARD]   time the calls and print tables\n"
+    "bench --ratios [--rounds N] [--call CALL]                   the worst ratios to the tuned C++, by sizes of boards\n"
+    "bench --growth [--rounds N]                                 how the times grow with lines, tips and parts, as JSON\n"
     "bench --callgrind CALL BOARD LIBRARY [TIMES]                make one call only, and print how often it was made\n"
-    "bench --list                                                the calls and boards\n"
+    "bench --list                                                the calls and boards, a pair a line\n"
+    "bench --boards                                              the boards, described\n"
     "CALL: read, common, keep, goal, quick, best, check, junior, merge, alone, mend, order, report.\n"
-    "LIBRARY: tipshare, baseline, tuned.\n"
-    "With --board the tables of growth are left out.\n";
+    "LIBRARY: tipshare, baseline, tuned.\n";
 
 int usage()
 {
@@ -537,6 +631,9 @@ int main(int argc, char **argv)
     if (!arguments.empty() && arguments[0] == "--list") {
         return list();
     }
+    if (!arguments.empty() && arguments[0] == "--boards") {
+        return describe();
+    }
     if (!arguments.empty() && arguments[0] == "--callgrind") {
         if (arguments.size() < 4 || arguments.size() > 5) {
             return usage();
@@ -549,6 +646,10 @@ int main(int argc, char **argv)
         const bool has_value = i + 1 < arguments.size();
         if (arguments[i] == "--json") {
             settings.json = true;
+        } else if (arguments[i] == "--ratios") {
+            settings.ratios = true;
+        } else if (arguments[i] == "--growth") {
+            settings.growth = true;
         } else if (arguments[i] == "--rounds" && has_value) {
             settings.rounds = std::max<size_t>(1, strtoul(arguments[++i].c_str(), nullptr, 10));
         } else if (arguments[i] == "--call" && has_value) {
@@ -559,21 +660,24 @@ int main(int argc, char **argv)
             return usage();
         }
     }
-    if (!is_known(settings)) {
+    const bool whole = !settings.ratios && !settings.growth;
+    if (!is_known(settings) || (settings.ratios && (settings.growth || settings.json)) ||
+        (!whole && !settings.only_board.empty()) || (settings.growth && !settings.only_call.empty())) {
         return usage();
     }
+    settings.json = settings.json || settings.growth;
     Output output(settings.json);
-    if (!settings.json) {
+    if (whole && !settings.json) {
         introduction(settings);
     }
-    if (!main_table(settings, output) || !anew_table(settings, output)) {
-        return 1;
-    }
-    if (settings.only_board.empty() && !growth_tables(settings, output)) {
+    const bool done = settings.ratios   ? ratio_table(settings, output)
+                      : settings.growth ? growth(settings, output)
+                                        : main_table(settings, output) && anew_table(settings, output);
+    if (!done) {
         return 1;
     }
     if (!settings.json) {
-        printf("\n");
+        printf("\n%s. Version %s. ", machine().c_str(), TIPSHARE_VERSION);
     }
     output.end();
     return 0;

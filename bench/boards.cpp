@@ -3,6 +3,7 @@
 #include <algorithm>
 #include <functional>
 #include <numeric>
+#include <set>
 #include <utility>
 
 #include "job.h"
@@ -56,6 +57,12 @@ uint64_t few_tips(Random &random, size_t rack, size_t)
 uint64_t many_tips(Random &random, size_t rack, size_t)
 {
     return (random.number() & run(0, rack)) | uint64_t{1} << random.from_to(0, rack - 1);
+}
+
+/* The first tip or the last, and others. */
+uint64_t first_or_last(Random &random, size_t rack, size_t)
+{
+    return (random.number() & run(0, rack)) | uint64_t{1} << random.from_to(0, 1) * (rack - 1);
 }
 
 /* Tip 2 or tip 5, and others. */
@@ -206,6 +213,7 @@ Boards boards_of(std::string name, std::string description, size_t lines, size_t
 {
     const size_t rack = (tips - 1) * apart + 1;
     Boards boards{std::move(name), std::move(description), lines, rack, true, true, {}};
+    boards.counted = quantities_of && quantities_of != all_1;
     for (size_t file = 0; file < kFilesEach; file++) {
         Random random(1000 * file + lines + tips);
         std::vector<uint64_t> sets;
@@ -239,39 +247,48 @@ Boards with_mounted(Boards boards, size_t tip)
 
 }  // namespace
 
-std::vector<Boards> main_boards()
+std::vector<Boards> main_boards(const std::string &only)
 {
-    std::vector<Boards> all = {
-        boards_of("few-tips", "1 to 3 tips a line, anywhere in the rack", 512, 64, few_tips),
-        boards_of("many-tips", "each tip with an even chance, about 32 a line", 512, 64, many_tips),
-        boards_of("short-runs", "runs of 1 to 4 tips", 512, 64, run_of(1, 4)),
-        boards_of("long-runs", "runs of 16 to 48 tips", 512, 64, run_of(16, 48)),
-        boards_of("any-runs", "runs between two seeded tips", 512, 64, any_run),
-        boards_of("all-tips", "worst for common and keep: every line has every tip; quick has one round", 512, 64,
-                  all_tips),
-        boards_of("all-but-one", "worst for quick by counts: 511 lines have every tip but one, and one line only that",
-                  512, 64, all_but_one),
-        boards_of("one-tip", "worst for quick by rounds: one tip a line, 8 lines a tip, 64 rounds", 512, 64,
-                  one_tip_in_turn),
-        boards_of("small", "each tip with an even chance", 20, 8, many_tips),
-        boards_of("small-runs", "runs of 1 to 4 tips", 20, 8, run_of(1, 4)),
-        eight_tips(1),
-        eight_tips(9),
-        boards_of("two-tips", "tip 2 or tip 5 in each line, and each tip with an even chance", 64, 8, one_of_two),
-        boards_of("two-counted", "two-tips with quantities 1 to 7", 64, 8, one_of_two, from_1_to_7),
-        boards_of("no-lines", "what a call costs without any line", 0, 64, any_run),
-        boards_of("few-counted", "few-tips with quantities 1 to 7, together 2,048 at most", 512, 64, few_tips,
-                  from_1_to_7),
-        boards_of("many-counted", "many-tips with quantities 1 to 7, together 2,048 at most", 512, 64, many_tips,
-                  from_1_to_7),
-        boards_of("runs-counted", "any-runs with quantities 1 to 7, together 2,048 at most", 512, 64, any_run,
-                  from_1_to_7),
-        boards_of("small-counted", "small-runs with quantities 1 to 7", 20, 8, run_of(1, 4), from_1_to_7),
-        boards_of("runs-of-1", "any-runs in a file of version 2, every quantity 1", 512, 64, any_run, all_1),
-        with_mounted(boards_of("runs-mounted", "any-runs with the last tip mounted", 512, 64, any_run), 63),
+    std::vector<Boards> all;
+    const auto is_wanted = [&](const std::string &name) { return only.empty() || only == name; };
+    const auto add = [&](const char *name, const char *description, size_t lines, size_t tips, const Line &line_of,
+                         Quantities quantities_of = nullptr) {
+        if (is_wanted(name)) {
+            all.push_back(boards_of(name, description, lines, tips, line_of, quantities_of));
+        }
     };
+    add("few-tips", "1 to 3 tips a line, anywhere in the rack", 512, 64, few_tips);
+    add("many-tips", "each tip with an even chance, about 32 a line", 512, 64, many_tips);
+    add("short-runs", "runs of 1 to 4 tips", 512, 64, run_of(1, 4));
+    add("long-runs", "runs of 16 to 48 tips", 512, 64, run_of(16, 48));
+    add("any-runs", "runs between two seeded tips", 512, 64, any_run);
+    add("all-tips", "worst for common and keep: every line has every tip; quick has one round", 512, 64, all_tips);
+    add("all-but-one", "worst for quick by counts: 511 lines have every tip but one, and one line only that", 512, 64,
+        all_but_one);
+    add("one-tip", "worst for quick by rounds: one tip a line, 8 lines a tip, 64 rounds", 512, 64, one_tip_in_turn);
+    add("small", "each tip with an even chance", 20, 8, many_tips);
+    add("small-runs", "runs of 1 to 4 tips", 20, 8, run_of(1, 4));
+    for (size_t apart : {1, 9}) {
+        if (is_wanted(apart == 1 ? "eight-tips" : "eight-spread")) {
+            all.push_back(eight_tips(apart));
+        }
+    }
+    add("small-two", "tip 2 or tip 5 in each line, and each tip with an even chance", 20, 8, one_of_two);
+    add("two-tips", "the same with 64 lines, the most for the Junior", 64, 8, one_of_two);
+    add("two-counted", "two-tips with quantities 1 to 7", 64, 8, one_of_two, from_1_to_7);
+    add("no-lines", "what a call costs without any line", 0, 64, any_run);
+    add("few-counted", "few-tips with quantities 1 to 7, together 2,048 at most", 512, 64, few_tips, from_1_to_7);
+    add("many-counted", "many-tips with quantities 1 to 7, together 2,048 at most", 512, 64, many_tips, from_1_to_7);
+    add("runs-counted", "any-runs with quantities 1 to 7, together 2,048 at most", 512, 64, any_run, from_1_to_7);
+    add("small-counted", "small-runs with quantities 1 to 7", 20, 8, run_of(1, 4), from_1_to_7);
+    add("runs-of-1", "any-runs in a file of version 2, every quantity 1", 512, 64, any_run, all_1);
+    if (is_wanted("runs-mounted")) {
+        all.push_back(with_mounted(boards_of("runs-mounted", "any-runs with the last tip mounted", 512, 64, any_run), 63));
+    }
     for (Boards &boards : order_boards()) {
-        all.push_back(std::move(boards));
+        if (is_wanted(boards.name)) {
+            all.push_back(std::move(boards));
+        }
     }
     return all;
 }
@@ -287,4 +304,43 @@ Boards eight_tips(size_t apart)
 Boards growth_board(size_t lines, size_t rack)
 {
     return boards_of("any-runs", "runs between two seeded tips", lines, rack, any_run);
+}
+
+Boards growth_junior(size_t lines, size_t rack)
+{
+    return boards_of("outermost", "the first tip or the last, and each tip with an even chance", lines, rack,
+                     first_or_last);
+}
+
+namespace {
+
+/* Lines times rounds: each round takes a tip of its own. */
+size_t line_rounds(const std::vector<uint8_t> &bytes)
+{
+    uint8_t plan[TIPSHARE_MOST_LINES];
+    uint64_t answer[TIPSHARE_ANSWER_PLACES];
+    baseline_quick(bytes.data(), bytes.size(), TIPSHARE_NO_TIP, plan, sizeof plan, answer, TIPSHARE_ANSWER_PLACES);
+    const size_t lines = size_t{bytes[6]} << 8 | bytes[7];
+    return lines * std::set<uint8_t>(plan, plan + lines).size();
+}
+
+}  // namespace
+
+Work work_of(const Boards &boards)
+{
+    Work sum{};
+    for (const File &file : boards.files) {
+        job::Lines lines{};
+        const job::Job job = job::read_sets(file.bytes.data(), file.bytes.size(), lines);
+        std::set<std::pair<uint64_t, uint8_t>> distinct;
+        for (size_t line = 0; line < job.count; line++) {
+            distinct.emplace(lines.sets[line], lines.quantities[line]);
+        }
+        sum.named += static_cast<double>(job::Named(lines.sets, job.count).count);
+        sum.distinct += static_cast<double>(distinct.size());
+        sum.line_rounds += static_cast<double>(line_rounds(file.bytes));
+        sum.half_rounds += static_cast<double>(line_rounds(file.halves[0]) + line_rounds(file.halves[1]));
+    }
+    const auto files = static_cast<double>(boards.files.size());
+    return {sum.named / files, sum.distinct / files, sum.line_rounds / files, sum.half_rounds / files};
 }

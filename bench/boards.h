@@ -36,20 +36,42 @@ struct Boards {
     /* Whether the Junior takes each of them. */
     bool junior;
     std::vector<File> files;
-    // Parts and rules alone, without a job file.
-    bool is_order = false;
+    // Some quantity is not 1.
+    bool counted = false;
+    // Of parts and rules alone, without a job file, how many parts; else 0.
+    size_t parts = 0;
+
+    bool is_order() const { return parts != 0; }
 };
 
 constexpr size_t kFilesEach = 64;
 
-/* The boards of the main table. */
-std::vector<Boards> main_boards();
+/* The boards of the main table, or only the one of a name. */
+std::vector<Boards> main_boards(const std::string &only = "");
 
 /* Parts and rules for the placing order. */
 std::vector<Boards> order_boards();
+
+/* So many parts in wide windows, with eight rules a part, to see how time grows with them. */
+Boards growth_order(size_t parts);
 
 /* The same lines on 8 named tips, which stand so far apart in the rack: 1 for a rack of 8, and 9 for one of 64. */
 Boards eight_tips(size_t apart);
 
 /* Runs of any length, to see how time grows with the number of lines and the rack. */
 Boards growth_board(size_t lines, size_t rack);
+
+/* The same for the Junior: one of the rack's two outermost tips in each line, and others. */
+Boards growth_junior(size_t lines, size_t rack);
+
+/* What the steps of a call depend on, the mean of a board's files. */
+struct Work {
+    double named;
+    // Lines without those that are equal to an earlier one.
+    double distinct;
+    // Lines times rounds of quick sharing, of the whole board and of its two halves.
+    double line_rounds;
+    double half_rounds;
+};
+
+Work work_of(const Boards &boards);

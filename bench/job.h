@@ -402,11 +402,18 @@ template <typename Most>
                                                uint32_t *__restrict table)
 {
     size_t first = named.count;
+    // A small table is cleared at once.
+    constexpr size_t kSmallRack = 16;
+    if (rack <= kSmallRack) {
+        memset(table, 0, rack * rack * sizeof *table);
+    }
     for (size_t a = rack; a-- > 0;) {
         uint32_t *__restrict const row = table + a * rack;
         if ((named.tips >> a & 1) != 0) {
             first--;
-            memset(row, 0, a * sizeof *row);
+            if (rack > kSmallRack) {
+                memset(row, 0, a * sizeof *row);
+            }
             if (named.count == rack) {
                 for (size_t b = a; b < rack; b++) {
                     row[b] = most(a, b);

@@ -224,24 +224,47 @@ private:
     uint8_t waits[kMostParts];
 };
 
-/* A set of parts, 64 a word. */
-struct Parts {
-    uint64_t word[2];
+/* A set of parts, 64 a word: one word or two. */
+template <size_t Words> struct Parts {
+    uint64_t word[Words];
 
-    bool any() const { return (word[0] | word[1]) != 0; }
-    bool has(size_t part) const { return (word[part / 64] >> part % 64 & 1) != 0; }
+    static size_t word_of(size_t part) { return Words == 1 ? 0 : part / 64; }
+
+    bool any() const { return (word[0] | word[Words - 1]) != 0; }
+    bool has(size_t part) const { return (word[word_of(part)] >> part % 64 & 1) != 0; }
     /* The lowest of a set that is not empty. */
-    size_t lowest() const { return word[0] != 0 ? job::lowest(word[0]) : 64 + job::lowest(word[1]); }
-    void put(size_t part) { word[part / 64] |= uint64_t{1} << part % 64; }
-    void take(size_t part) { word[part / 64] &= ~(uint64_t{1} << part % 64); }
-    friend Parts operator&(Parts a, Parts b) { return {{a.word[0] & b.word[0], a.word[1] & b.word[1]}}; }
-    friend Parts operator|(Parts a, Parts b) { return {{a.word[0] | b.word[0], a.word[1] | b.word[1]}}; }
-    friend Parts operator~(Parts a) { return {{~a.word[0], ~a.word[1]}}; }
+    size_t lowest() const
+    {
+        return Words == 1 || word[0] != 0 ? job::lowest(word[0]) : 64 + job::lowest(word[Words - 1]);
+    }
+    void put(size_t part) { word[word_of(part)] |= uint64_t{1} << part % 64; }
+    void take(size_t part) { word[word_of(part)] &= ~(uint64_t{1} << part % 64); }
+
+    template <typename Operation> static Parts each_word(const Operation &operation)
+    {
+        Parts result;
+        for (size_t at = 0; at < Words; at++) {
+            result.word[at] = operation(at);
+        }
+        return result;
+    }
+    friend Parts operator&(Parts a, Parts b)
+    {
+        return each_word([&](size_t at) { return a.word[at] & b.word[at]; });
+    }
+    friend Parts operator|(Parts a, Parts b)
+    {
+        return each_word([&](size_t at) { return a.word[at] | b.word[at]; });
+    }
+    friend Parts operator~(Parts a)
+    {
+        return each_word([&](size_t at) { return ~a.word[at]; });
+    }
 
     /* Does this with each part, the lowest first. */
     template <typename Do> [[gnu::always_inline]] void each(const Do &with) const
     {
-        for (size_t at = 0; at < 2; at++) {
+        for (size_t at = 0; at < Words; at++) {
             for (uint64_t rest = word[at]; rest != 0; rest &= rest - 1) {
                 with(64 * at + job::lowest(rest));
             }
@@ -254,11 +277,11 @@ struct Parts {
  * it waits for. By flags all parts of a kind wait for all of another kind, so that no part is looked at for them. How many
  * more parts could end at each position or before it is kept for 16 positions at once.
  */
-class Tuned {
+template <size_t Words> class Tuned {
 public:
     explicit Tuned(const Given &given) : given(given), count(given.count) {}
 
-    bool least(uint8_t *order)
+    bool least(uint8_t *__restrict order)
     {
         list_before();
         if (!settle()) {
@@ -267,7 +290,7 @@ public:
         begin();
         for (size_t position = 0; position < count; position++) {
             open(position);
-            const Parts candidates = ready & by_flags() & up_to[full_up_to(position)];
+            const Set candidates = ready & by_flags() & up_to[full_up_to(position)];
             if (!candidates.any()) {
                 return false;
             }
@@ -280,14 +303,16 @@ public:
     }
 
 private:
+    using Set = Parts<Words>;
     static constexpr size_t kStep = 16;
+    static constexpr size_t kMost = 64 * Words;
 
     void list_before()
     {
         all = fine = {};
-        Parts tall{};
+        Set tall{};
         for (size_t part = 0; part < count; part++) {
-            const size_t at = part / 64;
+            const size_t at = Set::word_of(part);
             all.word[at] |= uint64_t{1} << part % 64;
             fine.word[at] |= uint64_t{given.is_fine(part)} << part % 64;
             tall.word[at] |= uint64_t{given.is_tall(part)} << part % 64;
@@ -302,15 +327,15 @@ private:
     /* Last positions by rising end; false where too many parts end somewhere. */
     bool settle()
     {
-        Parts ending[kMostParts];
+        Set ending[kMost];
         memset(ending, 0, count * sizeof ending[0]);
         for (size_t part = 0; part < count; part++) {
             ending[given.last(part)].put(part);
         }
-        Parts settled{};
+        Set settled{};
         size_t parts = 0;
         for (size_t end = 0; end < count; end++) {
-            for (Parts now = ending[end] & ~settled; now.any();) {
+            for (Set now = ending[end] & ~settled; now.any();) {
                 const size_t part = now.lowest();
                 settled.put(part);
                 last[part] = static_cast<uint8_t>(end);
@@ -327,7 +352,7 @@ private:
             room[end] = static_cast<int8_t>(end + 1 - parts);
         }
         // Never full behind the last position, and never counted down so far.
-        for (size_t end = count; end < kMostParts; end++) {
+        for (size_t end = count; end < kMost; end++) {
             room[end] = 127;
         }
         return true;
@@ -345,13 +370,13 @@ private:
     }
 
     /* Fine parts while some are left, and parts that are not tall while some are. */
-    Parts by_flags() const
+    Set by_flags() const
     {
-        const Parts fine_left = fine & left, low_left = low & left;
+        const Set fine_left = fine & left, low_left = low & left;
         return (fine_left.any() ? fine_left : left) & (low_left.any() ? low_left : left);
     }
 
-    /* Parts that begin here are ready, or wait for one that is before them. */
+    /* Set that begin here are ready, or wait for one that is before them. */
     void open(size_t position)
     {
         beginning[position].each([&](size_t part) { look_at(part); });
@@ -359,7 +384,7 @@ private:
 
     void look_at(size_t part)
     {
-        const Parts blocking = before[part] & left;
+        const Set blocking = before[part] & left;
         if (blocking.any()) {
             waiting[blocking.lowest()].put(part);
         } else {
@@ -407,16 +432,16 @@ private:
 
     const Given &given;
     const size_t count;
-    alignas(16) int8_t room[kMostParts];
-    uint8_t last[kMostParts];
+    alignas(16) int8_t room[kMost];
+    uint8_t last[kMost];
     // Fine ones, and those that are not tall.
-    Parts fine, low;
-    Parts all, left, ready;
-    Parts before[kMostParts];
-    Parts up_to[kMostParts];
-    Parts beginning[kMostParts];
+    Set fine, low;
+    Set all, left, ready;
+    Set before[kMost];
+    Set up_to[kMost];
+    Set beginning[kMost];
     // Those that are looked at again when this one leaves.
-    Parts waiting[kMostParts];
+    Set waiting[kMost];
 };
 
 }  // namespace order

@@ -43,7 +43,7 @@ File file_of(uint32_t seed, uint32_t count, uint32_t rules, uint32_t reach)
 Boards boards_of(const char *name, const char *description, uint32_t count, uint32_t rules, uint32_t reach)
 {
     Boards boards{name, description, 0, 0, false, false, {}};
-    boards.is_order = true;
+    boards.parts = count;
     for (uint32_t file = 0; file < kFilesEach; file++) {
         boards.files.push_back(file_of(1000 * file + count + reach, count, rules, reach));
     }
@@ -60,4 +60,10 @@ std::vector<Boards> order_boards()
         boards_of("parts-no-rules", "order alone: 128 parts, each at up to 65 positions, no rule", 128, 0, 32),
         boards_of("parts-20", "order alone: 20 parts, each at up to 17 positions, and 10 rules", 20, 10, 8),
     };
+}
+
+Boards growth_order(size_t parts)
+{
+    const auto count = static_cast<uint32_t>(parts);
+    return boards_of("parts", "each part anywhere, eight rules a part", count, 8 * count, count);
 }

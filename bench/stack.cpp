@@ -180,7 +180,12 @@ int main()
     }
     puts("| Call | Bytes |\n|---|---:|");
     for (int call = 0; call < CALLS; call++) {
-        printf("| %s | %zu |\n", calls[call].name, worst[call]);
+        printf("| %s | ", calls[call].name);
+        if (worst[call] >= 1000) {
+            printf("%zu,%03zu |\n", worst[call] / 1000, worst[call] % 1000);
+        } else {
+            printf("%zu |\n", worst[call]);
+        }
     }
     return 0;
 }

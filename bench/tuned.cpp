@@ -2,8 +2,10 @@
  * Tip sharing by hand, tuned: how far the same job can be taken with the instructions of every x86-64 processor.
  *
  * Occurrences are counted for 64 tips at once: bit t of plane i is bit i of the count of tip t. Quick sharing finds
- * the lines of a tip in the transposed board. Best sharing goes by the length of the stretch, four stretches at once. A
- * check needs 64 bits only where some entry of the table is huge. A goal of pairs makes its tables once for all lines.
+ * the lines of a tip in the transposed board; of small boards for small racks each set is a byte, and 16 lines are looked
+ * at at once. Best sharing goes by the length of the stretch, four stretches at once, and so does a check, but in 64 bits
+ * where some entry of the table is huge or the table not one that best sharing could have written. A goal of pairs makes
+ * its tables once for all lines.
  * Sets are used as they stand in the file: the bit of tip t there is bit t ^ 56 of a 64-bit number. Those of version 2
  * are first packed without the quantities between them. A board whose quantities are all 1 has code of its own wherever
  * a quantity counts.
@@ -11,6 +13,9 @@
 #include "libraries.h"
 
 #include <emmintrin.h>
+
+#include <algorithm>
+#include <iterator>
 
 #include "job.h"
 #include "mend.h"
@@ -24,12 +29,14 @@ using namespace job;
 /* Two sets side by side. */
 typedef uint64_t Two __attribute__((vector_size(16)));
 
-inline Two two_at(const uint8_t *at)
+template <typename Word> inline Word word_at(const uint8_t *at)
 {
-    Two two;
-    memcpy(&two, at, sizeof two);
-    return two;
+    Word word;
+    memcpy(&word, at, sizeof word);
+    return word;
 }
+
+inline Two two_at(const uint8_t *at) { return word_at<Two>(at); }
 
 /* Adds three planes: low gets the sum, and the carry is returned. */
 template <typename Word> inline Word add(Word &low, Word second, Word third)
@@ -71,6 +78,16 @@ struct Planes {
     void count(const uint64_t *sets, Single, size_t number, size_t placements)
     {
         used = planes_for(placements);
+        // Few sets were written just before, one by one, and are read one by one at once.
+        if (number <= kBlock) {
+            for (uint64_t &each : plane) {
+                each = 0;
+            }
+            for (size_t done = 0; done < number; done += kBlock / 2) {
+                add_block(plane, used, reinterpret_cast<const uint8_t *>(sets + done));
+            }
+            return;
+        }
         Two sum[kPlanesOfSingle] = {};
         for (size_t done = 0; done < number; done += kBlock) {
             add_block(sum, used, reinterpret_cast<const uint8_t *>(sets + done));
@@ -149,17 +166,20 @@ struct Planes {
         }
     }
 
-    [[gnu::always_inline]] static void add_block(Two *sum, size_t planes, const uint8_t *sets)
+    /* Adds eight words: a block of two sets each, half a block of one. */
+    template <typename Word>
+    [[gnu::always_inline]] static void add_block(Word *sum, size_t planes, const uint8_t *sets)
     {
-        const Two two1 = add(sum[0], two_at(sets), two_at(sets + 16));
-        const Two two2 = add(sum[0], two_at(sets + 32), two_at(sets + 48));
-        const Two four1 = add(sum[1], two1, two2);
-        const Two two3 = add(sum[0], two_at(sets + 64), two_at(sets + 80));
-        const Two two4 = add(sum[0], two_at(sets + 96), two_at(sets + 112));
-        const Two four2 = add(sum[1], two3, two4);
-        Two carry = add(sum[2], four1, four2);
+        const auto word = [=](size_t number) { return word_at<Word>(sets + sizeof(Word) * number); };
+        const Word two1 = add(sum[0], word(0), word(1));
+        const Word two2 = add(sum[0], word(2), word(3));
+        const Word four1 = add(sum[1], two1, two2);
+        const Word two3 = add(sum[0], word(4), word(5));
+        const Word two4 = add(sum[0], word(6), word(7));
+        const Word four2 = add(sum[1], two3, two4);
+        Word carry = add(sum[2], four1, four2);
         for (size_t i = 3; i < planes; i++) {
-            const Two next = sum[i] & carry;
+            const Word next = sum[i] & carry;
             sum[i] ^= carry;
             carry = next;
         }
@@ -390,25 +410,26 @@ uint64_t lines_by_looking(const Raw &raw, size_t count, unsigned tip)
 struct Taken {
     alignas(16) uint64_t sets[kMostLines + Planes::kBlock];
     uint8_t of[kMostLines + Planes::kBlock];
-    size_t number;
 
-    void put(uint64_t set, Single, size_t) { sets[number++] = set; }
+    void put(size_t number, uint64_t set, Single, size_t) { sets[number] = set; }
 
-    void put(uint64_t set, const uint8_t *quantities, size_t line)
+    void put(size_t number, uint64_t set, const uint8_t *quantities, size_t line)
     {
         of[number] = quantities[line];
-        sets[number++] = set;
+        sets[number] = set;
     }
 
-    Single end(Single)
+    Single end(size_t number, Single)
     {
-        memset(sets + number, 0, kSet * Planes::kBlock);
+        for (size_t zero = 0; zero < Planes::kBlock; zero += 2) {
+            _mm_storeu_si128(reinterpret_cast<__m128i *>(sets + number + zero), _mm_setzero_si128());
+        }
         return {};
     }
 
-    const uint8_t *end(const uint8_t *)
+    const uint8_t *end(size_t number, const uint8_t *)
     {
-        memset(of + number, 0, Planes::kBlock);
+        _mm_storeu_si128(reinterpret_cast<__m128i *>(of + number), _mm_setzero_si128());
         return of;
     }
 };
@@ -421,37 +442,62 @@ uint32_t quick(const Raw &raw, Quantities quantities, const Job &job, size_t mou
     const uint64_t mounted_tip = mounted == TIPSHARE_NO_TIP ? 0 : uint64_t{1} << mounted;
     // Fewer lines than this are looked through in each round.
     constexpr size_t kManyLines = 48;
+    const bool many = job.count >= kManyLines;
     LinesOf lines_of;
-    if (job.count >= kManyLines) {
+    if (many) {
         lines_of.fill(raw.sets, job.count);
     }
+    const uint8_t *const sets = raw.sets;
     const size_t words = (job.count + 63) / 64;
     uint64_t unplanned[kMostLines / 64];
-    memset(unplanned, 0xFF, sizeof unplanned);
+    std::fill(std::begin(unplanned), std::end(unplanned), ~uint64_t{0});
+    if (job.count % 64 != 0) {
+        unplanned[words - 1] = ~(~uint64_t{0} << job.count % 64);
+    }
     Taken taken;
     uint32_t pairs = 0;
     for (size_t left = job.total; left != 0;) {
         uint64_t tips;
         const unsigned most = planes.largest(tips);
+        // No two lines that are left have a tip in common: each is on its first.
+        if (most == 1) {
+            for (size_t word = 0; word < words; word++) {
+                for (uint64_t lines = unplanned[word]; lines != 0; lines &= lines - 1) {
+                    const size_t line = 64 * word + lowest(lines);
+                    const uint64_t set = __builtin_bswap64(raw_at(sets + kSet * line));
+                    plan[line] = static_cast<uint8_t>(lowest((set & mounted_tip) != 0 ? mounted_tip : set));
+                }
+            }
+            return pairs;
+        }
         const uint64_t tied = __builtin_bswap64(tips);
         const unsigned tip = lowest((tied & mounted_tip) != 0 ? mounted_tip : tied);
         pairs += pairs_on(most);
         left -= most;
-        taken.number = 0;
+        size_t number = 0;
         for (size_t word = 0; word < words; word++) {
-            const bool many = job.count >= kManyLines;
             uint64_t lines = many ? lines_of.word(tip, word) : lines_by_looking(raw, job.count, tip);
             lines &= unplanned[word];
             unplanned[word] ^= lines;
+            // The first two of a word, which may not be there, cost no branch that is foreseen wrongly.
+            for (size_t turn = 0; turn < 2; turn++) {
+                // 1 where there is a line; as a comparison the compiler would branch on it.
+                const uint64_t there = (lines | -lines) >> 63;
+                const size_t line = 64 * word + lowest(lines | (there ^ 1));
+                plan[line] = static_cast<uint8_t>(plan[line] ^ ((plan[line] ^ tip) & -there));
+                taken.put(number, raw_at(sets + kSet * line), quantities, line);
+                number += there;
+                lines &= lines - there;
+            }
             for (; lines != 0; lines &= lines - 1) {
                 const size_t line = 64 * word + lowest(lines);
                 plan[line] = static_cast<uint8_t>(tip);
-                taken.put(raw.set(line), quantities, line);
+                taken.put(number++, raw_at(sets + kSet * line), quantities, line);
             }
         }
         if (left != 0) {
             Planes gone;
-            gone.count(taken.sets, taken.end(quantities), taken.number, most);
+            gone.count(taken.sets, taken.end(number, quantities), number, most);
             // No count of a later round is above that of this one.
             planes.used = gone.used;
             planes.take(gone);
@@ -460,9 +506,184 @@ uint32_t quick(const Raw &raw, Quantities quantities, const Job &job, size_t mou
     return pairs;
 }
 
+/* At most 64 lines for a rack of at most 8: each set is one byte, and 16 lines are looked at at once. */
+struct Eight {
+    static constexpr size_t kTips = TIPSHARE_JUNIOR_TIPS;
+    static constexpr size_t kLines = TIPSHARE_JUNIOR_LINES;
+    static constexpr size_t kStep = 16;
+    // Up to a whole step the bytes past the last line are 0, those of the quantities anything.
+    alignas(16) uint8_t sets[kLines];
+    alignas(16) uint8_t quantities[kLines];
+    size_t end;
+
+    static bool takes(const Job &job) { return job.rack <= kTips && job.count <= kLines; }
+
+    Eight(const Raw &raw, const Job &job) : end(job.count)
+    {
+        size_t line = 0;
+        for (; line + kStep <= job.count; line += kStep) {
+            put(sets + line, last_bytes(raw.sets + kSet * line));
+        }
+        // Joined before they are written: what is read at once is to be written at once.
+        uint64_t rest[2] = {0, 0};
+        for (size_t behind = 0; line + behind < job.count; behind++) {
+            rest[behind / 8] |= uint64_t{raw.sets[kSet * (line + behind) + kSet - 1]} << 8 * (behind % 8);
+        }
+        if (line < kLines) {
+            put(sets + line, _mm_set_epi64x(static_cast<long long>(rest[1]), static_cast<long long>(rest[0])));
+        }
+        for (size_t ones = 0; ones < kLines; ones += kStep) {
+            put(quantities + ones, _mm_set1_epi8(1));
+        }
+        if (!job.single()) {
+            memcpy(quantities, raw.quantities, job.count);
+        }
+    }
+
+    /* The last bytes of 16 sets as they stand in a file. */
+    static __m128i last_bytes(const uint8_t *from)
+    {
+        __m128i two[8];
+        for (size_t i = 0; i < 8; i++) {
+            two[i] = _mm_srli_epi64(_mm_loadu_si128(reinterpret_cast<const __m128i *>(from + 16 * i)), 56);
+        }
+        __m128i four[4];
+        for (size_t i = 0; i < 4; i++) {
+            four[i] = _mm_packs_epi32(two[2 * i], two[2 * i + 1]);
+        }
+        return _mm_packus_epi16(_mm_packs_epi32(four[0], four[1]), _mm_packs_epi32(four[2], four[3]));
+    }
+
+    static __m128i at(const uint8_t *bytes) { return _mm_load_si128(reinterpret_cast<const __m128i *>(bytes)); }
+
+    static void put(uint8_t *bytes, __m128i to) { _mm_store_si128(reinterpret_cast<__m128i *>(bytes), to); }
+
+    /* All ones for each of 16 lines that has the tip. */
+    __m128i has(size_t line, unsigned tip) const
+    {
+        const __m128i bit = _mm_set1_epi8(static_cast<char>(1 << tip));
+        return _mm_cmpeq_epi8(_mm_and_si128(at(sets + line), bit), bit);
+    }
+
+    /* The lines of each tip as a set of lines. */
+    void list_lines(uint64_t (&lines_of)[kTips]) const
+    {
+        std::fill(std::begin(lines_of), std::end(lines_of), uint64_t{0});
+        for (size_t line = 0; line < end; line += kStep) {
+            __m128i bits = at(sets + line);
+#pragma GCC unroll 8
+            for (size_t tip = kTips; tip-- > 0;) {
+                // The bit of the tip is the sign of its byte.
+                lines_of[tip] |= uint64_t{static_cast<unsigned>(_mm_movemask_epi8(bits))} << line;
+                bits = _mm_add_epi8(bits, bits);
+            }
+        }
+    }
+
+    /* Puts the lines with the tip on it, and leaves the others where they are. */
+    __m128i put_on(unsigned tip, size_t line, __m128i planned) const
+    {
+        const __m128i here = has(line, tip);
+        return _mm_or_si128(_mm_and_si128(here, _mm_set1_epi8(static_cast<char>(tip))), _mm_andnot_si128(here, planned));
+    }
+
+    /* The placements that each tip can take, 16 bits a tip. */
+    __m128i placements() const
+    {
+        __m128i four[2] = {_mm_setzero_si128(), _mm_setzero_si128()};
+#pragma GCC unroll 8
+        for (unsigned tip = 0; tip < kTips; tip++) {
+            __m128i sum = _mm_setzero_si128();
+            for (size_t line = 0; line < end; line += kStep) {
+                const __m128i of_lines = _mm_and_si128(has(line, tip), at(quantities + line));
+                sum = _mm_add_epi64(sum, _mm_sad_epu8(of_lines, _mm_setzero_si128()));
+            }
+            four[tip / 4] = _mm_or_si128(four[tip / 4], _mm_slli_epi64(sum, static_cast<int>(16 * (tip % 4))));
+        }
+        return _mm_add_epi16(_mm_unpacklo_epi64(four[0], four[1]), _mm_unpackhi_epi64(four[0], four[1]));
+    }
+
+    /* Quick sharing; gives the number of pairs. The sets are used up. */
+    uint32_t quick(const Job &job, size_t mounted, uint8_t *plan)
+    {
+        const Order order = order_with(mounted);
+        alignas(16) int16_t behind[kTips];
+        for (unsigned tip = 0; tip < kTips; tip++) {
+            behind[tip] = static_cast<int16_t>(kTips - 1 - order.place_of(tip));
+        }
+        const __m128i later = _mm_load_si128(reinterpret_cast<const __m128i *>(behind));
+        alignas(16) uint8_t planned[kLines];
+        uint32_t pairs = 0;
+        for (uint32_t left = job.total; left != 0;) {
+            // The largest number has the most placements, and on a tie the first place.
+            __m128i keys = _mm_or_si128(_mm_slli_epi16(placements(), 3), later);
+            keys = _mm_max_epi16(keys, _mm_shuffle_epi32(keys, 0x4E));
+            keys = _mm_max_epi16(keys, _mm_shuffle_epi32(keys, 0xB1));
+            keys = _mm_max_epi16(keys, _mm_shufflelo_epi16(keys, 0xB1));
+            const unsigned key = static_cast<unsigned>(_mm_cvtsi128_si32(keys)) & 0xFFFF;
+            const unsigned tip = order.tip_at(static_cast<unsigned>(kTips) - 1 - key % kTips);
+            pairs += pairs_on(key / kTips);
+            left -= key / kTips;
+            for (size_t line = 0; line < end; line += kStep) {
+                put(planned + line, put_on(tip, line, at(planned + line)));
+                put(sets + line, _mm_andnot_si128(has(line, tip), at(sets + line)));
+            }
+        }
+        memcpy(plan, planned, job.count);
+        return pairs;
+    }
+
+    /*
+     * The Junior. Where each line has u or v, those without v have u, and those without u have v: the pairs of a choice
+     * follow from the placements that each tip can take.
+     */
+    Junior choose(const Job &job, uint8_t *plan) const
+    {
+        const unsigned rack = static_cast<unsigned>(job.rack);
+        const uint64_t all = ~uint64_t{0} >> (64 - job.count);
+        alignas(16) uint16_t of_tip[kTips];
+        _mm_store_si128(reinterpret_cast<__m128i *>(of_tip), placements());
+        // The pairs with all lines of a tip on it and the others on one other tip.
+        uint32_t pairs[kTips];
+        for (unsigned tip = 0; tip < rack; tip++) {
+            pairs[tip] = pairs_on(of_tip[tip]) + pairs_on(job.total - of_tip[tip]);
+            // One tip for every line has more pairs than two.
+            if (of_tip[tip] == job.total) {
+                memset(plan, static_cast<int>(tip), job.count);
+                return {pairs[tip], tip, tip};
+            }
+        }
+        uint64_t lines[kTips];
+        list_lines(lines);
+        Junior chosen{0, rack, rack};
+        for (unsigned u = 0; u < rack; u++) {
+            for (unsigned v = u + 1; v < rack; v++) {
+                const uint32_t most = pairs[u] > pairs[v] ? pairs[u] : pairs[v];
+                if ((lines[u] | lines[v]) == all && (chosen.u == rack || most > chosen.pairs)) {
+                    chosen = {most, u, v};
+                }
+            }
+        }
+        if (chosen.u < rack) {
+            const bool to_first = pairs[chosen.u] >= pairs[chosen.v];
+            const unsigned side = to_first ? chosen.u : chosen.v;
+            const unsigned other = to_first ? chosen.v : chosen.u;
+            alignas(16) uint8_t planned[kLines];
+            for (size_t line = 0; line < end; line += kStep) {
+                put(planned + line, put_on(side, line, _mm_set1_epi8(static_cast<char>(other))));
+            }
+            memcpy(plan, planned, job.count);
+        }
+        return chosen;
+    }
+};
+
 /* Quick sharing of a job, its placements counted for it. */
 uint32_t quick_of(const Raw &raw, const Job &job, size_t mounted, uint8_t *plan)
 {
+    if (Eight::takes(job)) {
+        return Eight(raw, job).quick(job, mounted, plan);
+    }
     Planes planes;
     planes.count_file(raw, job);
     return with_quantities(job, raw.quantities,
@@ -548,29 +769,79 @@ struct Stretches {
         }
     }
 
+    /* Stretches without a tip. */
+    void fill_empty()
+    {
+        for (size_t a = 0; a < ranks + 8; a += 4) {
+            _mm_store_ps(left[0] + a, _mm_set1_ps(-1));
+            _mm_store_ps(right[0] + a, _mm_setzero_ps());
+        }
+    }
+
     void fill()
     {
-        for (size_t a = 0; a < kStarts; a++) {
-            left[0][a] = -1;
-            right[0][a] = 0;
-        }
+        fill_empty();
         for (size_t length = 1; length <= ranks; length++) {
             const __m128 one = _mm_set1_ps(1);
             size_t a = 0;
             for (; a <= ranks - length; a += 4) {
-                __m128 lines = _mm_load_ps(within[length] + a);
-                if (length >= 2) {
-                    const float *const shorter = within[length - 1] + a;
-                    const __m128 either = _mm_add_ps(_mm_load_ps(shorter), _mm_loadu_ps(shorter + 1));
-                    lines = _mm_add_ps(lines, _mm_sub_ps(either, _mm_loadu_ps(within[length - 2] + a + 1)));
-                    _mm_store_ps(within[length] + a, lines);
-                }
-                const __m128 most = largest(length, a, _mm_sub_ps(lines, one));
+                const __m128 most = largest(length, a, _mm_sub_ps(sum_within(length, a), one));
                 _mm_store_ps(right[length] + a, most);
                 _mm_store_ps(left[length] + a, _mm_sub_ps(most, one));
             }
             _mm_store_ps(right[length] + a, _mm_setzero_ps());
         }
+    }
+
+    /* The placements within each of four stretches of this length, from those within the shorter ones. */
+    [[gnu::always_inline]] __m128 sum_within(size_t length, size_t a)
+    {
+        __m128 lines = _mm_load_ps(within[length] + a);
+        if (length >= 2) {
+            const float *const shorter = within[length - 1] + a;
+            const __m128 either = _mm_add_ps(_mm_load_ps(shorter), _mm_loadu_ps(shorter + 1));
+            lines = _mm_add_ps(lines, _mm_sub_ps(either, _mm_loadu_ps(within[length - 2] + a + 1)));
+            _mm_store_ps(within[length] + a, lines);
+        }
+        return lines;
+    }
+
+    /*
+     * Takes the entries of a table, entry(a, b) for the ranks a to b; false where some are not below 2^21. Sums of three
+     * may be too large to be exact, and then they are above every entry.
+     */
+    template <typename Entry> bool take(const Entry &entry)
+    {
+        fill_empty();
+        uint32_t joined = 0;
+        for (size_t a = 0; a < ranks; a++) {
+            for (size_t b = a; b < ranks; b++) {
+                const uint32_t pairs = entry(a, b);
+                joined |= pairs;
+                right[b - a + 1][a] = static_cast<float>(static_cast<int32_t>(8 * pairs));
+                left[b - a + 1][a] = static_cast<float>(static_cast<int32_t>(8 * pairs) - 1);
+            }
+        }
+        return joined < uint32_t{1} << 21;
+    }
+
+    /* Whether no entry taken is below what some tip of its stretch needs. */
+    bool hold()
+    {
+        __m128 lacks = _mm_setzero_ps();
+        const __m128 one = _mm_set1_ps(1);
+        for (size_t length = 1; length <= ranks; length++) {
+            const size_t stretches = ranks - length + 1;
+            for (size_t a = 0; a < stretches; a += 4) {
+                const __m128 most = largest(length, a, _mm_sub_ps(sum_within(length, a), one));
+                const __m128 lower = _mm_cmplt_ps(_mm_load_ps(right[length] + a), most);
+                // Behind the last stretch nothing is looked at.
+                const __m128i number = _mm_add_epi32(_mm_set1_epi32(static_cast<int>(a)), _mm_setr_epi32(0, 1, 2, 3));
+                const __m128i here = _mm_cmplt_epi32(number, _mm_set1_epi32(static_cast<int>(stretches)));
+                lacks = _mm_or_ps(lacks, _mm_and_ps(lower, _mm_castsi128_ps(here)));
+            }
+        }
+        return _mm_movemask_ps(lacks) == 0;
     }
 
     /* The largest number over the tips of each of four stretches. */
@@ -579,19 +850,29 @@ struct Stretches {
         const float *const all_within = within[0];
         const float *const all_left = left[0];
         const float *const all_right = right[0];
-        size_t on_left = a;
-        size_t on_right = kStarts * (length - 1) + a + 1;
-        __m128 best = _mm_setzero_ps();
-#pragma GCC unroll 4
-        for (size_t d = 0; d < length; d++) {
+        const auto with_tip = [=](size_t on_left, size_t on_right) {
             const __m128 not_left = _mm_sub_ps(lines, _mm_load_ps(all_within + on_left));
             const __m128 in_neither = _mm_sub_ps(not_left, _mm_loadu_ps(all_within + on_right));
             const __m128 beside = _mm_add_ps(_mm_load_ps(all_left + on_left), _mm_loadu_ps(all_right + on_right));
-            best = _mm_max_ps(best, _mm_add_ps(_mm_mul_ps(in_neither, in_neither), beside));
-            on_left += kStarts;
-            on_right -= kStarts - 1;
+            return _mm_add_ps(_mm_mul_ps(in_neither, in_neither), beside);
+        };
+        size_t on_left = a;
+        size_t on_right = kStarts * (length - 1) + a + 1;
+        // Every other tip by itself: a largest waits for the one before it.
+        __m128 best = _mm_setzero_ps();
+        __m128 other = best;
+        size_t d = 0;
+#pragma GCC unroll 2
+        for (; d + 2 <= length; d += 2) {
+            best = _mm_max_ps(best, with_tip(on_left, on_right));
+            other = _mm_max_ps(other, with_tip(on_left + kStarts, on_right - (kStarts - 1)));
+            on_left += 2 * kStarts;
+            on_right -= 2 * (kStarts - 1);
         }
-        return best;
+        if (d < length) {
+            best = _mm_max_ps(best, with_tip(on_left, on_right));
+        }
+        return _mm_max_ps(best, other);
     }
 
     uint32_t pairs_of(size_t a, size_t b) const { return static_cast<uint32_t>(right[b - a + 1][a]) / 8; }
@@ -611,71 +892,51 @@ uint32_t best(const uint64_t *sets, const uint8_t *quantities, const Job &job, c
 }
 
 /*
- * A table whose entries are all small, in rows of whole steps. Where a stretch is empty the entry is 0. Before that and
- * behind the rack it falls from row to row, by more than a number of pairs and an entry, so that nothing is lacking there.
+ * A table as best sharing writes it, by ranks: the row of a tip that is not named is the row below it, a column of one is
+ * that before it, and where no tip is named the entry is 0. Then only the stretches between named tips are left to look at.
  */
 struct Entries {
-    static constexpr size_t kStep = 8;
-    static constexpr int32_t kMost = 1 << 22;
-    static constexpr int32_t kFall = 2 * kMost;
-    alignas(16) int32_t of[kMostTips + 1][kMostTips];
+    const uint32_t *table;
+    size_t rack;
+    const Named &named;
 
-    /* Whether all are small. */
-    bool fill(const uint32_t *table, size_t rack)
+    uint32_t at(size_t a, size_t b) const { return table[a * rack + b]; }
+
+    bool has_rows_of_named() const
     {
-        uint32_t joined = 0;
-        for (size_t a = 0; a <= rack; a++) {
-            for (size_t b = 0; b < a && b < kMostTips; b++) {
-                of[a][b] = static_cast<int32_t>(b + 1) * kFall - static_cast<int32_t>(a) * kFall;
-            }
-            for (size_t b = a; b < rack; b++) {
-                joined |= table[a * rack + b];
-                of[a][b] = static_cast<int32_t>(table[a * rack + b]);
-            }
-            for (size_t b = rack; b < kMostTips; b++) {
-                of[a][b] = static_cast<int32_t>(kMostTips + 1 - a) * kFall;
-            }
-        }
-        return joined < uint32_t{kMost};
-    }
-
-    static __m128i four(const int32_t *at) { return _mm_load_si128(reinterpret_cast<const __m128i *>(at)); }
-
-    static __m128i eight(const int16_t *at) { return _mm_load_si128(reinterpret_cast<const __m128i *>(at)); }
-
-    /* Whether no entry is below what some named tip of its stretch needs; eight stretches at once. */
-    bool hold(const Within &within, const Named &named, size_t rack) const
-    {
-        // Below zero where an entry is too low.
-        __m128i lacks = _mm_setzero_si128();
-        const __m128i one = _mm_set1_epi16(1);
         for (size_t a = 0; a < rack; a++) {
-            const int32_t *const entries = of[a];
-            const int16_t *const all = within.of[a];
-            for (uint64_t rest = named.tips >> a << a; rest != 0; rest &= rest - 1) {
-                const size_t c = lowest(rest);
-                const __m128i on_left = _mm_set1_epi16(c > a ? all[c - 1] : int16_t{0});
-                const __m128i below = _mm_set1_epi32(c > a ? entries[c - 1] : 0);
-                const int16_t *const on_right = within.of[c + 1];
-                const int32_t *const above = of[c + 1];
-                for (size_t b = c / kStep * kStep; b < rack; b += kStep) {
-                    const __m128i not_left = _mm_sub_epi16(eight(all + b), on_left);
-                    const __m128i placements = _mm_sub_epi16(not_left, eight(on_right + b));
-                    const __m128i others = _mm_sub_epi16(placements, one);
-                    const __m128i low = _mm_mullo_epi16(placements, others);
-                    const __m128i high = _mm_mulhi_epi16(placements, others);
-                    const __m128i pairs1 = _mm_srai_epi32(_mm_unpacklo_epi16(low, high), 1);
-                    const __m128i pairs2 = _mm_srai_epi32(_mm_unpackhi_epi16(low, high), 1);
-                    const __m128i beside1 = _mm_add_epi32(below, four(above + b));
-                    const __m128i beside2 = _mm_add_epi32(below, four(above + b + 4));
-                    const __m128i lacks1 = _mm_sub_epi32(four(entries + b), _mm_add_epi32(beside1, pairs1));
-                    const __m128i lacks2 = _mm_sub_epi32(four(entries + b + 4), _mm_add_epi32(beside2, pairs2));
-                    lacks = _mm_or_si128(lacks, _mm_or_si128(lacks1, lacks2));
-                }
+            if ((named.tips >> a & 1) != 0) {
+                continue;
+            }
+            // From the first named tip on as the row below, and 0 before it.
+            const uint64_t above = named.tips >> a >> 1;
+            const size_t first = above == 0 ? rack : a + 1 + lowest(above);
+            uint32_t differs = 0;
+            for (size_t b = a; b < first; b++) {
+                differs |= at(a, b);
+            }
+            if (differs != 0 || (first < rack && memcmp(table + a * rack + first, table + (a + 1) * rack + first,
+                                                       (rack - first) * sizeof *table) != 0)) {
+                return false;
             }
         }
-        return _mm_movemask_ps(_mm_castsi128_ps(lacks)) == 0;
+        return true;
     }
+
+    bool has_columns_of_named() const
+    {
+        uint32_t differs = 0;
+        for (uint64_t rest = named.tips; rest != 0; rest &= rest - 1) {
+            const size_t a = lowest(rest);
+            for (size_t b = a + 1; b < rack; b++) {
+                const uint32_t unnamed = static_cast<uint32_t>(named.tips >> b & 1) - 1;
+                differs |= (at(a, b) ^ at(a, b - 1)) & unnamed;
+            }
+        }
+        return differs == 0;
+    }
+
+    bool is_by_ranks() const { return named.count == rack || (has_rows_of_named() && has_columns_of_named()); }
 };
 
 /*
@@ -938,82 +1199,6 @@ struct Reach {
     }
 };
 
-/*
- * The Junior. Each set is one byte, so that the lines of a tip are one word. Where each line has u or v, those without v
- * have u, and those without u have v: the pairs of a choice follow from the placements that each tip can take.
- */
-struct Eight {
-    static constexpr size_t kTips = TIPSHARE_JUNIOR_TIPS;
-    // Bytes past the last line are 0.
-    alignas(16) uint8_t sets[64];
-    alignas(16) uint8_t quantities[64];
-    uint64_t lines_of[kTips];
-    uint32_t placements[kTips];
-
-    Eight(const Raw &raw, const Job &job)
-    {
-        memset(sets, 0, sizeof sets);
-        for (size_t line = 0; line < job.count; line++) {
-            sets[line] = raw.sets[kSet * line + kSet - 1];
-        }
-        if (!job.single()) {
-            memset(quantities, 0, sizeof quantities);
-            memcpy(quantities, raw.quantities, job.count);
-        }
-        for (size_t tip = 0; tip < kTips; tip++) {
-            const __m128i bit = _mm_set1_epi8(static_cast<char>(1 << tip));
-            uint64_t lines = 0;
-            __m128i sum = _mm_setzero_si128();
-            for (size_t block = 0; block < 64; block += 16) {
-                const __m128i of_sets = _mm_load_si128(reinterpret_cast<const __m128i *>(sets + block));
-                const __m128i has = _mm_cmpeq_epi8(_mm_and_si128(of_sets, bit), bit);
-                lines |= uint64_t{static_cast<unsigned>(_mm_movemask_epi8(has))} << block;
-                if (!job.single()) {
-                    const __m128i of_lines = _mm_load_si128(reinterpret_cast<const __m128i *>(quantities + block));
-                    sum = _mm_add_epi64(sum, _mm_sad_epu8(_mm_and_si128(has, of_lines), _mm_setzero_si128()));
-                }
-            }
-            lines_of[tip] = lines;
-            placements[tip] = job.single() ? static_cast<uint32_t>(__builtin_popcountll(lines))
-                                           : static_cast<uint32_t>(_mm_cvtsi128_si32(sum) + _mm_extract_epi16(sum, 4));
-        }
-    }
-
-    Junior choose(const Job &job, uint8_t *plan) const
-    {
-        const unsigned rack = static_cast<unsigned>(job.rack);
-        const uint64_t all = ~uint64_t{0} >> (64 - job.count);
-        // The pairs with all lines of a tip on it and the others on one other tip.
-        uint32_t pairs[kTips];
-        for (unsigned tip = 0; tip < rack; tip++) {
-            pairs[tip] = pairs_on(placements[tip]) + pairs_on(job.total - placements[tip]);
-            // One tip for every line has more pairs than two.
-            if (lines_of[tip] == all) {
-                memset(plan, static_cast<int>(tip), job.count);
-                return {pairs[tip], tip, tip};
-            }
-        }
-        Junior chosen{0, rack, rack};
-        for (unsigned u = 0; u < rack; u++) {
-            for (unsigned v = u + 1; v < rack; v++) {
-                const uint32_t most = pairs[u] > pairs[v] ? pairs[u] : pairs[v];
-                if ((lines_of[u] | lines_of[v]) == all && (chosen.u == rack || most > chosen.pairs)) {
-                    chosen = {most, u, v};
-                }
-            }
-        }
-        if (chosen.u < rack) {
-            const bool to_first = pairs[chosen.u] >= pairs[chosen.v];
-            const unsigned side = to_first ? chosen.u : chosen.v;
-            const unsigned other = to_first ? chosen.v : chosen.u;
-            for (size_t line = 0; line < job.count; line++) {
-                plan[line] = static_cast<uint8_t>((sets[line] >> side & 1) != 0 ? side : other);
-            }
-        }
-        return chosen;
-    }
-};
-
 }  // namespace
 
 extern "C" {
@@ -1128,10 +1313,15 @@ uint32_t tuned_check(const uint8_t *file, size_t file_len, const uint8_t *plan, 
             if (named.count == 0) {
                 return true;
             }
-            const Within within(lines, job);
-            Entries entries;
-            return entries.fill(table, job.rack) ? entries.hold(within, named, job.rack)
-                                                 : no_entry_too_low(within, named, table);
+            const Entries entries{table, job.rack, named};
+            Stretches stretches(named, TIPSHARE_NO_TIP);
+            const auto entry = [&](size_t a, size_t b) { return entries.at(named.tip[a], named.tip[b]); };
+            if (entries.is_by_ranks() && stretches.take(entry)) {
+                with_quantities(job, lines.quantities,
+                                [&](auto all) { stretches.count(lines.sets, all, job.count, named); });
+                return stretches.hold();
+            }
+            return no_entry_too_low(Within(lines, job), named, table);
         });
     });
 }
@@ -1208,7 +1398,8 @@ uint32_t tuned_order(const uint32_t *parts, size_t parts_len, const uint32_t *ru
 {
     return order::answer_order({parts, parts_len, rules, rules_len, order, order_len, answer, answer_len},
                                [](const order::Given &given, uint8_t *found) {
-                                   return order::Tuned(given).least(found);
+                                   return given.count <= 64 ? order::Tuned<1>(given).least(found)
+                                                            : order::Tuned<2>(given).least(found);
                                });
 }
 

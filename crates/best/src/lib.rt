@@ -1,16 +1,44 @@
 // Best sharing over slices, on the board renumbered: its placements are summed, its table filled and its plan laid; then both are made the board's.
 ghost use mathlib.Core.Path.{_≡_};
-ghost use Prim.Native.Nat.{_*_};
+ghost use Prim.Native.Nat.{_*_, _≤_};
 ghost use lib.ListN.{length, take};
 ghost use Rattle.model.specs.Interval.{C, table as tableOf};
 ghost use Rattle.model.specs.Renumber.{names as namesOf};
 ghost use Rattle.placements.specs.Repeated.{repeated};
 ghost use Rattle.placements.specs.Plans.{bestPlanQ};
+ghost use Rattle.spans.specs.Spans.{sumsSize};
 ghost use Rattle.head.specs.OnHead.{onHead};
 ghost use Rattle.best.specs.Runs.{NamedRuns, FullRuns, Ranked};
 use head::Mounted;
 
-// The plan and the table of unbroken runs that name every tip of the rack.
+// A place for each run of a rack of 16 tips, and of the largest.
+const SMALL_TABLE: usize = 256;
+
+const TABLE_SIZE: usize = model::MOST_TIPS * model::MOST_TIPS;
+
+// The plan and the table of unbroken runs that name every tip of the rack, made in places that are lent.
+fn plan_in(
+    m: usize,
+    mounted: Mounted,
+    sets: &[u64],
+    quantities: &[u8],
+    sums: &mut [u32],
+    owner: &mut [u8],
+    plan: &mut [u8],
+    table: &mut [u32],
+)
+    requires { ⌜ FullRuns m (now quantities) (now sets) × (length (now sums) ≡ sumsSize m) × (m * m ≤ length (now owner))
+        × (length (now plan) ≡ length (now sets)) × (length (now table) ≡ m * m) ⌝ }
+    ensures plan { λ _. ⌜ now (plan .exit) ≡ bestPlanQ (onHead mounted) m (now (quantities .entry)) (now (sets .entry)) ⌝ }
+    ensures table { λ _. ⌜ now (table .exit) ≡ tableOf m (repeated (now (quantities .entry)) (now (sets .entry))) ⌝ }
+{
+    let pairs = pair_count::pair_table();
+    spans::sum_spans(m, sets, quantities, sums);
+    table::fill_table(m, &pairs, sums, table);
+    layout::plan_lines(m, mounted, sets, &pairs, sums, table, owner, plan);
+}
+
+// The same, for a small rack in small places, which are made more quickly.
 fn plan_runs(
     m: usize,
     mounted: Mounted,
@@ -23,10 +51,34 @@ fn plan_runs(
     ensures plan { λ _. ⌜ now (plan .exit) ≡ bestPlanQ (onHead mounted) m (now (quantities .entry)) (now (sets .entry)) ⌝ }
     ensures table { λ _. ⌜ now (table .exit) ≡ tableOf m (repeated (now (quantities .entry)) (now (sets .entry))) ⌝ }
 {
-    let mut sums = [0u32; spans::SUMS_SIZE];
-    spans::sum_spans(sets, quantities, &mut sums);
-    table::fill_table(m, &sums, table);
-    layout::plan_lines(m, mounted, sets, &sums, table, plan);
+    let size = spans::sums_size(m);
+    if m <= 16 {
+        let mut sums = spans::small_sums();
+        let mut owner = [0u8; SMALL_TABLE];
+        plan_in(
+            m,
+            mounted,
+            sets,
+            quantities,
+            &mut sums[..size],
+            &mut owner,
+            plan,
+            table,
+        );
+        return;
+    }
+    let mut sums = spans::most_sums();
+    let mut owner = [0u8; TABLE_SIZE];
+    plan_in(
+        m,
+        mounted,
+        sets,
+        quantities,
+        &mut sums[..size],
+        &mut owner,
+        plan,
+        table,
+    );
 }
 
 // The same at the front of the table, for a rack that may have no tip: then there is no line.

@@ -39,7 +39,13 @@ pub bare-as-before : (b : Board) → AsBefore b (stateRefusal Closed b) (b .rack
 unfolding quickOf quickBuffer bestOf bestBuffer bestTable Lines.quickOf Lines.quickBuffer Lines.bestOf Lines.bestBuffer Lines.bestTable
     mountedRefusal
 bare-as-before b =
-    record { quick = λ room. refl; quick-plan = λ plan. refl; best = λ room places. refl; best-plan = λ plan places. refl; best-table = λ room cells. refl }
+    record {
+      quick = λ room. refl;
+      quick-plan = λ plan. refl;
+      best = λ room places. refl;
+      best-plan = λ plan places. refl;
+      best-table = λ room cells. refl;
+    }
 
 -- BEST SHARING HAS THE SAME PAIRS AND THE SAME TABLE FOR EVERY MOUNTED TIP
 module _ (b : Board) (mounted : Mounted) (inside : isOutside (b .rack) mounted ≡ false) where

@@ -134,7 +134,8 @@ module _ (earlier : Refusal) where
   mounted-inside m mounted e = rw e
 
   -- the rack counts only where nothing is refused before
-  pub mounted-same : {m n : ℕ} (mounted : Mounted) → (earlier .number ≡ 0 → m ≡ n) → mountedRefusal earlier m mounted ≡ mountedRefusal earlier n mounted
+  pub mounted-same : {m n : ℕ} (mounted : Mounted) → (earlier .number ≡ 0 → m ≡ n)
+      → mountedRefusal earlier m mounted ≡ mountedRefusal earlier n mounted
   mounted-same {m} {n} mounted same = by (accepts earlier) refl
     where
       by : (t : Bool) → accepts earlier ≡ t → mountedRefusal earlier m mounted ≡ mountedRefusal earlier n mounted

@@ -4,17 +4,15 @@ use native.Mathlib.Omega.{arith}
 use native.Mathlib.Nat.{mul-le-mul-right}
 use native.Mathlib.Numerals.{add-one}
 use mathlib.Core.Path.{_≡_, ap, _∙_}
-use mathlib.Core.Logic.{⊎-elim}
-use mathlib.Core.Bool.{Bool, true, false, not, _||_}
+use mathlib.Core.Bool.{Bool, true, false, not, _&&_, _||_}
 use mathlib.Core.List.{List}
-use lib.Dec.{leb, not-T}
+use lib.Dec.{T, leb→le, le→leb, eqb, eqb→eq, not-T}
 use lib.ListN.{length, getD}
-use Rattle.model.specs.Limits.{mostTips, mostPlacements}
+use Rattle.model.specs.Limits.{mostPlacements}
 use Rattle.model.specs.Count.{All, every}
 use Rattle.model.specs.Plan.{has, choose2}
-use Rattle.model.specs.Interval.{Line, named}
-use Rattle.model.proofs.Tests.{test, false-T, every-iff}
-use Rattle.model.proofs.Cong.{every-cong}
+use Rattle.model.specs.Interval.{Line, named, Dominates, inside}
+use Rattle.model.proofs.Tests.{false-T, every-iff, imply-in, imply-out, same-test, and-left, and-right, and-in, eqb-T}
 use Rattle.model.proofs.Names.{names-named}
 use Rattle.model.proofs.Run.{named-lines}
 use Rattle.placements.specs.Repeated.{repeated}
@@ -22,14 +20,28 @@ use Rattle.placements.proofs.Repeated.{all-repeated}
 use Rattle.placements.proofs.Good.{good-placements}
 use Rattle.spans.specs.Spans.{sums, insideBy}
 use Rattle.spans.proofs.Below.{below-le, below-mono, sums-at, summed}
-use Rattle.goals.specs.Check.{entry, atTip, bounds}
-use Rattle.checking.specs.Checking.{atBy, tipsBy, widthsBy, boundsBy, Ready, NamedRuns}
+use Rattle.goals.specs.Check.{entry, bounds}
+use Rattle.goals.proofs.Check.{bounds-iff}
+use Rattle.checking.specs.Checking.{splitBy, endBy, endsBy, tipBy, boundsBy, Ready, NamedRuns}
 use Rattle.checking.proofs.Filled.{insideBy-ok}
 
 -- the test of one number more
 pub every-more : (f : ℕ → Bool) (n : ℕ) → every f n ≡ true → f n ≡ true → every f (n + 1) ≡ true
 unfolding every
 every-more f n h g = rw (add-one, h, g)
+
+-- and counted: no number before fails, and this one does not
+pub every-next : (f : ℕ → Bool) (n : ℕ) (k r : ℕ) → eqb k 0 ≡ every f n → eqb r 0 ≡ f n → eqb (k + r) 0 ≡ every f (n + 1)
+unfolding every
+every-next f n k r h g = none ∙ rw (h, g, add-one)
+  where
+    none : eqb (k + r) 0 ≡ (eqb k 0 && eqb r 0)
+    none = same-test _ _
+        (λ t. let e = eqb→eq (k + r) 0 t in and-in (eqb k 0) (eqb r 0) (eqb-T k 0 (omega arith)) (eqb-T r 0 (omega arith)))
+        (λ t.
+        let e = eqb→eq k 0 (and-left (eqb k 0) (eqb r 0) t) in
+        let g = eqb→eq r 0 (and-right (eqb k 0) (eqb r 0) t) in
+        eqb-T (k + r) 0 (omega arith))
 
 -- one number that fails
 pub every-stop : (f : ℕ → Bool) (n i : ℕ) → i < n → f i ≡ false → every f n ≡ false
@@ -50,13 +62,13 @@ entry-some m tab a (suc w) h =
     ap (λ k. getD tab (a * m + (a + k)) 0) e
 
 -- no count by the sums is above the number of lines
-pub inside-le : (lines : List ℕ) (a w c : ℕ) → a + w ≤ mostTips → a ≤ c → c < a + w → insideBy (sums lines) a w c ≤ length lines
+pub inside-le : (m : ℕ) (lines : List ℕ) (a w c : ℕ) → a + w ≤ m → a ≤ c → c < a + w → insideBy m (sums m lines) a w c ≤ length lines
 unfolding insideBy
-inside-le lines a w c e f g = omega (
+inside-le m lines a w c e f g = omega (
   arith,
-  sums-at lines (c + 1) (a + w) (omega arith) (omega arith),
-  sums-at lines a c (omega arith) (omega arith),
-  sums-at lines a (a + w) (omega arith) (omega arith),
+  sums-at m lines (c + 1) (a + w) (omega arith) (omega arith),
+  sums-at m lines a c (omega arith) (omega arith),
+  sums-at m lines a (a + w) (omega arith) (omega arith),
   below-mono lines a c (a + w) (omega arith),
   below-le lines (c + 1) (a + w),
 )
@@ -80,27 +92,57 @@ module _ {names m : ℕ} {qs lines : List ℕ} (r : NamedRuns names m qs lines) 
   placed-lines = all-repeated qs (rw has-named at named-runs)
 
   -- the sums of the placements can be read
-  pub ready : (tab : List ℕ) → m * m ≤ length tab → Ready m (sums placed) tab
-  ready tab h =
-      let narrow = r .good .most in record {
-        rack = narrow;
-        size = h;
-        summed = λ a w c e f g. summed placed a w c (omega arith) f g few;
-        few = λ a w c e f g. omega (arith, few, inside-le placed a w c (omega arith) f g);
-      }
+  pub ready : (tab : List ℕ) → m * m ≤ length tab → Ready m (sums m placed) tab
+  ready tab h = record {
+    rack = r .good .most;
+    size = h;
+    summed = λ a w c e f g. summed m placed a w c e f g few;
+    few = λ a w c e f g. omega (arith, few, inside-le m placed a w c e f g);
+  }
 
-  -- the test at one tip
-  tip-same : (tab : List ℕ) (a w i : ℕ) → a + w ≤ m → i < w
-      → atBy names m (sums placed) tab a w (entry m tab a w) i ≡ atTip (named lines) m placed tab a w i
-  unfolding atBy
-  tip-same tab a w i e l = rw has-named (⊎-elim
-      (λ t. ap (λ p. not (named lines (a + i)) || leb (choose2 p + (entry m tab a i + entry m tab (a + i + 1) (w - (i + 1)))) (entry m tab a w))
-      (insideBy-ok placed (r .good .most) placed-lines a w (a + i) (omega (arith, r .good .most)) (omega arith) (omega arith) t))
-      (λ t. rw (false-T (named lines (a + i)) t))
-      (test (named lines (a + i))))
+  module _ (tab : List ℕ) where
+    -- the split at a named tip
+    split-same : (a c b : ℕ) → a ≤ c → c ≤ b → b < m → T (named lines c)
+        → splitBy m (sums m placed) tab a c b
+        ≡ choose2 (inside placed a (b + 1 - a) c) + (entry m tab a (c - a) + entry m tab (c + 1) (b - c))
+    split-same a c b f g e t = ap (λ p. choose2 p + (entry m tab a (c - a) + entry m tab (c + 1) (b - c)))
+        (insideBy-ok placed (r .good .most) placed-lines a (b + 1 - a) c (omega arith) f (omega arith) t)
 
-  -- THE BOUNDS by the sums are those of the definition
-  pub bounds-same : (tab : List ℕ) → boundsBy names m (sums placed) tab ≡ bounds (named lines) m placed tab
-  unfolding boundsBy widthsBy tipsBy bounds
-  bounds-same tab =
-      every-cong _ _ m (λ a p. every-cong _ _ (m - a + 1) (λ w q. every-cong _ _ w (λ i l. tip-same tab a w i (omega arith) l)))
+    -- every split at a named tip is at most its entry where the test passes
+    bounds-out : T (boundsBy names m (sums m placed) tab) → Dominates (named lines) m placed (entry m tab)
+    unfolding boundsBy tipBy endsBy
+    bounds-out x a w i e l o =
+        let c = a + i in
+        let b = a + w - 1 in
+        let y = every-iff (λ c. not (has names c) || tipBy m (sums m placed) tab c) m .0 x c (omega arith) in
+        let z = imply-out (has names c) (tipBy m (sums m placed) tab c) y (rw has-named o) in
+        let u = every-iff (λ a. endsBy m (sums m placed) tab a c) (c + 1) .0 z a (omega arith) in
+        let v = every-iff (λ j. endBy m (sums m placed) tab a c (c + j)) (m - c) .0 u (b - c) (omega arith) in
+        let eb : c + (b - c) ≡ b = omega arith in
+        let ew : b + 1 - a ≡ w = omega arith in
+        let ei : c - a ≡ i = omega arith in
+        let ej : b - c ≡ w - (i + 1) = omega arith in
+        let t : T (endBy m (sums m placed) tab a c b) = rw eb at v in
+        let s = leb→le (splitBy m (sums m placed) tab a c b) (entry m tab a (b + 1 - a)) t in
+        rw (ew, ei, ej) at (rw (split-same a c b (omega arith) (omega arith) (omega arith) o) at s)
+
+    bounds-in : Dominates (named lines) m placed (entry m tab) → T (boundsBy names m (sums m placed) tab)
+    unfolding boundsBy tipBy endsBy
+    bounds-in d = every-iff (λ c. not (has names c) || tipBy m (sums m placed) tab c) m .1 (λ c p.
+        imply-in (has names c) (tipBy m (sums m placed) tab c) (λ o.
+        every-iff (λ a. endsBy m (sums m placed) tab a c) (c + 1) .1 (λ a f.
+        every-iff (λ j. endBy m (sums m placed) tab a c (c + j)) (m - c) .1 (λ j g.
+        let n : T (named lines c) = rw (← has-named) o in
+        let b = c + j in
+        let i = c - a in
+        let w = b + 1 - a in
+        let ec : a + i ≡ c = omega arith in
+        let ej : w - (i + 1) ≡ b - c = omega arith in
+        le→leb (splitBy m (sums m placed) tab a c b) (entry m tab a (b + 1 - a)) (rw (split-same a c b (omega arith) (omega arith) (omega arith) n)
+        (rw (ec, ej) at (d a w i (omega arith) (omega arith) (rw ec n))))))))
+
+    -- THE BOUNDS by the sums are those of the definition
+    pub bounds-same : boundsBy names m (sums m placed) tab ≡ bounds (named lines) m placed tab
+    bounds-same =
+        let iff = bounds-iff (named lines) m placed tab in
+        same-test _ _ (λ x. iff .1 (bounds-out x)) (λ x. bounds-in (iff .0 x))

@@ -68,10 +68,10 @@ module _ {ok : ℕ → Bool} {m : ℕ} (lines : List ℕ) (narrow : m ≤ mostTi
   wide = all-map (λ s l. (l, record { some = l .domain .some; below = lt-of-lt-of-le (l .domain .below) (pow-mono narrow) })) ls
 
   -- the same sums
-  sums-filled : sums (map filled lines) ≡ sums lines
+  sums-filled : sums m (map filled lines) ≡ sums m lines
   unfolding sums below
-  sums-filled = listOf-cong _ _ sumsSize (λ k _.
-      count-map (λ s. ltb (low s) (k / sumsWidth) && ltb (high s) (k % sumsWidth)) filled lines
+  sums-filled = listOf-cong _ _ (sumsSize m) (λ k _.
+      count-map (λ s. ltb (low s) (k / sumsWidth m) && ltb (high s) (k % sumsWidth m)) filled lines
       ∙ count-cong (all-map (λ s (_, d). rw (filled-low d, filled-high d)) wide))
 
   -- the same count at a tip that is ok
@@ -88,8 +88,8 @@ module _ {ok : ℕ → Bool} {m : ℕ} (lines : List ℕ) (narrow : m ≤ mostTi
       )) wide)
 
   -- FOUR PLACES of the sums tell how many of the lines lying within the interval allow tip c, a tip that is ok
-  pub insideBy-ok : (a w c : ℕ) → a + w ≤ mostTips → a ≤ c → c < a + w → T (ok c) → insideBy (sums lines) a w c ≡ inside lines a w c
+  pub insideBy-ok : (a w c : ℕ) → a + w ≤ m → a ≤ c → c < a + w → T (ok c) → insideBy m (sums m lines) a w c ≡ inside lines a w c
   insideBy-ok a w c e f g o = rw (← sums-filled)
-      (insideBy-inside (map filled lines) a w c e f g {m = mostTips} (omega arith)
+      (insideBy-inside m (map filled lines) a w c e f g {n = mostTips} (omega arith)
       (all-mapped filled (all-map (λ s (_, d). filled-domain d) wide)) (all-mapped filled (all-map (λ s (_, d). filled-run d) wide))
       ∙ inside-filled a w c o)

@@ -1,10 +1,10 @@
 -- A plan, a claim and a table from other software: what is refused, and how the sums of the placements tell it.
-use Prim.Native.Nat.{ℕ, _+_, _*_, _-_, _≤_, _<_}
+use Prim.Native.Nat.{ℕ, _+_, _*_, _-_, _%_, _^_, _≤_, _<_}
 use mathlib.Core.Path.{_≡_}
 use mathlib.Core.Bool.{Bool, not, _&&_, _||_}
 use mathlib.Core.List.{List}
 use lib.Dec.{T, leb, eqb}
-use lib.ListN.{length}
+use lib.ListN.{length, getD}
 use Rattle.model.specs.Limits.{mostTips, mostPlacements}
 use Rattle.model.specs.Count.{All, every, listOf}
 use Rattle.model.specs.Plan.{has, uses, pairs, choose2}
@@ -41,29 +41,46 @@ pub record NamedRuns (names m : ℕ) (qs lines : List ℕ) : Type 0 where
 unfoldable pub onTips : List ℕ → List ℕ
 onTips placed = listOf (uses placed) mostTips
 
--- the pairs of the interval if tip a + i takes its lines, from the sums xs and the table
+-- the pairs of the interval from tip a to tip b if tip c takes its lines, from the sums xs and the table
 abbrev pub splitBy : ℕ → List ℕ → List ℕ → ℕ → ℕ → ℕ → ℕ
-splitBy m xs tab a w i = choose2 (insideBy xs a w (a + i)) + (entry m tab a i + entry m tab (a + i + 1) (w - (i + 1)))
+splitBy m xs tab a c b = choose2 (insideBy m xs a (b + 1 - a) c) + (entry m tab a (c - a) + entry m tab (c + 1) (b - c))
 
--- tip a + i is not named, or its split is at most e
-unfoldable pub atBy : ℕ → ℕ → List ℕ → List ℕ → ℕ → ℕ → ℕ → ℕ → Bool
-atBy names m xs tab a w e i = not (has names (a + i)) || leb (splitBy m xs tab a w i) e
+-- it is at most the entry of the interval
+abbrev pub endBy : ℕ → List ℕ → List ℕ → ℕ → ℕ → ℕ → Bool
+endBy m xs tab a c b = leb (splitBy m xs tab a c b) (entry m tab a (b + 1 - a))
 
--- and so at each tip of the interval
-unfoldable pub tipsBy : ℕ → ℕ → List ℕ → List ℕ → ℕ → ℕ → Bool
-tipsBy names m xs tab a w = every (atBy names m xs tab a w (entry m tab a w)) w
+-- and so at each last tip, from c on
+unfoldable pub endsBy : ℕ → List ℕ → List ℕ → ℕ → ℕ → Bool
+endsBy m xs tab a c = every (λ j. endBy m xs tab a c (c + j)) (m - c)
 
--- and so for each interval from a on
-unfoldable pub widthsBy : ℕ → ℕ → List ℕ → List ℕ → ℕ → Bool
-widthsBy names m xs tab a = every (tipsBy names m xs tab a) (m - a + 1)
+-- and so for each first tip, up to c
+unfoldable pub tipBy : ℕ → List ℕ → List ℕ → ℕ → Bool
+tipBy m xs tab c = every (λ a. endsBy m xs tab a c) (c + 1)
 
--- and so for each interval
+-- and so for each named tip
 unfoldable pub boundsBy : ℕ → ℕ → List ℕ → List ℕ → Bool
-boundsBy names m xs tab = every (widthsBy names m xs tab) m
+boundsBy names m xs tab = every (λ c. not (has names c) || tipBy m xs tab c) m
 
 -- the table has its m * m places, and of the sums each interval's counts can be read and are few
 pub record Ready (m : ℕ) (xs tab : List ℕ) : Type 0 where
   pub rack : m ≤ mostTips
   pub size : m * m ≤ length tab
-  pub summed : (a w c : ℕ) → a + w ≤ m → a ≤ c → c < a + w → Summed xs a w c
-  pub few : (a w c : ℕ) → a + w ≤ m → a ≤ c → c < a + w → insideBy xs a w c ≤ mostPlacements
+  pub summed : (a w c : ℕ) → a + w ≤ m → a ≤ c → c < a + w → Summed m xs a w c
+  pub few : (a w c : ℕ) → a + w ≤ m → a ≤ c → c < a + w → insideBy m xs a w c ≤ mostPlacements
+
+-- the split at place i of lists: the sums of the row after the tip, shifted, less those of the first tip's row; and the entries right of the tip
+abbrev pub splitAt : ℕ → ℕ → List ℕ → List ℕ → List ℕ → ℕ → ℕ
+splitAt left shift nexts firsts rights i = choose2 ((getD nexts i 0 + shift) % 2 ^ 32 - getD firsts i 0) + (left + getD rights i 0)
+
+-- it is at most this entry, at each place
+unfoldable pub endsAt : ℕ → ℕ → List ℕ → List ℕ → List ℕ → List ℕ → Bool
+endsAt left shift nexts firsts rights mosts = every (λ i. leb (splitAt left shift nexts firsts rights i) (getD mosts i 0)) (length mosts)
+
+-- lists of one length, whose sums can be subtracted and tell few placements
+pub record EndLists (left shift : ℕ) (nexts firsts rights mosts : List ℕ) : Type 0 where
+  pub as-nexts : length nexts ≡ length mosts
+  pub as-firsts : length firsts ≡ length mosts
+  pub as-rights : length rights ≡ length mosts
+  pub entry-left : left < 2 ^ 32
+  pub covers : (i : ℕ) → i < length mosts → getD firsts i 0 ≤ (getD nexts i 0 + shift) % 2 ^ 32
+  pub few : (i : ℕ) → i < length mosts → (getD nexts i 0 + shift) % 2 ^ 32 ≤ getD firsts i 0 + mostPlacements

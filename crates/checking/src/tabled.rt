@@ -2,62 +2,100 @@
 use crate::entry_at;
 ghost use mathlib.Core.Path.{_≡_};
 ghost use mathlib.Core.Bool.{_&&_};
-ghost use Prim.Native.Nat.{_+_, _≤_, _<_};
-ghost use lib.Dec.{eqb};
+ghost use Prim.Native.Nat.{_^_, _≤_, _<_};
+ghost use lib.Dec.{eqb, leb};
 ghost use Rattle.pair_count.specs.PairTable.{PairTable};
 ghost use Rattle.goals.specs.Check.{entry};
-ghost use Rattle.checking.specs.Checking.{atBy, tipsBy, boundsBy, Ready};
+ghost use Rattle.checking.specs.Checking.{endsAt, endsBy, tipBy, boundsBy, EndLists, Ready};
 
-// Tip a + i is not named, or its split of the interval is at most this: a sum of 64-bit numbers, which does not wrap.
-fn tip_bounded(
-    names: u64,
-    m: usize,
-    a: usize,
-    w: usize,
-    i: usize,
-    most: u64,
-    pairs: &[u32],
-    sums: &[u32],
-    table: &[u32],
-) -> bool
-    requires { ⌜ Ready m (now sums) (now table) × (a + w ≤ m) × (i < w) × PairTable (now pairs) ⌝ }
-    ensures { λ r. ⌜ r ≡ atBy names m (now (sums .entry)) (now (table .entry)) a w most i ⌝ }
+fn wide(x: u32) -> u64
+    ensures { λ r. ⌜ (r ≡ x) × (r < 2 ^ 32) ⌝ }
 {
-    let c = a + i;
-    if !tips::has_tip(names, c) {
-        return true;
-    }
-    let here = pair_count::pairs_among(pairs, spans::inside_at(sums, a, w, c)) as u64;
-    let before = entry_at(m, a, i, table);
-    let after = entry_at(m, c + 1, w - (i + 1), table);
-    here + (before + after) <= most
+    x as u64
 }
 
-// And so at each tip of the interval.
-fn tips_bounded(
-    names: u64,
-    m: usize,
-    a: usize,
-    w: usize,
-    pairs: &[u32],
-    sums: &[u32],
-    table: &[u32],
-) -> bool
-    requires { ⌜ Ready m (now sums) (now table) × (a + w ≤ m) × PairTable (now pairs) ⌝ }
-    ensures { λ r. ⌜ r ≡ tipsBy names m (now (sums .entry)) (now (table .entry)) a w ⌝ }
+fn one_if_less(x: u64, y: u64) -> usize
+    ensures { λ r. ⌜ (r ≤ 1) × (eqb r 0 ≡ leb y x) ⌝ }
 {
-    let most = entry_at(m, a, w, table);
+    if x < y { 1 } else { 0 }
+}
+
+// The innermost loop: at each place the entry is at least the split, a sum of 64-bit numbers, which does not wrap. It counts and does not stop.
+fn ends_bounded(
+    left: u64,
+    shift: u32,
+    pairs: &[u32],
+    nexts: &[u32],
+    firsts: &[u32],
+    rights: &[u32],
+    mosts: &[u32],
+) -> bool
+    requires { ⌜ EndLists left shift (now nexts) (now firsts) (now rights) (now mosts) × PairTable (now pairs) ⌝ }
+    ensures { λ r. ⌜ r ≡ endsAt left shift (now (nexts .entry)) (now (firsts .entry)) (now (rights .entry)) (now (mosts .entry)) ⌝ }
+{
+    let mut lacking = 0;
     let mut i = 0;
-    while i < w {
-        if !tip_bounded(names, m, a, w, i, most, pairs, sums, table) {
+    while i < mosts.len() {
+        let p = std::num::wrapping_add_u32(nexts[i], shift) - firsts[i];
+        let split = wide(pair_count::pairs_among(pairs, p)) + (left + wide(rights[i]));
+        lacking += one_if_less(wide(mosts[i]), split);
+        i += 1;
+    }
+    lacking == 0
+}
+
+// The split at tip c of each interval from tip a to a tip from c on: no entry is right of c where c is the last tip.
+fn first_bounded(m: usize, a: usize, c: usize, pairs: &[u32], sums: &[u32], table: &[u32]) -> bool
+    requires { ⌜ Ready m (now sums) (now table) × (a ≤ c) × (c < m) × PairTable (now pairs) ⌝ }
+    ensures { λ r. ⌜ r ≡ endsBy m (now (sums .entry)) (now (table .entry)) a c ⌝ }
+{
+    let left = entry_at(m, a, c - a, table);
+    let here = pair_count::pairs_among(pairs, spans::inside_at(m, sums, a, c + 1 - a, c));
+    if entry_at(m, a, c + 1 - a, table) < wide(here) + left {
+        return false;
+    }
+    let next = c + 1;
+    if next == m {
+        return true;
+    }
+    let first_sums = a * (m + 1);
+    let next_sums = next * (m + 1);
+    let shift = std::num::wrapping_sub_u32(sums[first_sums + c], sums[next_sums + c]);
+    let first_from = first_sums + (next + 1);
+    let first_end = first_sums + (m + 1);
+    let next_from = next_sums + (next + 1);
+    let next_end = next_sums + (m + 1);
+    let right_from = next * m + next;
+    let right_end = next * m + m;
+    let most_from = a * m + next;
+    let most_end = a * m + m;
+    ends_bounded(
+        left,
+        shift,
+        pairs,
+        &sums[next_from..next_end],
+        &sums[first_from..first_end],
+        &table[right_from..right_end],
+        &table[most_from..most_end],
+    )
+}
+
+// And so from each first tip.
+fn tip_bounded(m: usize, c: usize, pairs: &[u32], sums: &[u32], table: &[u32]) -> bool
+    requires { ⌜ Ready m (now sums) (now table) × (c < m) × PairTable (now pairs) ⌝ }
+    ensures { λ r. ⌜ r ≡ tipBy m (now (sums .entry)) (now (table .entry)) c ⌝ }
+{
+    let mut a = 0;
+    while a <= c {
+        if !first_bounded(m, a, c, pairs, sums, table) {
             return false;
         }
-        i += 1;
+        a += 1;
     }
     true
 }
 
-// The entry for the rack is the claim, and so each interval.
+// The entry for the rack is the claim, and so each named tip.
 pub fn table_fits(
     names: u64,
     m: usize,
@@ -72,16 +110,14 @@ pub fn table_fits(
     if entry_at(m, 0, m, table) != claim as u64 {
         return false;
     }
-    let mut a = 0;
-    while a < m {
-        let mut w = 1;
-        while a + w <= m {
-            if !tips_bounded(names, m, a, w, pairs, sums, table) {
+    let mut c = 0;
+    while c < m {
+        if tips::has_tip(names, c) {
+            if !tip_bounded(m, c, pairs, sums, table) {
                 return false;
             }
-            w += 1;
         }
-        a += 1;
+        c += 1;
     }
     true
 }

@@ -1,10 +1,10 @@
-// The occurrences of all tips added up: sixteen lines by full adders, or one line by its quantity.
+// The occurrences of all tips added up, thirty-two lines at a time: in two counts side by side, so that the compiler adds both at once.
 ghost use mathlib.Core.Path.{_≡_};
-ghost use mathlib.Core.List.{[]};
-ghost use Prim.Native.Nat.{_+_, _^_, _≤_, _<_};
-ghost use lib.ListN.{length};
-ghost use Rattle.counts.specs.Counts.{planeCount, DigitOf, AddsThree, AddsEight, Addable, Added};
-ghost use Rattle.counts.specs.Counts.{Counts, CountedTo, OneEach, BlockFits, BlockAdded};
+ghost use mathlib.Core.List.{_++_};
+ghost use Prim.Native.Nat.{_+_, _≤_, _<_};
+ghost use lib.ListN.{length, drop};
+ghost use Rattle.counts.specs.Counts.{planeCount, AddsThree};
+ghost use Rattle.counts.specs.Sums.{AddsEight, Raisable, Raised, NoTip, Empty, Fits, Added, AddedTo, Doublable, Doubled, Joinable, Joined};
 
 // The two binary digits of a small count of each tip.
 struct Sum {
@@ -31,16 +31,16 @@ struct Low {
     eights: u64,
 }
 
-// Eight lines more: a carry goes to the next plane once for every two.
+// Every other of sixteen lines more: a carry goes to the next plane once for every two.
 fn add_eight(ones: u64, twos: u64, fours: u64, lines: &[u64]) -> Low
-    requires { ⌜ 8 ≤ length (now lines) ⌝ }
+    requires { ⌜ 15 ≤ length (now lines) ⌝ }
     ensures { λ r. ⌜ AddsEight ones twos fours (now (lines .entry)) (r .ones) (r .twos) (r .fours) (r .eights) ⌝ }
 {
-    let a = add_three(ones, lines[0], lines[1]);
-    let b = add_three(a.ones, lines[2], lines[3]);
+    let a = add_three(ones, lines[0], lines[2]);
+    let b = add_three(a.ones, lines[4], lines[6]);
     let c = add_three(twos, a.twos, b.twos);
-    let d = add_three(b.ones, lines[4], lines[5]);
-    let e = add_three(d.ones, lines[6], lines[7]);
+    let d = add_three(b.ones, lines[8], lines[10]);
+    let e = add_three(d.ones, lines[12], lines[14]);
     let f = add_three(c.ones, d.twos, e.twos);
     let g = add_three(fours, c.twos, f.twos);
     Low {
@@ -51,143 +51,131 @@ fn add_eight(ones: u64, twos: u64, fours: u64, lines: &[u64]) -> Low
     }
 }
 
-// 2 ^ from more for each tip of the set, through all planes from there on: for a block, where a test of the carry would cost more than it saves.
-fn carry_through(from: usize, set: u64, planes: &mut [u64])
-    requires { ⌜ Addable (2 ^ from) set (now planes) × (from ≤ planeCount) ⌝ }
-    ensures { λ _. ⌜ Added (2 ^ from) set (now (planes .entry)) (now (planes .exit)) ⌝ }
+// 16 more for each tip of either carry, through all planes; a test of what is left of the carries would cost more than it saves.
+fn carry_up(even: u64, odd: u64, sums: &mut [u64])
+    requires { ⌜ Raisable even odd (now sums) ⌝ }
+    ensures { λ _. ⌜ Raised even odd (now (sums .entry)) (now (sums .exit)) ⌝ }
 {
-    let mut carry = set;
-    let mut j = from;
+    let mut left = even;
+    let mut right = odd;
+    let mut j = 4;
     while j < crate::PLANES {
-        let plane = planes[j];
-        planes[j] = plane ^ carry;
-        carry = plane & carry;
+        let i = 2 * j;
+        let first = sums[i];
+        let second = sums[i + 1];
+        sums[i] = first ^ left;
+        sums[i + 1] = second ^ right;
+        left = first & left;
+        right = second & right;
         j += 1;
     }
 }
 
-// Sixteen lines more, from line i on, once each.
-fn add_block(i: usize, lines: &[u64], planes: &mut [u64])
-    requires { ⌜ BlockFits i (now lines) (now planes) ⌝ }
-    ensures { λ _. ⌜ BlockAdded i (now (lines .entry)) (now (planes .entry)) (now (planes .exit)) ⌝ }
+// Thirty-two lines more.
+pub fn add_block(lines: &[u64], sums: &mut [u64])
+    requires { ⌜ Fits (now lines) (now sums) × (length (now lines) ≡ 32) ⌝ }
+    ensures { λ _. ⌜ Added (now (lines .entry)) (now (sums .entry)) (now (sums .exit)) ⌝ }
 {
-    let a = add_eight(planes[0], planes[1], planes[2], &lines[i..]);
-    let half = i + 8;
-    let b = add_eight(a.ones, a.twos, a.fours, &lines[half..]);
-    let c = add_three(planes[3], a.eights, b.eights);
-    planes[0] = b.ones;
-    planes[1] = b.twos;
-    planes[2] = b.fours;
-    planes[3] = c.ones;
-    carry_through(4, c.twos, planes);
-}
-
-// 2 ^ from more for each tip of the set, until no carry is left: soon, for a line.
-fn carry_from(from: usize, set: u64, planes: &mut [u64])
-    requires { ⌜ Addable (2 ^ from) set (now planes) × (from < planeCount) ⌝ }
-    ensures { λ _. ⌜ Added (2 ^ from) set (now (planes .entry)) (now (planes .exit)) ⌝ }
-{
-    let mut carry = set;
-    let mut j = from;
-    loop {
-        let plane = planes[j];
-        planes[j] = plane ^ carry;
-        carry = plane & carry;
-        j += 1;
-        if carry == 0 {
-            return;
-        }
-    }
-}
-
-// The place of the highest binary digit of a number that is not 0, and the number without it.
-pub struct Digit {
-    pub place: usize,
-    pub rest: u8,
-}
-
-pub fn highest_digit(number: u8) -> Digit
-    requires { ⌜ 1 ≤ number ⌝ }
-    ensures { λ r. ⌜ DigitOf number (r .place) (r .rest) ⌝ }
-{
-    let place = 7 - u8::leading_zeros(number);
-    Digit {
-        place: place as usize,
-        rest: number - (1 << place),
-    }
-}
-
-// As many more for each tip of the set as the quantity says, one binary digit after the other.
-fn add_line(set: u64, quantity: u8, planes: &mut [u64])
-    requires { ⌜ Addable quantity set (now planes) ⌝ }
-    ensures { λ _. ⌜ Added quantity set (now (planes .entry)) (now (planes .exit)) ⌝ }
-{
-    let mut left = quantity;
-    while left != 0 {
-        let digit = highest_digit(left);
-        carry_from(digit.place, set, planes);
-        left = digit.rest;
-    }
-}
-
-// The lines from line from to before line to, one by one.
-pub fn add_lines(from: usize, to: usize, lines: &[u64], quantities: &[u8], planes: &mut [u64])
-    requires { ⌜ CountedTo from (now quantities) (now lines) (now planes) × (from ≤ to) × (to ≤ length (now lines)) ⌝ }
-    ensures { λ _. ⌜ CountedTo to (now (quantities .entry)) (now (lines .entry)) (now (planes .exit)) ⌝ }
-{
-    let mut i = from;
-    while i < to {
-        add_line(lines[i], quantities[i], planes);
-        i += 1;
-    }
-}
-
-// The bits in which some of the sixteen quantities from i on is not 1; no early end, so that the compiler can take them at once.
-fn others(i: usize, quantities: &[u8]) -> u8
-    requires { ⌜ i + 16 ≤ length (now quantities) ⌝ }
-    ensures { λ r. ⌜ (r ≡ 0 → OneEach i (now (quantities .entry))) ⌝ }
-{
-    let mut bits = 0;
-    let mut k = 0;
-    while k < 16 {
-        bits |= quantities[i + k] ^ 1;
-        k += 1;
-    }
-    bits
-}
-
-// Sixteen lines more, from line i on: by full adders where each has quantity 1, else one by one.
-fn add_sixteen(i: usize, lines: &[u64], quantities: &[u8], planes: &mut [u64])
-    requires { ⌜ CountedTo i (now quantities) (now lines) (now planes) × (i + 16 ≤ length (now lines)) ⌝ }
-    ensures { λ _. ⌜ CountedTo (i + 16) (now (quantities .entry)) (now (lines .entry)) (now (planes .exit)) ⌝ }
-{
-    if others(i, quantities) == 0 {
-        add_block(i, lines, planes);
-    } else {
-        add_lines(i, i + 16, lines, quantities, planes);
-    }
+    let a = add_eight(sums[0], sums[2], sums[4], lines);
+    let b = add_eight(sums[1], sums[3], sums[5], &lines[1..]);
+    let c = add_eight(a.ones, a.twos, a.fours, &lines[16..]);
+    let d = add_eight(b.ones, b.twos, b.fours, &lines[17..]);
+    let e = add_three(sums[6], a.eights, c.eights);
+    let f = add_three(sums[7], b.eights, d.eights);
+    sums[0] = c.ones;
+    sums[1] = d.ones;
+    sums[2] = c.twos;
+    sums[3] = d.twos;
+    sums[4] = c.fours;
+    sums[5] = d.fours;
+    sums[6] = e.ones;
+    sums[7] = f.ones;
+    carry_up(e.twos, f.twos, sums);
 }
 
 // As many whole blocks as there are; gives the first line that is left.
-pub fn add_blocks(lines: &[u64], quantities: &[u8], planes: &mut [u64]) -> usize
-    requires { ⌜ CountedTo 0 (now quantities) (now lines) (now planes) ⌝ }
-    ensures { λ r. ⌜ CountedTo r (now (quantities .entry)) (now (lines .entry)) (now (planes .exit)) ⌝ }
+pub fn add_blocks(lines: &[u64], sums: &mut [u64]) -> usize
+    requires { ⌜ Fits (now lines) (now sums) ⌝ }
+    ensures { λ r. ⌜ AddedTo r (now (lines .entry)) (now (sums .entry)) (now (sums .exit)) × (length (now (lines .entry)) < r + 32) ⌝ }
 {
     let mut i = 0;
-    while 16 <= lines.len() - i {
-        add_sixteen(i, lines, quantities, planes);
-        i += 16;
+    while 32 <= lines.len() - i {
+        let end = i + 32;
+        add_block(&lines[i..end], sums);
+        i = end;
     }
     i
 }
 
-pub fn clear(planes: &mut [u64])
-    requires { ⌜ length (now planes) ≡ planeCount ⌝ }
-    ensures { λ _. ⌜ Counts [] (now (planes .exit)) ⌝ }
+pub fn no_lines() -> [u64; 32]
+    ensures { λ r. ⌜ NoTip r ⌝ }
 {
+    [0; 32]
+}
+
+// The lines in the place of as many.
+fn copy_lines(lines: &[u64], chosen: &mut [u64])
+    requires { ⌜ length (now lines) ≤ length (now chosen) ⌝ }
+    ensures { λ _. ⌜ now (chosen .exit) ≡ now (lines .entry) ++ drop (length (now (lines .entry))) (now (chosen .entry)) ⌝ }
+{
+    let mut i = 0;
+    while i < lines.len() {
+        chosen[i] = lines[i];
+        i += 1;
+    }
+}
+
+// Less than a block.
+pub fn add_rest(lines: &[u64], sums: &mut [u64])
+    requires { ⌜ Fits (now lines) (now sums) × (length (now lines) ≤ 32) ⌝ }
+    ensures { λ _. ⌜ Added (now (lines .entry)) (now (sums .entry)) (now (sums .exit)) ⌝ }
+{
+    if lines.len() == 0 {
+        return;
+    }
+    let mut chosen = no_lines();
+    copy_lines(lines, &mut chosen);
+    add_block(&chosen, sums);
+}
+
+pub fn no_sums() -> [u64; 24]
+    ensures { λ r. ⌜ Empty r ⌝ }
+{
+    [0; 24]
+}
+
+// Both counts twice: each plane moves up by one.
+pub fn double(sums: &mut [u64])
+    requires { ⌜ Doublable (now sums) ⌝ }
+    ensures { λ _. ⌜ Doubled (now (sums .entry)) (now (sums .exit)) ⌝ }
+{
+    let mut even = 0;
+    let mut odd = 0;
     let mut j = 0;
     while j < crate::PLANES {
-        planes[j] = 0;
+        let i = 2 * j;
+        let first = sums[i];
+        let second = sums[i + 1];
+        sums[i] = even;
+        sums[i + 1] = odd;
+        even = first;
+        odd = second;
+        j += 1;
+    }
+}
+
+// The sum of both counts.
+pub fn join(sums: &[u64], planes: &mut [u64])
+    requires { ⌜ Joinable (now sums) × (length (now planes) ≡ planeCount) ⌝ }
+    ensures { λ _. ⌜ Joined (now (sums .entry)) (now (planes .exit)) ⌝ }
+{
+    let mut carry = 0;
+    let mut j = 0;
+    while j < crate::PLANES {
+        let i = 2 * j;
+        let sum = add_three(sums[i], sums[i + 1], carry);
+        planes[j] = sum.ones;
+        carry = sum.twos;
         j += 1;
     }
 }

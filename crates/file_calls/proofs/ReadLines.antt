@@ -91,7 +91,8 @@ module _ (file : List ℕ) {d : Refusal} (e : d ≡ readRefusal file) {m : ℕ} 
           λ z. best-none h m lines (length plan) (length cells) (ap (λ x. x .refusal .number) (sym p) ∙ z) .free in (
             ap planOutcome (p ∙ best-same h mounted-lines plan cells ∙ of-file file by-file (λ r k q l. bestOf r k q l (length plan) (length cells))),
             (
-              q ∙ best-buffer-same h mounted-lines plan cells mounted ∙ of-file file by-file (λ r k q l. bestBuffer r k mounted q l plan (length cells)),
+              q ∙ best-buffer-same h mounted-lines plan cells mounted
+                  ∙ of-file file by-file (λ r k q l. bestBuffer r k mounted q l plan (length cells)),
               (
                 t ∙ best-table-same h mounted-lines plan cells ∙ of-file file by-file (λ r k q l. bestTable r k q l (length plan) cells),
                 best-rule-same (λ z. mounted-lines (free z)) rule,

@@ -1,19 +1,19 @@
--- The parts by their positions, as sets: one part more, and one place more.
+-- The parts by their positions, as sets: one part more, and one position more.
 use Prim.Native.Nat.{ℕ, zero, suc, _+_, _≤_, _<_}
 use native.Mathlib.Omega.{arith}
 use mathlib.Core.Path.{_≡_, refl, ap, sym, _∙_}
 use mathlib.Core.Logic.{⊎-elim}
 use mathlib.Core.Bool.{Bool, true, false, cond, _&&_, _||_}
 use mathlib.Core.List.{List}
-use lib.Dec.{T, ltb, eqb, T-not, eqb→eq, eqb-refl}
+use lib.Dec.{ltb, eqb, T-not, eqb→eq, eqb-refl}
 use lib.ListN.{length, getD, set, replicate, length-set, length-replicate}
 use lib.Seq.{getD-set-same, getD-set-other}
 use lib.Bits.{bitOr}
 use borrow.Author.Tests.{lt-ltb, le-ltb, eq-eqb, ne-eqb}
 use Rattle.model.proofs.Tests.{le-or-lt, test, true-T, false-T}
 use Rattle.flat_order.specs.declared.PartSet.{PartSet}
-use Rattle.flat_order.specs.Sets.{hasPart, single, joined}
-use Rattle.flat_order.specs.Flat.{rowAt, noWords, PartsAt, Below}
+use Rattle.flat_order.specs.Sets.{hasPart, single, joined, noParts}
+use Rattle.flat_order.specs.Flat.{rowAt, noWords, PartsAt}
 use Rattle.flat_order.proofs.Members.{has-single, has-joined}
 use Rattle.flat_order.proofs.Lasts.{first-none}
 
@@ -93,58 +93,29 @@ module _ (positions : List ℕ) (i : ℕ) (low high : List ℕ) (at : ℕ) (e : 
             (test (eqb at w));
       }
 
--- ---- the parts before each place
+-- ---- the parts whose positions are before one
 
--- the places up to w have the parts before them, and the others those at them
-pub record Summed (positions : List ℕ) (n w : ℕ) (low high : List ℕ) : Type 0 where
-  pub lows : length low ≡ 130
-  pub highs : length high ≡ 130
-  pub done : (k x : ℕ) → k ≤ w → hasPart (rowAt low high k) x ≡ (ltb x n && ltb (getD positions x 0) k)
-  pub rest : (k x : ℕ) → w < k → k < 130 → hasPart (rowAt low high k) x ≡ (ltb x n && eqb (getD positions x 0 + 1) k)
+pub before-none : (positions : List ℕ) (n x : ℕ) → hasPart noParts x ≡ (ltb x n && ltb (getD positions x 0) 0)
+before-none positions n x = first-none x
+    ∙ rw (le-ltb x 0 (omega arith), le-ltb (getD positions x 0) 0 (omega arith)) (none (ltb x n))
+  where
+    none : (a : Bool) → false ≡ (a && false)
+    none true = refl
+    none false = refl
 
-pub summed-none : (positions : List ℕ) (n : ℕ) (low high : List ℕ) → PartsAt positions n low high → Summed positions n 0 low high
-summed-none positions n low high p = record {
-  lows = p .lows;
-  highs = p .highs;
-  done = λ k x l.
-      let e : k ≡ 0 = omega arith in
-      rw e (p .each 0 x (omega arith) ∙ rw (ne-eqb (getD positions x 0 + 1) 0 (λ z. omega arith), le-ltb (getD positions x 0) 0 (omega arith)));
-  rest = λ k x l h. p .each k x h;
-}
-
-one-more : (a : Bool) (q w : ℕ) → (a && eqb (q + 1) (w + 1) || a && ltb q w) ≡ (a && ltb q (w + 1))
-one-more false q w = refl
-one-more true q w =
-    ⊎-elim
-    (λ h. ⊎-elim
-    (λ (k : q ≤ w). rw (eq-eqb (q + 1) (w + 1) (omega arith), lt-ltb q (w + 1) (omega arith)))
-    (λ (k : w < q). rw (ne-eqb (q + 1) (w + 1) (λ z. omega arith), le-ltb q w h, le-ltb q (w + 1) (omega arith)))
-    (le-or-lt q w))
-    (λ h. rw (ne-eqb (q + 1) (w + 1) (λ z. omega arith), lt-ltb q w h, lt-ltb q (w + 1) (omega arith)))
-    (le-or-lt w q)
-
-module _ (positions : List ℕ) (n w : ℕ) (low high : List ℕ) (l : w + 1 < 130) (s : Summed positions n w low high) where
-  pub summed-more : Summed positions n (w + 1) (set low (w + 1) (bitOr (getD low (w + 1) 0) (getD low w 0)))
-      (set high (w + 1) (bitOr (getD high (w + 1) 0) (getD high w 0)))
-  unfolding joined
-  summed-more =
-      let here = rowAt low high (w + 1) in
-      let last = rowAt low high w in
-      let row = joined here last in
-      let at : (k x : ℕ) → hasPart (rowAt (set low (w + 1) (row .low)) (set high (w + 1) (row .high)) k) x
-      ≡ hasPart (cond (eqb (w + 1) k) row (rowAt low high k)) x =
-      λ k x. ap (λ s. hasPart s x) (row-set low high (w + 1) k row (omega (arith, s .lows)) (omega (arith, s .highs))) in
-      record {
-        lows = length-set low (w + 1) (row .low) ∙ s .lows;
-        highs = length-set high (w + 1) (row .high) ∙ s .highs;
-        done = λ k x h. at k x ∙ ⊎-elim
-            (λ (u : w + 1 ≤ k). let e : w + 1 ≡ k = omega arith in rw (← e, eq-eqb (w + 1) (w + 1) refl)
-            (has-joined here last x ∙ rw (s .rest (w + 1) x (omega arith) l, s .done w x (omega arith))
-            (one-more (ltb x n) (getD positions x 0) w)))
-            (λ (u : k < w + 1). rw (ne-eqb (w + 1) k (λ z. omega arith)) (s .done k x (omega arith)))
-            (le-or-lt (w + 1) k);
-        rest = λ k x h m. at k x ∙ rw (ne-eqb (w + 1) k (λ z. omega arith)) (s .rest k x (omega arith) m);
-      }
-
-pub summed-all : (positions : List ℕ) (n w : ℕ) (low high : List ℕ) → n + 1 ≤ w → Summed positions n w low high → Below positions n low high
-summed-all positions n w low high l s = record { lows = s .lows; highs = s .highs; each = λ k x h. s .done k x (omega arith) }
+pub before-more : (positions low high : List ℕ) (n p : ℕ) (s : PartSet) → p + 1 < 130 → PartsAt positions n low high
+    → ((x : ℕ) → hasPart s x ≡ (ltb x n && ltb (getD positions x 0) p))
+    → (x : ℕ) → hasPart (joined s (rowAt low high (p + 1))) x ≡ (ltb x n && ltb (getD positions x 0) (p + 1))
+before-more positions low high n p s l at h x =
+    has-joined s (rowAt low high (p + 1)) x ∙ rw (h x, at .each (p + 1) x l) (one-more (ltb x n) (getD positions x 0))
+  where
+    one-more : (a : Bool) (q : ℕ) → (a && ltb q p || a && eqb (q + 1) (p + 1)) ≡ (a && ltb q (p + 1))
+    one-more false q = refl
+    one-more true q =
+        ⊎-elim
+        (λ h. ⊎-elim
+        (λ (k : q ≤ p). rw (le-ltb q p h, eq-eqb (q + 1) (p + 1) (omega arith), lt-ltb q (p + 1) (omega arith)))
+        (λ (k : p < q). rw (le-ltb q p h, ne-eqb (q + 1) (p + 1) (λ z. omega arith), le-ltb q (p + 1) (omega arith)))
+        (le-or-lt q p))
+        (λ h. rw (lt-ltb q p h, lt-ltb q (p + 1) (omega arith)))
+        (le-or-lt p q)

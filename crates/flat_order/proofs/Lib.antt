@@ -4,7 +4,7 @@ pub mod Lasts
 pub mod Below
 pub mod Settled
 pub mod Waiting
-pub mod Counts
-pub mod Tight
+pub mod Ended
+pub mod Levels
 pub mod Picks
 pub mod Free

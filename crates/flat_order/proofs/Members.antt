@@ -120,6 +120,18 @@ unfolding hasPart removed
 has-removed s t x = ⊎-elim (λ l. rw (le-ltb x 64 l) (has-less (s .high) (t .high) (x - 64)))
     (λ l. rw (lt-ltb x 64 l) (has-less (s .low) (t .low) x)) (le-or-lt 64 x)
 
+pub some-or : {P : Type 0} (a b : Bool) → T (a || b) → (T a → P) → (T b → P) → P
+some-or true b u f g = f tt
+some-or false b u f g = g u
+
+pub or-first : (a b : Bool) → T a → T (a || b)
+or-first true b u = tt
+or-first false b u = absurd u
+
+pub or-second : (a b : Bool) → T b → T (a || b)
+or-second true b u = tt
+or-second false b u = u
+
 -- two words with no bit in common
 word-apart : (a b : ℕ) → a < 2 ^ 64 → ((t : ℕ) → t < 64 → T (has a t) → T (has b t) → ⊥) → bitAnd a b ≡ 0
 word-apart a b l f = ⊎-elim (λ z. omega arith) (λ p.
@@ -152,8 +164,3 @@ apart-if s t k h f =
     let z : x + 64 - 64 ≡ x = omega arith in
     f (x + 64) (omega arith) (rw (e, z) a) (rw (e, z) b)) in
     rw (lows, highs) tt
-
--- the test of the high words, where the low ones have no part in common
-pub apart-high : (s t : PartSet) → bitAnd (s .low) (t .low) ≡ 0 → eqb (bitAnd (s .high) (t .high)) 0 ≡ apart s t
-unfolding apart
-apart-high s t e = sym (ap (λ b. b && eqb (bitAnd (s .high) (t .high)) 0) (true-T (eqb (bitAnd (s .low) (t .low)) 0) (rw e tt)))

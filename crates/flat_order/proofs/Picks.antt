@@ -1,12 +1,12 @@
 -- The greedy order over flat arrays: what the search for a part finds, and where the loop stands at position p.
-use Prim.Native.Nat.{ℕ, suc, _+_, _-_, _≤_, _<_, _^_}
+use Prim.Native.Nat.{ℕ, _+_, _-_, _≤_, _<_, _^_}
 use native.Mathlib.Omega.{arith}
 use mathlib.Core.Path.{_≡_, refl, ap, sym, _∙_}
 use mathlib.Core.Logic.{⊎-elim}
 use mathlib.Core.Bool.{Bool, true, false, not, _&&_}
 use mathlib.Core.List.{List}
 use mathlib.Core.Option.{none, some}
-use lib.Dec.{T, ltb, leb, eqb, not-T, T-not, ltb→lt, lt→ltb, leb→le, le→leb}
+use lib.Dec.{T, ltb, leb, not-T, T-not, ltb→lt, lt→ltb, leb→le, le→leb}
 use lib.ListN.{length, getD, take, set, length-set}
 use lib.Seq.{take-all}
 use Rattle.model.specs.Count.{every}
@@ -15,12 +15,12 @@ use Rattle.model.proofs.Tests.{le-or-lt, true-T, same-test, and-left, and-right
 use Rattle.ordering.specs.Number.{number, lowest, without}
 use Rattle.ordering.specs.Order.{Task}
 use Rattle.ordering.specs.Least.{due, tight, isFree, fits, pick, prepend, greedy}
-use Rattle.ordering.proofs.Number.{lowest-le, lowest-cong, without-left}
+use Rattle.ordering.proofs.Number.{lowest-cong, without-left, number-cong, number-all, number-without}
 use Rattle.ordering.proofs.Agree.{greedy-cong}
 use Rattle.ordering.proofs.Loops.{prependAll, prepend-none, prepend-end, placed-more, greedy-picks, greedy-stops}
 use Rattle.flat_order.specs.declared.PartSet.{PartSet}
 use Rattle.flat_order.specs.Sets.{hasPart, single, removed, met, apart}
-use Rattle.flat_order.specs.Flat.{rowAt, flatTask, isDue, tightOf, candidatesAt, isPick, Below}
+use Rattle.flat_order.specs.Flat.{rowAt, flatTask, tightOf, candidatesAt, isPick, Below}
 use Rattle.flat_order.proofs.Members.{has-met, has-removed, apart-none, apart-if}
 use Rattle.flat_order.proofs.Settled.{left-without}
 
@@ -61,20 +61,20 @@ module _ (firsts lasts low high : List ℕ) (left : PartSet) (inside : (i : ℕ)
       apart-none (rowAt low high x) (removed left (single x)) u y (and-right (without x (hasPart left) y) (t .before y x) h)
       (rw (left-without left x y) (and-left (without x (hasPart left) y) (t .before y x) h)))))
 
-  module _ (fl fh ll lh : List ℕ) (begins : Below firsts (length lasts) fl fh) (closes : Below lasts (length lasts) ll lh) where
+  module _ (ll lh : List ℕ) (begun : PartSet) (p : ℕ) (begins : (x : ℕ) → hasPart begun x ≡ (ltb x (length lasts) && ltb (getD firsts x 0) (p + 1)))
+      (closes : Below lasts (length lasts) ll lh) where
     -- a candidate by the sets is one by its window
-    among-is : (p v x : ℕ) → p ≤ length lasts → v ≤ length lasts → x < length lasts → hasPart (candidatesAt p v left fl fh ll lh) x
+    among-is : (v x : ℕ) → p < length lasts → v < length lasts → x < length lasts → hasPart (candidatesAt p v (met left begun) ll lh) x
         ≡ (hasPart left x && leb (getD firsts x 0) p && leb p (getD lasts x 0) && leb (getD lasts x 0) v)
     unfolding candidatesAt
-    among-is p v x k h l =
-        let begun = rowAt fl fh (p + 1) in
+    among-is v x k h l =
         let due = rowAt ll lh (v + 1) in
         let past = rowAt ll lh p in
         has-met (met left begun) (removed due past) x
         ∙ rw (
           has-met left begun x,
           has-removed due past x,
-          begins .each (p + 1) x (omega arith),
+          begins x,
           closes .each (v + 1) x (omega arith),
           closes .each p x (omega arith),
           lt-ltb x (length lasts) l,
@@ -83,38 +83,35 @@ module _ (firsts lasts low high : List ℕ) (left : PartSet) (inside : (i : ℕ)
           ← not-before (getD lasts x 0) p,
         ) (arrange (hasPart left x) (leb (getD firsts x 0) p) (leb (getD lasts x 0) v) (ltb (getD lasts x 0) p))
 
-    -- the search finds the pick
-    pub pick-is : (p : ℕ) → p < length lasts → pick t p (hasPart left)
-        ≡ lowest (isPick (candidatesAt p (p + tightOf left lasts p) left fl fh ll lh) left low high) (length lasts)
+    -- the search up to the end finds the pick
+    pub pick-is : (v : ℕ) → p < length lasts → v < length lasts → v ≡ p + tightOf left lasts p → pick t p (hasPart left)
+        ≡ lowest (isPick (candidatesAt p v (met left begun) ll lh) left low high) (length lasts)
     unfolding pick fits tight due tightOf isPick
-    pick-is p k = lowest-cong _ _ (length lasts) (λ x l. rw (free-is x)
-        (ap (λ b. b && apart (rowAt low high x) (removed left (single x)))
-        (sym (among-is p _ x (omega arith) (omega (
-          arith,
-          lowest-le (λ d. eqb (number (isDue left lasts (p + d)) (length lasts)) (suc d))
-              (length lasts - p),
-        )) l))))
+    pick-is v k h e = rw (← e) (lowest-cong _ _ (length lasts) (λ x l. rw (free-is x)
+        (ap (λ b. b && apart (rowAt low high x) (removed left (single x))) (sym (among-is v x k h l)))))
 
     -- a pick is left, and its last position is neither before p nor after v
-    pub pick-known : (p v x : ℕ) → p ≤ length lasts → v ≤ length lasts → x < length lasts
-        → T (isPick (candidatesAt p v left fl fh ll lh) left low high x) → T (hasPart left x) × (p ≤ getD lasts x 0) × (getD lasts x 0 ≤ v)
+    pub pick-known : (v x : ℕ) → p < length lasts → v < length lasts → x < length lasts
+        → T (isPick (candidatesAt p v (met left begun) ll lh) left low high x) → T (hasPart left x) × (getD lasts x 0 ≤ v)
     unfolding isPick
-    pick-known p v x k h l u =
+    pick-known v x k h l u =
         let a = hasPart left x in
         let b = leb (getD firsts x 0) p in
         let d = leb p (getD lasts x 0) in
         let e = leb (getD lasts x 0) v in
-        let w = rw (among-is p v x k h l) at
-        (and-left (hasPart (candidatesAt p v left fl fh ll lh) x) (apart (rowAt low high x) (removed left (single x))) u) in (
-          and-left a b (and-left (a && b) d (and-left (a && b && d) e w)),
-          leb→le p (getD lasts x 0) (and-right (a && b) d (and-left (a && b && d) e w)),
-          leb→le (getD lasts x 0) v (and-right (a && b && d) e w),
-        )
+        let w = rw (among-is v x k h l) at
+        (and-left (hasPart (candidatesAt p v (met left begun) ll lh) x) (apart (rowAt low high x) (removed left (single x))) u) in
+        (and-left a b (and-left (a && b) d (and-left (a && b && d) e w)), leb→le (getD lasts x 0) v (and-right (a && b && d) e w))
+
+and-true : (a : Bool) → (a && true) ≡ a
+and-true true = refl
+and-true false = refl
 
 -- at position p: the parts before it are in the order, and what is left to place
 pub record Placing (firsts lasts low high : List ℕ) (p : ℕ) (order : List ℕ) (left : PartSet) : Type 0 where
   pub size : length order ≡ length lasts
   pub inside : (i : ℕ) → T (hasPart left i) → i < length lasts
+  pub count : number (hasPart left) (length lasts) + p ≡ length lasts
   pub same : prependAll (take p order) (greedy (flatTask firsts lasts low high) (length lasts - p) p (hasPart left))
       ≡ greedy (flatTask firsts lasts low high) (length lasts) 0 (λ _. true)
 
@@ -127,6 +124,9 @@ module _ (firsts lasts low high : List ℕ) where
   placing-none order left e h = record {
     size = e;
     inside = λ i v. ltb→lt i (length lasts) (rw (h i) at v);
+    count =
+        let n = length lasts in
+        omega (arith, number-cong (hasPart left) (λ _. true) n (λ i l. h i ∙ true-T (ltb i n) (lt→ltb i n l)), number-all n);
     same =
         let n = length lasts in
         let z : n - 0 ≡ n = omega arith in
@@ -134,15 +134,20 @@ module _ (firsts lasts low high : List ℕ) where
   }
 
   module _ (order : List ℕ) (left : PartSet) (p : ℕ) (l : p < length lasts) (s : Placing firsts lasts low high p order left) where
-    pub placing-more : (x : ℕ) → x ≡ pick u p (hasPart left) → x < length lasts
+    pub placing-more : (x : ℕ) → x ≡ pick u p (hasPart left) → x < length lasts → T (hasPart left x)
         → Placing firsts lasts low high (p + 1) (set order p x) (removed left (single x))
-    placing-more x e h =
+    placing-more x e h t =
         let n = length lasts in
         let k : pick u p (hasPart left) < n = omega (arith, e) in
         let more = greedy-picks u (hasPart left) p l k in
         record {
           size = length-set order p x ∙ s .size;
           inside = λ i v. s .inside i (without-left (hasPart left) x i (rw (left-without left x i) at v));
+          count =
+              let f = number-without (hasPart left) (λ _. true) x n h t in
+              let g = number-cong (λ i. without x (hasPart left) i && true) (hasPart (removed left (single x))) n
+              (λ i _. and-true (without x (hasPart left) i) ∙ sym (left-without left x i)) in
+              omega (arith, f, g, number-cong (λ i. hasPart left i && true) (hasPart left) n (λ i _. and-true (hasPart left i)), s .count);
           same = placed-more order p x (greedy u (n - (p + 1)) (p + 1) (hasPart (removed left (single x)))) (omega (arith, s .size))
               ∙ ap (λ r. prependAll (take p order) (prepend x r))
               (greedy-cong u (n - (p + 1)) (p + 1) (hasPart (removed left (single x))) (without x (hasPart left)) (λ i _. left-without left x i))

@@ -1,26 +1,25 @@
 -- Settling the last positions by sets: the parts that are due at a position, and one of them settled.
 use Prim.Native.Nat.{ℕ, _+_, _-_, _≤_, _<_, min}
 use native.Mathlib.Omega.{arith}
-use mathlib.Core.Path.{_≡_, refl, ap, sym, _∙_}
+use mathlib.Core.Path.{_≡_, refl, sym, _∙_}
 use mathlib.Core.Logic.{_≢_, ⊎-elim}
 use mathlib.Core.Bool.{Bool, true, false, not, cond, _&&_, _||_}
 use mathlib.Core.List.{List}
-use lib.Dec.{T, ltb, T-not, not-T, ltb→lt, lt→ltb, eqb}
+use lib.Dec.{T, ltb, T-not, not-T, ltb→lt, lt→ltb, eqb, eqb→eq}
 use lib.ListN.{length, getD, set, length-set}
 use lib.Seq.{getD-set-same, getD-set-other}
 use Rattle.model.specs.Count.{listOf, lowestAt}
-use Rattle.model.proofs.Tests.{le-or-lt, test, true-T, false-T, and-left, and-right, and-in, same-test}
+use Rattle.model.proofs.Tests.{le-or-lt, test, true-T, false-T, and-left, and-right, and-in, same-test, eqb-T}
 use Rattle.model.proofs.ListOf.{length-listOf, listOf-at, listOf-cong, list-is}
 use Rattle.model.proofs.Largest.{lowest-only}
 use Rattle.ordering.specs.Number.{number, without}
-use Rattle.ordering.specs.Least.{lastsOf}
-use Rattle.ordering.proofs.Number.{number-but, number-none, number-pos, none-or, without-left, without-differs, without-in, number-all, number-cong}
+use Rattle.ordering.proofs.Number.{number-but, number-pos, without-left, without-differs, without-in, number-all, number-cong}
 use Rattle.flat_order.specs.declared.PartSet.{PartSet}
 use Rattle.flat_order.specs.Sets.{hasPart, single, joined, removed, met, noParts, IsLowest}
-use Rattle.flat_order.specs.Flat.{rowAt, flatTask, weightOf, capOf, capped, opened, InPlace, Below, NextEnd}
-use Rattle.flat_order.proofs.Members.{has-joined, has-met}
+use Rattle.flat_order.specs.Flat.{rowAt, weightOf, capped, InPlace}
+use Rattle.flat_order.proofs.Members.{has-joined, has-met, some-or, or-first, or-second}
 use Rattle.flat_order.proofs.Lasts.{first-none}
-use Rattle.flat_order.proofs.Settled.{Settling, left-without, settling-none, settling-more, settling-all}
+use Rattle.flat_order.proofs.Settled.{Settling, left-without, settling-more}
 
 -- the last positions, where a part that is due has to stand at e or earlier
 pub viewed : PartSet → ℕ → List ℕ → List ℕ
@@ -37,18 +36,6 @@ pub record Waiting (lasts₀ : List ℕ) (j : ℕ) (lasts : List ℕ) (left due 
   pub ahead : (x : ℕ) → T (hasPart left x) → e ≤ getD lasts x 0
   pub behind : (x : ℕ) → x < length lasts₀ → T (not (hasPart left x)) → getD lasts x 0 ≤ e
 
-some-or : {P : Type 0} (a b : Bool) → T (a || b) → (T a → P) → (T b → P) → P
-some-or true b u f g = f tt
-some-or false b u f g = g u
-
-or-first : (a b : Bool) → T a → T (a || b)
-or-first true b u = tt
-or-first false b u = absurd u
-
-or-second : (a b : Bool) → T b → T (a || b)
-or-second true b u = tt
-or-second false b u = u
-
 pub waiting-none : (lasts : List ℕ) (left : PartSet) → ((x : ℕ) → hasPart left x ≡ ltb x (length lasts)) → InPlace (length lasts) lasts
     → Waiting lasts 0 lasts left noParts 0
 waiting-none lasts left h p =
@@ -64,103 +51,91 @@ waiting-none lasts left h p =
       behind = λ x l u. absurd (T-not (hasPart left x) u (rw (h x) (lt→ltb x n l)));
     }
 
--- ---- the next position at which parts are due
+-- ---- the parts that are due at a position, where those that end there are given
 
-module _ (lasts₀ lasts ends-low ends-high : List ℕ) (j e r : ℕ) (left due : PartSet) (few : length lasts₀ ≤ 128)
-    (b : Below lasts₀ (length lasts₀) ends-low ends-high) (w : Waiting lasts₀ j lasts left due e)
-    (m : NextEnd (length lasts₀) e due left ends-low ends-high r) where
+module _ (lasts₀ lasts : List ℕ) (j e : ℕ) (left due ends : PartSet) (few : length lasts₀ ≤ 128)
+    (at : (x : ℕ) → hasPart ends x ≡ (ltb x (length lasts₀) && eqb (getD lasts₀ x 0 + 1) (e + 1)))
+    (w : Waiting lasts₀ j lasts left due e) where
   abbrev n : ℕ
   n = length lasts₀
 
-  -- a part left is among those due at v if it was due or has to stand at v or earlier, and only then
-  due-in : (v x : ℕ) → v ≤ n → T (hasPart left x) → getD lasts x 0 ≤ v → T (hasPart (opened due left ends-low ends-high v) x)
-  due-in v x l t h =
-      let k = w .inside x t in
-      let z : T (hasPart (rowAt ends-low ends-high (v + 1)) x) =
-      rw (b .each (v + 1) x (omega arith)) (and-in (ltb x n) (ltb (getD lasts₀ x 0) (v + 1)) (lt→ltb x n k)
-      (lt→ltb (getD lasts₀ x 0) (v + 1) (omega (arith, w .kept x t)))) in
-      rw (has-met (joined due (rowAt ends-low ends-high (v + 1))) left x, has-joined due (rowAt ends-low ends-high (v + 1)) x)
-      (and-in (hasPart due x || hasPart (rowAt ends-low ends-high (v + 1)) x) (hasPart left x)
-      (or-second (hasPart due x) (hasPart (rowAt ends-low ends-high (v + 1)) x) z) t)
-
-  due-still : (v x : ℕ) → T (hasPart due x) → T (hasPart (opened due left ends-low ends-high v) x)
-  due-still v x t =
-      rw (has-met (joined due (rowAt ends-low ends-high (v + 1))) left x, has-joined due (rowAt ends-low ends-high (v + 1)) x)
-      (and-in (hasPart due x || hasPart (rowAt ends-low ends-high (v + 1)) x) (hasPart left x)
-      (or-first (hasPart due x) (hasPart (rowAt ends-low ends-high (v + 1)) x) t) (w .part x t))
-
-  due-left : (v x : ℕ) → T (hasPart (opened due left ends-low ends-high v) x) → T (hasPart left x)
-  due-left v x t = and-right (hasPart (joined due (rowAt ends-low ends-high (v + 1))) x) (hasPart left x)
-      (rw (has-met (joined due (rowAt ends-low ends-high (v + 1))) left x) at t)
-
-  due-out : (v x : ℕ) → v ≤ n → T (hasPart (opened due left ends-low ends-high v) x) → T (not (hasPart due x)) → getD lasts x 0 ≤ v
-  due-out v x l t u =
-      let row = rowAt ends-low ends-high (v + 1) in
-      let k = due-left v x t in
-      let y : T (hasPart due x || hasPart row x) =
-      rw (has-joined due row x) at (and-left (hasPart (joined due row) x) (hasPart left x) (rw (has-met (joined due row) left x) at t)) in
-      some-or (hasPart due x) (hasPart row x) y (λ q. absurd (T-not (hasPart due x) u q))
-      (λ q. let z : T (ltb x n && ltb (getD lasts₀ x 0) (v + 1)) = rw (b .each (v + 1) x (omega arith)) at q in
-      omega (arith, w .kept x k, ltb→lt (getD lasts₀ x 0) (v + 1) (and-right (ltb x n) (ltb (getD lasts₀ x 0) (v + 1)) z)))
-
-  -- no part left is due before r
-  not-before : (v x : ℕ) → e ≤ v → v < r → T (hasPart (opened due left ends-low ends-high v) x) → ⊥
-  not-before v x l h t = omega (arith, m .none v x l h t, w .inside x (due-left v x t), few)
-
-  pub end-below : j < n → r < n
-  end-below l =
-      ⊎-elim
-      (λ h. ⊎-elim (λ none. absurd (omega (arith, w .count, number-none (hasPart left) n none))) (λ s.
-      let (x, k, t) = s in
-      absurd (not-before (getD lasts x 0) x (w .ahead x t) (omega (arith, w .below x k))
-      (due-in (getD lasts x 0) x (omega (arith, w .below x k)) t (omega arith)))) (none-or (hasPart left) n))
-      (λ h. h)
-      (le-or-lt n r)
-
   abbrev here : PartSet
-  here = opened due left ends-low ends-high r
+  here = met (joined due ends) left
 
-  later : r ≤ n → (x : ℕ) → T (hasPart left x) → r ≤ getD lasts x 0
-  later q x t =
-      ⊎-elim (λ h. h) (λ h. absurd (not-before (getD lasts x 0) x (w .ahead x t) h (due-in (getD lasts x 0) x (omega arith) t (omega arith))))
-      (le-or-lt r (getD lasts x 0))
+  due-in : (x : ℕ) → T (hasPart left x) → T (hasPart due x || hasPart ends x) → T (hasPart here x)
+  due-in x t u = rw (has-met (joined due ends) left x, has-joined due ends x) (and-in (hasPart due x || hasPart ends x) (hasPart left x) u t)
 
-  pub waiting-opened : r ≤ n → Waiting lasts₀ j lasts left here r
-  waiting-opened q = record {
+  due-left : (x : ℕ) → T (hasPart here x) → T (hasPart left x)
+  due-left x t = and-right (hasPart (joined due ends) x) (hasPart left x) (rw (has-met (joined due ends) left x) at t)
+
+  -- a part left is among them if it has to stand at e, and only then or if it was due
+  due-ends : (x : ℕ) → T (hasPart left x) → getD lasts x 0 ≤ e → T (hasPart here x)
+  due-ends x t h =
+      let k = w .inside x t in
+      due-in x t (or-second (hasPart due x) (hasPart ends x) (rw (at x) (and-in (ltb x n) (eqb (getD lasts₀ x 0 + 1) (e + 1)) (lt→ltb x n k)
+      (eqb-T (getD lasts₀ x 0 + 1) (e + 1) (omega (arith, w .kept x t, w .ahead x t))))))
+
+  due-out : (x : ℕ) → T (hasPart here x) → T (not (hasPart due x)) → getD lasts x 0 ≤ e
+  due-out x t u =
+      let y : T (hasPart due x || hasPart ends x) =
+      rw (has-joined due ends x) at (and-left (hasPart (joined due ends) x) (hasPart left x) (rw (has-met (joined due ends) left x) at t)) in
+      some-or (hasPart due x) (hasPart ends x) y (λ q. absurd (T-not (hasPart due x) u q))
+      (λ q. let z : T (ltb x n && eqb (getD lasts₀ x 0 + 1) (e + 1)) = rw (at x) at q in
+      omega (arith, w .kept x (due-left x t), eqb→eq (getD lasts₀ x 0 + 1) (e + 1) (and-right (ltb x n) (eqb (getD lasts₀ x 0 + 1) (e + 1)) z)))
+
+  pub waiting-here : Waiting lasts₀ j lasts left here e
+  waiting-here = record {
     size = w .size;
     count = w .count;
     inside = w .inside;
     below = w .below;
-    part = due-left r;
+    part = due-left;
     kept = w .kept;
-    ahead = later q;
-    behind = λ x l t. omega (arith, w .behind x l t, m .from);
+    ahead = w .ahead;
+    behind = w .behind;
   }
 
-  -- the lowest part that is due is one
-  pub due-found : (q : ℕ) → r < n → IsLowest here q → T (hasPart here q)
-  due-found q l is = let (x, t) = m .some l in is .found (omega (arith, is .least x t, w .inside x (due-left r x t), few))
+  -- a part left that is not due ends after e
+  pub strictly : (x : ℕ) → T (hasPart left x) → T (not (hasPart here x)) → e < getD lasts x 0
+  strictly x t u = ⊎-elim (λ h. absurd (T-not (hasPart here x) u (due-ends x t h))) (λ h. h) (le-or-lt (getD lasts x 0) e)
 
-  -- a part left that is not due ends after r
-  pub strictly : r ≤ n → (x : ℕ) → T (hasPart left x) → T (not (hasPart here x)) → r < getD lasts x 0
-  strictly q x t u = ⊎-elim (λ h. absurd (T-not (hasPart here x) u (due-in r x q t h))) (λ h. h) (le-or-lt (getD lasts x 0) r)
-
-  pub viewed-opened : r ≤ n → viewed here r lasts ≡ viewed due e lasts
+  pub viewed-here : viewed here e lasts ≡ viewed due e lasts
   unfolding viewed
-  viewed-opened q = listOf-cong _ _ (length lasts) (λ x l. at x)
+  viewed-here = listOf-cong _ _ (length lasts) (λ x l. at-part x)
     where
-      at : (x : ℕ) → cond (hasPart here x) r (getD lasts x 0) ≡ cond (hasPart due x) e (getD lasts x 0)
-      at x =
+      at-part : (x : ℕ) → cond (hasPart here x) e (getD lasts x 0) ≡ cond (hasPart due x) e (getD lasts x 0)
+      at-part x =
           ⊎-elim
-          (λ t.
-          let late : e < r → ⊥ = λ h. not-before e x (omega arith) h (due-still e x t) in
-          let s : r ≡ e = ⊎-elim (λ h. omega (arith, m .from)) (λ h. absurd (late h)) (le-or-lt r e) in
-          rw (true-T (hasPart due x) t, true-T (hasPart here x) (due-still r x t)) s)
+          (λ t. rw (true-T (hasPart due x) t, true-T (hasPart here x) (due-in x (w .part x t) (or-first (hasPart due x) (hasPart ends x) t))))
           (λ u. rw (false-T (hasPart due x) u) (⊎-elim
-          (λ t. rw (true-T (hasPart here x) t) (omega (arith, due-out r x q t u, later q x (due-left r x t))))
+          (λ t. rw (true-T (hasPart here x) t) (omega (arith, due-out x t u, w .ahead x (due-left x t))))
           (λ v. rw (false-T (hasPart here x) v))
           (test (hasPart here x))))
           (test (hasPart due x))
+
+  -- where none is due, all parts left end later
+  module _ (b : ℕ) (is : IsLowest here b) (h : 128 ≤ b) where
+    none-due : (x : ℕ) → T (not (hasPart here x))
+    none-due x = not-T (hasPart here x) (λ t. omega (arith, is .least x t, w .inside x (due-left x t), few))
+
+    pub later : (x : ℕ) → T (hasPart left x) → e < getD lasts x 0
+    later x t = strictly x t (none-due x)
+
+    pub waiting-next : Waiting lasts₀ j lasts left here (e + 1)
+    waiting-next = record {
+      size = w .size;
+      count = w .count;
+      inside = w .inside;
+      below = w .below;
+      part = due-left;
+      kept = w .kept;
+      ahead = λ x t. omega (arith, later x t);
+      behind = λ x l t. omega (arith, w .behind x l t);
+    }
+
+    pub viewed-next : viewed here (e + 1) lasts ≡ viewed due e lasts
+    unfolding viewed
+    viewed-next = listOf-cong _ _ (length lasts) (λ x l. rw (false-T (hasPart here x) (none-due x))) ∙ viewed-here
 
 -- ---- one part settled
 

@@ -1,5 +1,5 @@
 -- The task that flat arrays describe: first and last positions, and the rows of the parts that are to precede each part.
-use Prim.Native.Nat.{ℕ, zero, suc, _+_, _-_, _≤_, _<_, min}
+use Prim.Native.Nat.{ℕ, suc, _+_, _-_, _≤_, _<_, min}
 use mathlib.Core.Path.{_≡_}
 use mathlib.Core.Bool.{Bool, cond, _&&_}
 use mathlib.Core.List.{List}
@@ -9,7 +9,7 @@ use Rattle.model.specs.Count.{listOf}
 use Rattle.ordering.specs.Number.{number, lowest}
 use Rattle.ordering.specs.Order.{Task}
 use Rattle.flat_order.specs.declared.PartSet.{PartSet}
-use Rattle.flat_order.specs.Sets.{hasPart, single, joined, removed, met, apart}
+use Rattle.flat_order.specs.Sets.{hasPart, single, removed, met, apart}
 
 -- the row of part b
 abbrev pub rowAt : List ℕ → List ℕ → ℕ → PartSet
@@ -36,41 +36,41 @@ capOf earlier limit lasts i = cond (hasPart earlier i) (min (getD lasts i 0) lim
 unfoldable pub capped : PartSet → ℕ → List ℕ → List ℕ
 capped earlier limit lasts = listOf (capOf earlier limit lasts) (length lasts)
 
--- an array of 129 zeros
-unfoldable pub noCounts : List ℕ
-noCounts = replicate 129 0
+-- an array of 128 zero bytes
+unfoldable pub noLevels : List ℕ
+noLevels = replicate 128 0
 
 -- part i is left and has to stand at position v or earlier
 abbrev pub isDue : PartSet → List ℕ → ℕ → ℕ → Bool
 isDue left lasts v i = hasPart left i && leb (getD lasts i 0) v
 
--- part i is left and v is its last position
-abbrev pub endsAt : PartSet → List ℕ → ℕ → ℕ → Bool
-endsAt left lasts v i = hasPart left i && eqb (getD lasts i 0) v
+-- from position p on, the level of a position: how many parts are placed before p, or are left and due there
+pub record Levels (left : PartSet) (lasts : List ℕ) (p : ℕ) (levels : List ℕ) : Type 0 where
+  pub size : length levels ≡ 128
+  pub each : (v : ℕ) → p ≤ v → v < length lasts → getD levels v 0 ≡ number (isDue left lasts v) (length lasts) + p
 
--- the counts of the first i parts by their last positions
-pub record Counted (left : PartSet) (lasts : List ℕ) (i : ℕ) (counts : List ℕ) : Type 0 where
-  pub size : length counts ≡ 129
-  pub each : (v : ℕ) → v < 129 → getD counts v 0 ≡ number (endsAt left lasts v) i
+-- the levels from one position up to another are one higher, and r is 0 only where none was the number of its position before
+pub record Raised (from to : ℕ) (old levels : List ℕ) (r : ℕ) : Type 0 where
+  pub size : length levels ≡ length old
+  pub inside : (v : ℕ) → from ≤ v → v < to → getD levels v 0 ≡ getD old v 0 + 1
+  pub after : (v : ℕ) → from ≤ v → to ≤ v → getD levels v 0 ≡ getD old v 0
+  pub none : r ≡ 0 → (v : ℕ) → from ≤ v → v < to → getD old v 0 ≡ v → ⊥
 
--- the sum of the counts up to position v
-unfoldable pub upTo : List ℕ → ℕ → ℕ
-upTo counts zero = getD counts 0 0
-upTo counts (suc v) = upTo counts v + getD counts (suc v) 0
-
--- the least d such that the positions p to p + d are all taken by the parts counted there
-unfoldable pub tightBy : List ℕ → ℕ → ℕ → ℕ
-tightBy counts p rest = lowest (λ d. eqb (upTo counts (p + d)) (suc d)) rest
+-- r is the first position from p on that has as level its number and one more; n where there is none
+pub record IsEnd (n p : ℕ) (levels : List ℕ) (r : ℕ) : Type 0 where
+  pub from : p ≤ r
+  pub most : r ≤ n
+  pub full : r < n → getD levels r 0 ≡ r + 1
+  pub none : (v : ℕ) → p ≤ v → v < r → getD levels v 0 ≡ v + 1 → ⊥
 
 -- the least d such that the positions p to p + d are all taken by the parts left that are due there
 unfoldable pub tightOf : PartSet → List ℕ → ℕ → ℕ
 tightOf left lasts p = lowest (λ d. eqb (number (isDue left lasts (p + d)) (length lasts)) (suc d)) (length lasts - p)
 
--- the parts left that can stand at position p by their windows, and have to stand at v or earlier: at each place of the first two lists stand the
--- parts whose first positions are before it, at each of the others those whose last positions are
-unfoldable pub candidatesAt : ℕ → ℕ → PartSet → List ℕ → List ℕ → List ℕ → List ℕ → PartSet
-candidatesAt p v left firsts-low firsts-high lasts-low lasts-high =
-    met (met left (rowAt firsts-low firsts-high (p + 1))) (removed (rowAt lasts-low lasts-high (v + 1)) (rowAt lasts-low lasts-high p))
+-- the parts begun that have not ended before position p, and have to stand at v or earlier: at each place of the lists stand the parts whose
+-- last positions are before it
+unfoldable pub candidatesAt : ℕ → ℕ → PartSet → List ℕ → List ℕ → PartSet
+candidatesAt p v begun ends-low ends-high = met begun (removed (rowAt ends-low ends-high (v + 1)) (rowAt ends-low ends-high p))
 
 -- part x is among the candidates, and no other part left is to be placed earlier
 unfoldable pub isPick : PartSet → PartSet → List ℕ → List ℕ → ℕ → Bool
@@ -90,21 +90,18 @@ pub record PartsAt (positions : List ℕ) (n : ℕ) (low high : List ℕ) : Type
   pub highs : length high ≡ 130
   pub each : (w x : ℕ) → w < 130 → hasPart (rowAt low high w) x ≡ (ltb x n && eqb (getD positions x 0 + 1) w)
 
--- at each place up to n + 1 are those of the first n parts whose positions are before it
+-- at each place up to n are those of the first n parts whose positions are before it
 pub record Below (positions : List ℕ) (n : ℕ) (low high : List ℕ) : Type 0 where
   pub lows : length low ≡ 130
   pub highs : length high ≡ 130
-  pub each : (w x : ℕ) → w ≤ n + 1 → hasPart (rowAt low high w) x ≡ (ltb x n && ltb (getD positions x 0) w)
+  pub each : (w x : ℕ) → w ≤ n → hasPart (rowAt low high w) x ≡ (ltb x n && ltb (getD positions x 0) w)
 
--- the parts left that are due, or have to stand at v or earlier
-abbrev pub opened : PartSet → PartSet → List ℕ → List ℕ → ℕ → PartSet
-opened due left ends-low ends-high v = met (joined due (rowAt ends-low ends-high (v + 1))) left
-
--- r is the first position from e on at which a part left is due, if one is due before n
-pub record NextEnd (n e : ℕ) (due left : PartSet) (ends-low ends-high : List ℕ) (r : ℕ) : Type 0 where
-  pub from : e ≤ r
-  pub none : (v x : ℕ) → e ≤ v → v < r → T (hasPart (opened due left ends-low ends-high v) x) → 128 ≤ x
-  pub some : r < n → (x : ℕ) × T (hasPart (opened due left ends-low ends-high r) x)
+-- each part that waits is noted at a part left that is to precede it
+pub record Held (left waiting : PartSet) (low high wait-low wait-high : List ℕ) : Type 0 where
+  pub lows : length wait-low ≡ 130
+  pub highs : length wait-high ≡ 130
+  pub each : (x : ℕ) → T (hasPart waiting x)
+      → (b : ℕ) × T (hasPart (met (rowAt low high x) (removed left (single x))) b) × T (hasPart (rowAt wait-low wait-high b) x)
 
 -- there are at most 128 parts, and each has its first position and its row
 pub record SizedFor (n : ℕ) (fs ls hs : List ℕ) : Type 0 where

@@ -4,7 +4,7 @@ ghost use mathlib.Core.Bool.{cond};
 ghost use mathlib.Core.Option.{some, none};
 ghost use lib.ListN.{length};
 ghost use Rattle.ordering.specs.Least.{leastOrder};
-ghost use Rattle.flat_order.specs.Flat.{flatTask, SizedFor, InPlace};
+ghost use Rattle.flat_order.specs.Flat.{flatTask, SizedFor, InPlace, noLevels};
 
 mod picking;
 mod positions;
@@ -12,6 +12,9 @@ pub mod sets;
 mod settling;
 
 use crate::picking::greedy_order;
+use crate::positions::first_parts;
+use crate::positions::no_words;
+use crate::positions::put_parts;
 use crate::settling::settle_lasts;
 
 // A set of parts: part x is bit x of `low`, and from 64 on bit x - 64 of `high`.
@@ -20,10 +23,10 @@ pub struct PartSet {
     pub high: u64,
 }
 
-// A set of parts for each of 130 places.
-pub struct PartSets {
-    pub low: [u64; 130],
-    pub high: [u64; 130],
+fn no_levels() -> [u8; 128]
+    ensures { λ r. ⌜ r ≡ noLevels ⌝ }
+{
+    [0; 128]
 }
 
 // The least order that obeys, into the order; false where none obeys. The last positions are settled on the way.
@@ -39,6 +42,30 @@ pub fn least_order(
     ensures { λ r. ⌜ cond r (some (now (order .exit))) none ≡
         leastOrder (flatTask (now (firsts .entry)) (now (lasts .entry)) (now (low .entry)) (now (high .entry))) ⌝ }
 {
-    settle_lasts(low, high, &mut *lasts);
-    greedy_order(firsts, &*lasts, low, high, &mut *order)
+    let n = lasts.len();
+    let all = first_parts(n);
+    let mut ends_low = no_words();
+    let mut ends_high = no_words();
+    let mut levels = no_levels();
+    put_parts(&*lasts, n, &mut ends_low, &mut ends_high);
+    settle_lasts(
+        all,
+        low,
+        high,
+        &mut *lasts,
+        &mut ends_low,
+        &mut ends_high,
+        &mut levels,
+    );
+    greedy_order(
+        all,
+        firsts,
+        &*lasts,
+        low,
+        high,
+        &ends_low,
+        &ends_high,
+        &mut levels,
+        &mut *order,
+    )
 }

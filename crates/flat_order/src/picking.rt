@@ -1,175 +1,168 @@
 // The least order by flat arrays, position by position. Slices have a place for each part.
 ghost use mathlib.Core.Path.{_≡_};
-ghost use mathlib.Core.Bool.{true, cond, _&&_};
+ghost use mathlib.Core.Bool.{true, false, cond};
 ghost use mathlib.Core.Option.{some, none};
-ghost use Prim.Native.Nat.{ℕ, _+_, _-_, _≤_, _<_};
+ghost use Prim.Native.Nat.{ℕ, _≤_, _<_};
 ghost use lib.Dec.{ltb};
 ghost use lib.ListN.{length, getD};
 ghost use Rattle.ordering.specs.Number.{lowest};
 ghost use Rattle.ordering.specs.Least.{greedy};
-ghost use Rattle.flat_order.specs.Sets.{single, removed, apart};
-ghost use Rattle.flat_order.specs.Flat.{rowAt, noCounts, Counted, upTo, tightBy, candidatesAt, isPick, flatTask, SizedFor, InPlace};
+ghost use Rattle.flat_order.specs.Sets.{hasPart};
+ghost use Rattle.flat_order.specs.Flat.{candidatesAt, isPick, flatTask, SizedFor, InPlace, Below, Levels, Raised, IsEnd, Held};
 use crate::PartSet;
-use crate::positions::parts_below;
+use crate::positions::no_words;
+use crate::positions::put_parts;
 use crate::positions::row;
-use crate::sets::has_part;
-use crate::sets::is_apart;
+use crate::sets::join;
 use crate::sets::lowest_part;
 use crate::sets::meet;
 use crate::sets::remove;
 use crate::sets::single_part;
-use crate::settling::first_parts;
 
-fn no_counts() -> [usize; 129]
-    ensures { λ r. ⌜ r ≡ noCounts ⌝ }
-{
-    [0; 129]
+// The part found, and the parts that wait for another.
+struct Pick {
+    part: usize,
+    waiting: PartSet,
 }
 
-fn slot(last: usize) -> usize
-    ensures { λ r. ⌜ r ≡ cond (ltb last 129) last 0 ⌝ }
+// Raises the levels from one position up to another by one; counts those that then have the number of their position.
+fn raise(from: usize, to: usize, levels: &mut [u8]) -> u8
+    requires { ⌜ (to ≤ 128) × (length (now levels) ≡ 128) × ((v : ℕ) → from ≤ v → v < to → getD (now levels) v 0 < 255) ⌝ }
+    ensures { λ r. ⌜ Raised from to (now (levels .entry)) (now (levels .exit)) r ⌝ }
 {
-    if last < 129 { last } else { 0 }
-}
-
-fn bump(left: bool, last: usize) -> usize
-    ensures { λ r. ⌜ r ≡ cond (left && ltb last 129) 1 0 ⌝ }
-{
-    if !left {
-        return 0;
-    }
-    if last < 129 { 1 } else { 0 }
-}
-
-// How many parts left have each last position.
-fn ends(left: PartSet, lasts: &[usize]) -> [usize; 129]
-    requires { ⌜ length (now lasts) ≤ 128 ⌝ }
-    ensures { λ r. ⌜ Counted left (now (lasts .entry)) (length (now (lasts .entry))) r ⌝ }
-{
-    let n = lasts.len();
-    let mut counts = no_counts();
-    let mut i = 0;
-    while i < n {
-        let last = lasts[i];
-        let at = slot(last);
-        let more = bump(has_part(left, i), last);
-        counts[at] += more;
-        i += 1;
-    }
-    counts
-}
-
-// The first position from p on up to which all positions from p are taken by parts that are due there; `before` are due before p.
-fn tight_end(p: usize, n: usize, before: usize, counts: &[usize]) -> usize
-    requires { ⌜ (p < n) × (n < length (now counts)) × ((k : ℕ) → k < length (now counts) → upTo (now counts) k ≤ 128)
-        × (before + getD (now counts) p 0 ≡ upTo (now counts) p) ⌝ }
-    ensures { λ r. ⌜ r ≡ p + tightBy (now (counts .entry)) p (n - p) ⌝ }
-{
-    let rest = n - p;
-    let mut due = before + counts[p];
-    let mut d = 0;
-    while d < rest {
-        if due == d + 1 {
-            return p + d;
+    let mut reached: u8 = 0;
+    let mut v = from;
+    while v < to {
+        let level = levels[v];
+        if level == v as u8 {
+            reached += 1;
         }
-        d += 1;
-        let v = p + d;
-        due += counts[v];
+        levels[v] = level + 1;
+        v += 1;
     }
-    p + d
+    reached
 }
 
-// The parts left that can stand at position p by their windows, and have to stand at v or earlier.
-fn candidates(
-    p: usize,
-    v: usize,
+// The first position from p on whose level is its number and one more. It is still `end` where none before that was reached.
+fn tight_end(reached: u8, end: usize, p: usize, n: usize, levels: &[u8]) -> usize
+    requires { ⌜ (p ≤ n) × (n ≤ length (now levels)) × (reached ≡ 0 → p ≤ end → IsEnd n p (now levels) end) ⌝ }
+    ensures { λ r. ⌜ IsEnd n p (now (levels .entry)) r ⌝ }
+{
+    if reached == 0 {
+        if p <= end {
+            return end;
+        }
+    }
+    let mut v = p;
+    while v < n {
+        let level = levels[v] as usize;
+        if level == v + 1 {
+            return v;
+        }
+        v += 1;
+    }
+    v
+}
+
+// The parts left that have begun at position p, have not ended before it, and have to stand at v or earlier.
+fn candidates(p: usize, v: usize, begun: PartSet, ends_low: &[u64], ends_high: &[u64]) -> PartSet
+    requires { ⌜ (p < 128) × (v < 128) × (length (now «ends_low») ≡ 130) × (length (now «ends_high») ≡ 130) ⌝ }
+    ensures { λ r. ⌜ r ≡ candidatesAt p v begun (now («ends_low» .entry)) (now («ends_high» .entry)) ⌝ }
+{
+    let due = row(ends_low, ends_high, v + 1);
+    let past = row(ends_low, ends_high, p);
+    meet(begun, remove(due, past))
+}
+
+// The lowest candidate that no other part left is to precede; n where there is none. One that another part is to precede waits for it.
+fn lowest_free(
+    n: usize,
+    among: PartSet,
     left: PartSet,
-    firsts_low: &[u64],
-    firsts_high: &[u64],
-    lasts_low: &[u64],
-    lasts_high: &[u64],
-) -> PartSet
-    requires { ⌜ (p < 128) × (v < 129) × (length (now «firsts_low») ≡ 130) × (length (now «firsts_high») ≡ 130)
-        × (length (now «lasts_low») ≡ 130) × (length (now «lasts_high») ≡ 130) ⌝ }
-    ensures { λ r. ⌜ r ≡ candidatesAt p v left (now («firsts_low» .entry)) (now («firsts_high» .entry))
-        (now («lasts_low» .entry)) (now («lasts_high» .entry)) ⌝ }
+    mut waiting: PartSet,
+    low: &[u64],
+    high: &[u64],
+    wait_low: &mut [u64],
+    wait_high: &mut [u64],
+) -> Pick
+    requires { ⌜ (n ≤ 128) × (n ≤ length (now low)) × (n ≤ length (now high))
+        × Held left waiting (now low) (now high) (now «wait_low») (now «wait_high») ⌝ }
+    ensures part { λ r. ⌜ r .part ≡ lowest (isPick among left (now (low .entry)) (now (high .entry))) n ⌝ }
+    ensures waiting { λ r. ⌜ Held left (r .waiting) (now (low .entry)) (now (high .entry)) (now («wait_low» .exit)) (now («wait_high» .exit)) ⌝ }
 {
-    let begun = row(firsts_low, firsts_high, p + 1);
-    let due = row(lasts_low, lasts_high, v + 1);
-    let past = row(lasts_low, lasts_high, p);
-    meet(meet(left, begun), remove(due, past))
-}
-
-// No other part left is to be placed earlier than x.
-fn is_free(x: usize, left: PartSet, low: &[u64], high: &[u64]) -> bool
-    requires { ⌜ (x < 128) × (x < length (now low)) × (x < length (now high)) ⌝ }
-    ensures { λ r. ⌜ r ≡ apart (rowAt (now (low .entry)) (now (high .entry)) x) (removed left (single x)) ⌝ }
-{
-    is_apart(row(low, high, x), remove(left, single_part(x)))
-}
-
-// The lowest candidate that no other part left is to precede; n where there is none.
-fn lowest_free(n: usize, mut among: PartSet, left: PartSet, low: &[u64], high: &[u64]) -> usize
-    requires { ⌜ (n ≤ 128) × (n ≤ length (now low)) × (n ≤ length (now high)) ⌝ }
-    ensures { λ r. ⌜ r ≡ lowest (isPick among left (now (low .entry)) (now (high .entry))) n ⌝ }
-{
-    let mut x = lowest_part(among);
+    let mut rest = remove(among, waiting);
+    let mut x = lowest_part(rest);
     while x < n {
-        if is_free(x, left, low, high) {
-            return x;
+        let one = single_part(x);
+        let b = lowest_part(meet(row(low, high, x), remove(left, one)));
+        if 128 <= b {
+            return Pick { part: x, waiting };
         }
-        among = remove(among, single_part(x));
-        x = lowest_part(among);
+        wait_low[b] |= one.low;
+        wait_high[b] |= one.high;
+        waiting = join(waiting, one);
+        rest = remove(rest, one);
+        x = lowest_part(rest);
     }
-    n
+    Pick { part: n, waiting }
 }
 
 // The pick for each position, into the order; false where a position has none.
 pub fn greedy_order(
+    all: PartSet,
     firsts: &[usize],
     lasts: &[usize],
     low: &[u64],
     high: &[u64],
+    ends_low: &[u64],
+    ends_high: &[u64],
+    levels: &mut [u8],
     order: &mut [u8],
 ) -> bool
     requires { ⌜ SizedFor (length (now lasts)) (now firsts) (now low) (now high) × (length (now order) ≡ length (now lasts))
-        × InPlace (length (now lasts)) (now firsts) × InPlace (length (now lasts)) (now lasts) ⌝ }
+        × InPlace (length (now lasts)) (now firsts) × InPlace (length (now lasts)) (now lasts)
+        × ((x : ℕ) → hasPart all x ≡ ltb x (length (now lasts)))
+        × Below (now lasts) (length (now lasts)) (now «ends_low») (now «ends_high») × Levels all (now lasts) 0 (now levels) ⌝ }
     ensures { λ r. ⌜ cond r (some (now (order .exit))) none ≡
         greedy (flatTask (now (firsts .entry)) (now (lasts .entry)) (now (low .entry)) (now (high .entry)))
         (length (now (lasts .entry))) 0 (λ _. true) ⌝ }
 {
     let n = lasts.len();
-    let begins = parts_below(firsts, n);
-    let firsts_low = begins.low;
-    let firsts_high = begins.high;
-    let closes = parts_below(lasts, n);
-    let lasts_low = closes.low;
-    let lasts_high = closes.high;
-    let mut left = first_parts(n);
-    let mut counts = ends(left, lasts);
-    let mut before = 0;
+    let mut firsts_low = no_words();
+    let mut firsts_high = no_words();
+    put_parts(firsts, n, &mut firsts_low, &mut firsts_high);
+    let mut wait_low = no_words();
+    let mut wait_high = no_words();
+    let mut waiting = PartSet { low: 0, high: 0 };
+    let mut begun = PartSet { low: 0, high: 0 };
+    let mut left = all;
+    let mut v = tight_end(1, 0, 0, n, &*levels);
     let mut p = 0;
     while p < n {
-        let v = tight_end(p, n, before, &counts);
-        let among = candidates(
-            p,
-            v,
+        let at = p;
+        p += 1;
+        begun = join(begun, row(&firsts_low, &firsts_high, p));
+        let among = candidates(at, v, meet(left, begun), ends_low, ends_high);
+        let found = lowest_free(
+            n,
+            among,
             left,
-            &firsts_low,
-            &firsts_high,
-            &lasts_low,
-            &lasts_high,
+            waiting,
+            low,
+            high,
+            &mut wait_low,
+            &mut wait_high,
         );
-        let x = lowest_free(n, among, left, low, high);
+        let x = found.part;
         if n <= x {
             return false;
         }
-        order[p] = x as u8;
+        order[at] = x as u8;
+        waiting = remove(found.waiting, row(&wait_low, &wait_high, x));
         left = remove(left, single_part(x));
         let last = lasts[x];
-        counts[last] -= 1;
-        before += counts[p];
-        p += 1;
+        let reached = raise(p, last, &mut *levels);
+        v = tight_end(reached, v, p, n, &*levels);
     }
     true
 }

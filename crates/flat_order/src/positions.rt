@@ -1,10 +1,12 @@
-// The parts by their positions: which are at a position before each place, as sets.
+// The parts by their positions, as sets.
 ghost use mathlib.Core.Path.{_≡_};
-ghost use Prim.Native.Nat.{_≤_, _<_};
+ghost use Prim.Native.Nat.{ℕ, _≤_, _<_};
+ghost use lib.Dec.{ltb};
 ghost use lib.ListN.{length};
-ghost use Rattle.flat_order.specs.Flat.{rowAt, noWords, PartsAt, Below, InPlace};
+ghost use Rattle.flat_order.specs.Sets.{hasPart};
+ghost use Rattle.flat_order.specs.Flat.{rowAt, noWords, PartsAt, InPlace};
 use crate::PartSet;
-use crate::PartSets;
+use crate::sets::join;
 use crate::sets::single_part;
 
 // The row of part b.
@@ -18,19 +20,32 @@ pub fn row(low: &[u64], high: &[u64], b: usize) -> PartSet
     }
 }
 
-fn no_words() -> [u64; 130]
+pub fn no_words() -> [u64; 130]
     ensures { λ r. ⌜ r ≡ noWords ⌝ }
 {
     [0; 130]
 }
 
-// The first n parts, each at the place after its position.
-fn parts_at(positions: &[usize], n: usize) -> PartSets
-    requires { ⌜ (n ≤ 128) × (n ≤ length (now positions)) × InPlace n (now positions) ⌝ }
-    ensures { λ r. ⌜ PartsAt (now (positions .entry)) n (r .low) (r .high) ⌝ }
+// The set of the first n parts.
+pub fn first_parts(n: usize) -> PartSet
+    requires { ⌜ n ≤ 128 ⌝ }
+    ensures { λ r. ⌜ ((x : ℕ) → hasPart r x ≡ ltb x n) ⌝ }
 {
-    let mut low = no_words();
-    let mut high = no_words();
+    let mut all = PartSet { low: 0, high: 0 };
+    let mut i = 0;
+    while i < n {
+        all = join(all, single_part(i));
+        i += 1;
+    }
+    all
+}
+
+// The first n parts, each at the place after its position.
+pub fn put_parts(positions: &[usize], n: usize, low: &mut [u64], high: &mut [u64])
+    requires { ⌜ (n ≤ 128) × (n ≤ length (now positions)) × InPlace n (now positions)
+        × (now low ≡ noWords) × (now high ≡ noWords) ⌝ }
+    ensures { λ _. ⌜ PartsAt (now (positions .entry)) n (now (low .exit)) (now (high .exit)) ⌝ }
+{
     let mut i = 0;
     while i < n {
         let at = positions[i] + 1;
@@ -39,24 +54,4 @@ fn parts_at(positions: &[usize], n: usize) -> PartSets
         high[at] |= one.high;
         i += 1;
     }
-    PartSets { low, high }
-}
-
-// At each place up to n + 1 those of the first n parts whose positions are before it.
-pub fn parts_below(positions: &[usize], n: usize) -> PartSets
-    requires { ⌜ (n ≤ 128) × (n ≤ length (now positions)) × InPlace n (now positions) ⌝ }
-    ensures { λ r. ⌜ Below (now (positions .entry)) n (r .low) (r .high) ⌝ }
-{
-    let sets = parts_at(positions, n);
-    let mut low = sets.low;
-    let mut high = sets.high;
-    let mut w = 0;
-    while w <= n {
-        let l = low[w];
-        let h = high[w];
-        w += 1;
-        low[w] |= l;
-        high[w] |= h;
-    }
-    PartSets { low, high }
 }

@@ -1,36 +1,19 @@
 // Sets of parts, in two words.
 ghost use mathlib.Core.Path.{_≡_};
 ghost use Prim.Native.Nat.{_<_};
-ghost use Rattle.flat_order.specs.Sets.{hasPart, single, joined, removed, met, apart, IsLowest};
+ghost use Rattle.flat_order.specs.Sets.{single, joined, removed, met, IsLowest};
 use crate::PartSet;
 use tips::lowest;
-
-pub fn has_part(s: PartSet, x: usize) -> bool
-    requires { ⌜ x < 128 ⌝ }
-    ensures { λ r. ⌜ r ≡ hasPart s x ⌝ }
-{
-    if x < 64 {
-        return (s.low >> x) % 2 == 1;
-    }
-    let y = x - 64;
-    (s.high >> y) % 2 == 1
-}
 
 pub fn single_part(x: usize) -> PartSet
     requires { ⌜ x < 128 ⌝ }
     ensures { λ r. ⌜ r ≡ single x ⌝ }
 {
+    let bit = 1 << (x % 64);
     if x < 64 {
-        return PartSet {
-            low: 1 << x,
-            high: 0,
-        };
+        return PartSet { low: bit, high: 0 };
     }
-    let y = x - 64;
-    PartSet {
-        low: 0,
-        high: 1 << y,
-    }
+    PartSet { low: 0, high: bit }
 }
 
 pub fn join(s: PartSet, t: PartSet) -> PartSet
@@ -58,15 +41,6 @@ pub fn meet(s: PartSet, t: PartSet) -> PartSet
         low: s.low & t.low,
         high: s.high & t.high,
     }
-}
-
-pub fn is_apart(s: PartSet, t: PartSet) -> bool
-    ensures { λ r. ⌜ r ≡ apart s t ⌝ }
-{
-    if s.low & t.low != 0 {
-        return false;
-    }
-    s.high & t.high == 0
 }
 
 // The lowest part of the set; 128 where it has none.

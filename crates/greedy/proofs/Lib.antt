@@ -1,7 +1,6 @@
 pub mod PlanBy
 pub mod Unplanned
-pub mod Line
 pub mod Chosen
-pub mod Round
-pub mod Blocks
+pub mod Gathered
 pub mod Lists
+pub mod Round

@@ -1,12 +1,13 @@
 -- What the rounds leave: the plan so far with the lines left on the tips of the rounds to come is the plan of quick sharing.
 use Prim.Native.Nat.{ℕ, zero, suc, _+_, _≤_, _<_}
 use native.Mathlib.Omega.{arith}
+use native.Mathlib.Nat.{pos-of-ne-zero}
 use mathlib.Core.Path.{_≡_, refl, ap, sym, _∙_}
 use mathlib.Core.Logic.{⊎-elim}
 use mathlib.Core.Bool.{cond}
 use mathlib.Core.List.{List, [], _∷_, map}
-use lib.Dec.{not-T, eqb→eq}
-use lib.ListN.{length, replicate, length-map}
+use lib.Dec.{T-not, not-T, eqb→eq}
+use lib.ListN.{length, getD, replicate, length-map}
 use Rattle.model.specs.Count.{All, none, more, largest}
 use Rattle.model.specs.Limits.{mostPlacements, mostPairs}
 use Rattle.model.specs.Plan.{has, occ, isEmpty, pairs, choose2, Domain, prefer}
@@ -14,7 +15,7 @@ use Rattle.model.specs.Choice.{Mounted}
 use Rattle.model.specs.Greedy.{busiest, rest, rounds, first, quickTip, quickPlan}
 use Rattle.model.proofs.Choice.{choice-cong}
 use Rattle.model.proofs.Tests.{test, true-T, false-T}
-use Rattle.model.proofs.Lists.{all-map, all-same, count-pos}
+use Rattle.model.proofs.Lists.{all-getD, all-map, all-same, count-pos}
 use Rattle.model.proofs.Pairs.{pairs-taken}
 use Rattle.model.proofs.Limits.{pairs-few}
 use Rattle.model.proofs.Sets.{some-tip, not-empty}
@@ -27,14 +28,14 @@ use Rattle.placements.specs.Plans.{quickPlanQ}
 use Rattle.placements.proofs.Repeated.{length-repeated, repeated-map, all-repeated, all-once}
 use Rattle.placements.proofs.Plans.{quick-repeated}
 use Rattle.placements.proofs.Good.{good-placements}
-use Rattle.blocks.specs.Blocks.{Covers}
+use Rattle.unplanned.specs.Listed.{Unplanned}
 use Rattle.counts.specs.Counts.{countAt, busyTips, Counts}
 use Rattle.head.specs.OnHead.{chosen}
 use Rattle.counts.proofs.Read.{largest-top}
-use Rattle.greedy.specs.Rounds.{planBy, cleared, placed, Takeable, Taken}
+use Rattle.greedy.specs.Rounds.{planBy, cleared, placed, Taken, ListsFit, RoundReady}
 use Rattle.greedy.proofs.Chosen.{chosen-busiest}
 use Rattle.greedy.proofs.PlanBy.{length-planBy, planBy-same, planBy-map, planBy-twice}
-use Rattle.greedy.proofs.Unplanned.{unplanned, occ-unplanned, unplanned-all, unplanned-cleared, unplanned-none}
+use Rattle.greedy.proofs.Unplanned.{unplanned, occ-unplanned, unplanned-all, unplanned-cleared, unplanned-none, none-unplanned}
 
 -- the tips of the rounds to come
 pub order : Mounted → ℕ → List ℕ → List ℕ
@@ -106,7 +107,7 @@ no-pairs : (mounted : Mounted) (m : ℕ) → pairs (quickPlan mounted m []) ≡ 
 unfolding quickPlan quickTip pairs
 no-pairs mounted m = refl
 
--- ---- the working copy, the plan and the counts between two rounds
+-- ---- the working copy and the plan between two rounds
 
 -- the tip by g for a line that is left; where it is for one that is planned
 pub filled : (ℕ → ℕ) → ℕ → ℕ → ℕ
@@ -132,18 +133,17 @@ filled-round t f g e s p =
 pub toPlan : List ℕ → List ℕ → List ℕ
 toPlan qs left = unplanned (repeated qs left)
 
-pub record State (mounted : Mounted) (m : ℕ) (qs lines left plan counts : List ℕ) (shared : ℕ) : Type 0 where
+pub record State (mounted : Mounted) (m : ℕ) (qs lines left plan : List ℕ) (shared : ℕ) : Type 0 where
   pub domains : All (Domain m) (toPlan qs left)
   pub size : length left ≡ length lines
   pub plan-size : length plan ≡ length left
-  pub counts-are : Counts (repeated qs left) counts
   pub plan-is : quickPlanQ mounted m qs lines ≡ planBy (filled (first (order mounted m (toPlan qs left)))) left plan
   pub pairs-are : pairs (quickPlan mounted m (repeated qs lines)) ≡ shared + pairs (quickPlan mounted m (toPlan qs left))
 
-pub start : {mounted : Mounted} {m : ℕ} (qs : List ℕ) {lines plan counts : List ℕ} → All (Domain m) lines → length plan ≡ length lines
-    → Counts (repeated qs lines) counts → State mounted m qs lines lines plan counts 0
+pub start : {mounted : Mounted} {m : ℕ} (qs : List ℕ) {lines plan : List ℕ} → All (Domain m) lines → length plan ≡ length lines
+    → State mounted m qs lines lines plan 0
 unfolding quickPlanQ quickTip order toPlan
-start {mounted} {m} qs {lines} {plan} ds e h =
+start {mounted} {m} qs {lines} {plan} ds e =
     let placed = all-repeated qs ds in
     let l = unplanned-all placed in
     let g = first (order mounted m (repeated qs lines)) in
@@ -151,28 +151,69 @@ start {mounted} {m} qs {lines} {plan} ds e h =
       domains = rw l placed;
       size = refl;
       plan-size = e;
-      counts-are = h;
       plan-is = rw l (sym (planBy-map (filled g) g (all-map (filled-unplanned g) ds) plan e));
       pairs-are = rw l (omega arith);
     }
 
--- between two rounds: the state, with unions that cover the lines left, in lists of the lengths that they had
-pub record Ongoing (mounted : Mounted) (m shared : ℕ) (qs lines left plan counts unions₀ unions blocks₀ blocks places₀ places : List ℕ) : Type 0 where
-  pub state : State mounted m qs lines left plan counts shared
-  pub covers : Covers left unions
-  pub unions-size : length unions ≡ length unions₀
-  pub blocks-size : length blocks ≡ length blocks₀
+-- no line is left: the plan is done
+module _ {mounted : Mounted} {m : ℕ} {qs lines left plan : List ℕ} {shared : ℕ} (st : State mounted m qs lines left plan shared)
+    (empty : All (λ s. s ≡ 0) left) where
+  pub end-left : left ≡ replicate (length lines) 0
+  end-left = rw (← (st .size)) (all-same 0 empty)
+
+  pub end-plan : plan ≡ quickPlanQ mounted m qs lines
+  end-plan = sym (st .plan-is ∙ planBy-same _ (all-map (filled-empty _) empty) plan)
+
+  pub end-pairs : shared ≡ pairs (repeated qs (quickPlanQ mounted m qs lines))
+  unfolding toPlan
+  end-pairs =
+      let done = ap (λ l. pairs (quickPlan mounted m l)) (none-unplanned (all-repeated qs empty)) ∙ no-pairs mounted m in
+      rw (quick-repeated mounted m qs lines) (omega (arith, st .pairs-are, done))
+
+pub none-listed : {n : ℕ} {list : List ℕ} (left : List ℕ) → Unplanned n list left → n ≡ 0 → All (λ s. s ≡ 0) left
+none-listed left u z =
+    all-getD 0 left (λ i l.
+    ⊎-elim
+    (λ y. eqb→eq (getD left i 0) 0 y)
+    (λ n. let a = u .each i l (pos-of-ne-zero (λ e. T-not (isEmpty (getD left i 0)) n (rw e tt))) in
+    let early = a .early in
+    absurd (omega arith))
+    (test (isEmpty (getD left i 0))))
+
+-- the lists have the lengths that they had
+pub record Sizes (list₀ places₀ sets₀ taken₀ list places sets taken : List ℕ) : Type 0 where
+  pub list-size : length list ≡ length list₀
   pub places-size : length places ≡ length places₀
+  pub sets-size : length sets ≡ length sets₀
+  pub taken-size : length taken ≡ length taken₀
+
+pub still-fit : {n : ℕ} {list₀ places₀ sets₀ taken₀ list places sets taken : List ℕ} → ListsFit n list₀ places₀ sets₀ taken₀
+    → Sizes list₀ places₀ sets₀ taken₀ list places sets taken → ListsFit n list places sets taken
+still-fit f s = record {
+  for-lines = omega (arith, f .for-lines, s .list-size);
+  for-places = omega (arith, f .for-places, s .places-size);
+  for-sets = omega (arith, f .for-sets, s .sets-size);
+  paired = s .taken-size ∙ f .paired ∙ sym (s .sets-size);
+  narrow = f .narrow;
+}
+
+-- between two rounds: the state, the lines left counted and listed
+pub record Ongoing (mounted : Mounted) (m shared : ℕ) (qs lines left plan counts : List ℕ) (n : ℕ) (list : List ℕ) : Type 0 where
+  pub state : State mounted m qs lines left plan shared
+  pub counts-are : Counts (repeated qs left) counts
+  pub most : n ≤ length left
+  pub unplanned : Unplanned n list left
 
 -- a round begins: the largest count of a tip in the rack
 pub record Begun (mounted : Mounted) (m : ℕ) (qs lines left plan counts : List ℕ) (shared most : ℕ) : Type 0 where
-  pub state : State mounted m qs lines left plan counts shared
+  pub state : State mounted m qs lines left plan shared
+  pub counts-are : Counts (repeated qs left) counts
   pub good : GoodLines m qs lines
   pub is-most : most ≡ largest (countAt counts) m
 
 module _ {mounted : Mounted} {m : ℕ} {qs lines left plan counts : List ℕ} {shared most : ℕ}
     (b : Begun mounted m qs lines left plan counts shared most) where
-  st : State mounted m qs lines left plan counts shared
+  st : State mounted m qs lines left plan shared
   st = b .state
 
   same : length qs ≡ length left
@@ -180,13 +221,13 @@ module _ {mounted : Mounted} {m : ℕ} {qs lines left plan counts : List ℕ} {s
 
   counted : Counts (toPlan qs left) counts
   unfolding toPlan
-  counted = record { size = st .counts-are .size; counted = λ t. st .counts-are .counted t ∙ occ-unplanned (repeated qs left) t }
+  counted = record { size = b .counts-are .size; counted = λ t. b .counts-are .counted t ∙ occ-unplanned (repeated qs left) t }
 
   -- a tip has at most all placements
   pub few-placements : most ≤ mostPlacements
   few-placements =
       let placements = length-repeated qs left same in
-      omega (arith, b .good .few, b .is-most, largest-top (st .counts-are) m, top-length m (repeated qs left), placements)
+      omega (arith, b .good .few, b .is-most, largest-top (b .counts-are) m, top-length m (repeated qs left), placements)
 
   -- a busiest tip has them
   most-is : most ≡ occ (toPlan qs left) (busiest mounted (toPlan qs left) m)
@@ -194,25 +235,12 @@ module _ {mounted : Mounted} {m : ℕ} {qs lines left plan counts : List ℕ} {s
       let below = occ-le (st .domains) (busiest mounted (toPlan qs left) m) in
       omega (arith, b .is-most, largest-top counted m, top-le mounted m (toPlan qs left))
 
-  -- no tip has a placement: the plan is done
-  module _ (none : most ≡ 0) where
-    none-unplanned : toPlan qs left ≡ []
-    none-unplanned = none-left mounted m (toPlan qs left) (st .domains) (sym most-is ∙ none)
-
-    each-empty : All (λ s. s ≡ 0) left
-    unfolding toPlan
-    each-empty = all-once (b .good .placed) left same (unplanned-none (repeated qs left) none-unplanned)
-
-    pub end-left : left ≡ replicate (length lines) 0
-    end-left = rw (← (st .size)) (all-same 0 each-empty)
-
-    pub end-plan : plan ≡ quickPlanQ mounted m qs lines
-    end-plan = sym (st .plan-is ∙ planBy-same _ (all-map (filled-empty _) each-empty) plan)
-
-    pub end-pairs : shared ≡ pairs (repeated qs (quickPlanQ mounted m qs lines))
-    end-pairs =
-        let done = ap (λ l. pairs (quickPlan mounted m l)) none-unplanned ∙ no-pairs mounted m in
-        rw (quick-repeated mounted m qs lines) (omega (arith, st .pairs-are, done))
+  -- no tip has a placement: no line is left
+  pub each-empty : most ≡ 0 → All (λ s. s ≡ 0) left
+  unfolding toPlan
+  each-empty z =
+      let none = none-left mounted m (toPlan qs left) (st .domains) (sym most-is ∙ z) in
+      all-once (b .good .placed) left same (unplanned-none (repeated qs left) none)
 
 -- a round takes one of the tips that have the largest count: the mounted one, else the lowest
 pub record Chosen (mounted : Mounted) (m : ℕ) (qs lines left plan counts : List ℕ) (shared most tip : ℕ) : Type 0 where
@@ -222,7 +250,7 @@ pub record Chosen (mounted : Mounted) (m : ℕ) (qs lines left plan counts : Lis
 
 module _ {mounted : Mounted} {m : ℕ} {qs lines left plan counts : List ℕ} {shared most tip : ℕ}
     (r : Chosen mounted m qs lines left plan counts shared most tip) where
-  was : State mounted m qs lines left plan counts shared
+  was : State mounted m qs lines left plan shared
   was = r .begun .state
 
   busiest-is : tip ≡ busiest mounted (toPlan qs left) m
@@ -231,13 +259,18 @@ module _ {mounted : Mounted} {m : ℕ} {qs lines left plan counts : List ℕ} {s
       r .is-tip ∙ chosen-busiest mounted (countAt counts) m most (r .lines-left) (r .begun .is-most) (r .begun .good .most)
       ∙ choice-cong mounted _ _ m (λ t _. counted (r .begun) .counted t)
 
-  pub tip-takeable : Takeable tip qs left plan counts
-  tip-takeable = record {
-    inside = omega (arith, busiest-is, busiest-lt mounted m (toPlan qs left) (r .begun .good .some), r .begun .good .most);
-    some = r .begun .good .placed;
+  pub round-ready : {n : ℕ} {list₀ places₀ sets₀ taken₀ list places sets taken : List ℕ}
+      → Ongoing mounted m shared qs lines left plan counts n list → Sizes list₀ places₀ sets₀ taken₀ list places sets taken
+      → ListsFit (length lines) list₀ places₀ sets₀ taken₀ → RoundReady tip n qs left plan counts list places sets taken
+  round-ready o s f = record {
+    tip-inside = omega (arith, busiest-is, busiest-lt mounted m (toPlan qs left) (r .begun .good .some), r .begun .good .most);
     same = same (r .begun);
+    few = r .begun .good .few;
     size = was .plan-size;
-    counts-are = was .counts-are;
+    counts-are = o .counts-are;
+    most = o .most;
+    unplanned = o .unplanned;
+    fit = rw (was .size) (still-fit f s);
   }
 
   count-is : most ≡ occ (toPlan qs left) tip
@@ -257,7 +290,7 @@ module _ {mounted : Mounted} {m : ℕ} {qs lines left plan counts : List ℕ} {s
         let size = length-quick mounted m (repeated qs lines) in
         omega (arith, was .pairs-are, round, pairs-few (quickPlan mounted m (repeated qs lines)) (omega arith))
 
-    module _ {left' plan' counts' : List ℕ} (taken : Taken tip qs left plan left' plan' counts') where
+    module _ {left' plan' : List ℕ} (taken : Taken tip left plan left' plan') where
       unplanned-rest : toPlan qs left' ≡ rest (toPlan qs left) tip
       unfolding toPlan
       unplanned-rest = rw (taken .left-is, repeated-map (cleared tip) qs left) (unplanned-cleared tip (repeated qs left))
@@ -265,7 +298,7 @@ module _ {mounted : Mounted} {m : ℕ} {qs lines left plan counts : List ℕ} {s
       pub next-fewer : length (toPlan qs left') < length (toPlan qs left)
       next-fewer = rw unplanned-rest (fewer-round mounted m (toPlan qs left) (was .domains) some-unplanned tip busiest-is)
 
-      pub next : State mounted m qs lines left' plan' counts' (shared + here)
+      pub next : State mounted m qs lines left' plan' (shared + here)
       next =
           let old = first (order mounted m (toPlan qs left)) in
           let new = first (order mounted m (rest (toPlan qs left) tip)) in
@@ -276,7 +309,6 @@ module _ {mounted : Mounted} {m : ℕ} {qs lines left plan counts : List ℕ} {s
             domains = rw unplanned-rest (rest-domains (was .domains) tip);
             size = size-left ∙ was .size;
             plan-size = ap length (taken .plan-is) ∙ length-planBy (placed tip) left plan ∙ was .plan-size ∙ sym size-left;
-            counts-are = taken .counts-are;
             plan-is = rw unplanned-rest (was .plan-is ∙ rw (taken .left-is, taken .plan-is) twice);
             pairs-are = rw unplanned-rest (omega (arith, was .pairs-are, round));
           }

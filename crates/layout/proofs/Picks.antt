@@ -33,7 +33,7 @@ unfolding mostBy
 most-place m cs a w p = rw (ne-eqb w 0 (λ z. omega arith))
 
 -- the split from its parts
-pub split-parts : (m : ℕ) (xs cs : List ℕ) (a w i : ℕ) {k p b d : ℕ} → k ≡ insideBy xs a w (a + i) → p ≡ choose2 k → b ≡ mostBy m cs a i
+pub split-parts : (m : ℕ) (xs cs : List ℕ) (a w i : ℕ) {k p b d : ℕ} → k ≡ insideBy m xs a w (a + i) → p ≡ choose2 k → b ≡ mostBy m cs a i
     → d ≡ mostBy m cs (a + i + 1) (w - (i + 1)) → p + (b + d) ≡ splitBy m xs cs a w i
 unfolding splitBy
 split-parts m xs cs a w i e f g h = rw (f, e, g, h)
@@ -47,12 +47,12 @@ module _ {m : ℕ} {lines xs cs : List ℕ} (r : Ready m lines xs cs) where
       let w : a + n + 1 - a ≡ suc n = omega arith in
       rw (ne-eqb (suc n) 0 (λ z. omega arith), r .filled, e, table-at m lines a (a + n) (omega arith) (omega arith), w)
 
-  inside-is : (a w i : ℕ) → a + w ≤ m → i < w → insideBy xs a w (a + i) ≡ inside lines a w (a + i)
+  inside-is : (a w i : ℕ) → a + w ≤ m → i < w → insideBy m xs a w (a + i) ≡ inside lines a w (a + i)
   inside-is a w i h l =
       let g = r .good in
-      rw (r .summed) (insideBy-inside lines a w (a + i) (omega (arith, g .most)) (omega arith) (omega arith) (g .most) (g .domains) (r .runs))
+      rw (r .summed) (insideBy-inside m lines a w (a + i) h (omega arith) (omega arith) (g .most) (g .domains) (r .runs))
 
-  pub insideBy-few : (a w i : ℕ) → a + w ≤ m → i < w → insideBy xs a w (a + i) ≤ mostPlacements
+  pub insideBy-few : (a w i : ℕ) → a + w ≤ m → i < w → insideBy m xs a w (a + i) ≤ mostPlacements
   insideBy-few a w i h l = omega (arith, inside-is a w i h l, inside-length lines a w (a + i), r .good .few)
 
   split-is : (a w i : ℕ) → a + w ≤ m → i < w → splitBy m xs cs a w i ≡ split (C lines) lines a w i

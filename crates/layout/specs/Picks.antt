@@ -12,7 +12,6 @@ use Rattle.model.specs.Limits.{GoodPlacements}
 use Rattle.model.specs.Choice.{Mounted, choice, from}
 use Rattle.model.specs.Interval.{isRun, table as tableOf}
 use Rattle.spans.specs.Spans.{sums as sumsOf, insideBy}
-use Rattle.layout.specs.Owners.{ownersSize}
 
 -- the most pairs of an interval, from the table of m columns; 0 for an interval of no width
 unfoldable pub mostBy : ℕ → List ℕ → ℕ → ℕ → ℕ
@@ -20,7 +19,7 @@ mostBy m table a w = cond (eqb w 0) 0 (getD table (a * m + (a + w - 1)) 0)
 
 -- the pairs of the interval if tip a + i takes its lines, by the sums and the table
 unfoldable pub splitBy : ℕ → List ℕ → List ℕ → ℕ → ℕ → ℕ → ℕ
-splitBy m sums table a w i = choose2 (insideBy sums a w (a + i)) + (mostBy m table a i + mostBy m table (a + i + 1) (w - (i + 1)))
+splitBy m sums table a w i = choose2 (insideBy m sums a w (a + i)) + (mostBy m table a i + mostBy m table (a + i + 1) (w - (i + 1)))
 
 -- the lowest tip, less a, at which the split of the interval is largest, by the sums and the table
 unfoldable pub lowestBy : ℕ → List ℕ → List ℕ → ℕ → ℕ → ℕ
@@ -34,7 +33,7 @@ pickBy mounted m sums table a w = choice (from a mounted) (splitBy m sums table 
 pub record Ready (m : ℕ) (lines sums table : List ℕ) : Type 0 where
   pub good : GoodPlacements m lines
   pub runs : All (λ s. T (isRun s)) lines
-  pub summed : sums ≡ sumsOf lines
+  pub summed : sums ≡ sumsOf m lines
   pub filled : table ≡ tableOf m lines
 
 -- the sums and the table are those of some such lines
@@ -45,4 +44,4 @@ Filled m sums table = (lines : List ℕ) × Ready m lines sums table
 pub record Layable (m : ℕ) (sums table : List ℕ) (a w : ℕ) (owner : List ℕ) : Type 0 where
   pub filled : Filled m sums table
   pub inside : a + w ≤ m
-  pub places : length owner ≡ ownersSize
+  pub places : m * m ≤ length owner

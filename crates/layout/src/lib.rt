@@ -12,11 +12,8 @@ ghost use Rattle.model.specs.Interval.{any, isRun, planFor};
 ghost use Rattle.head.specs.OnHead.{onHead};
 ghost use Rattle.pair_count.specs.PairTable.{PairTable};
 ghost use Rattle.layout.specs.Picks.{mostBy, splitBy, lowestBy, pickBy, Ready, Filled, Layable};
-ghost use Rattle.layout.specs.Owners.{ownersSize, ownerOf, owned, laid};
+ghost use Rattle.layout.specs.Owners.{ownerOf, owned, laid};
 use head::Mounted;
-
-// A place for the owner of each run in the largest rack, at its lowest tip * TIPS + its highest.
-const OWNERS_SIZE: usize = model::MOST_TIPS * model::MOST_TIPS;
 
 // The most pairs of the interval of first tip a and width w, from the table; 0 for one of no width.
 fn most_at(m: usize, table: &[u32], a: usize, w: usize) -> u32
@@ -42,7 +39,7 @@ fn split_at(
     requires { ⌜ Filled m (now sums) (now table) × (a + w ≤ m) × (i < w) × PairTable (now pairs) ⌝ }
     ensures { λ r. ⌜ r ≡ splitBy m (now (sums .entry)) (now (table .entry)) a w i ⌝ }
 {
-    let here = pair_count::pairs_among(pairs, spans::inside_at(sums, a, w, a + i));
+    let here = pair_count::pairs_among(pairs, spans::inside_at(m, sums, a, w, a + i));
     let before = most_at(m, table, a, i);
     let after = most_at(m, table, a + i + 1, w - (i + 1));
     here + (before + after)
@@ -118,39 +115,33 @@ fn fill(part: &mut [u8], tip: u8)
 }
 
 // Tip a + i owns the runs of the interval that have it: they begin at a tip from a to a + i, and end at one from a + i to the last.
-fn own_runs(a: usize, w: usize, i: usize, owner: &mut [u8])
-    requires { ⌜ (i < w) × (a + w ≤ mostTips) × (length (now owner) ≡ ownersSize) ⌝ }
-    ensures { λ _. ⌜ now (owner .exit) ≡ owned a w (a + i) (now (owner .entry)) ⌝ }
+fn own_runs(m: usize, a: usize, w: usize, i: usize, owner: &mut [u8])
+    requires { ⌜ (i < w) × (a + w ≤ m) × (m ≤ mostTips) × (m * m ≤ length (now owner)) ⌝ }
+    ensures { λ _. ⌜ now (owner .exit) ≡ owned m a w (a + i) (now (owner .entry)) ⌝ }
 {
     let tip = a + i;
     let mut lo = a;
     while lo <= tip {
-        let start = lo * model::MOST_TIPS + tip;
-        let end = lo * model::MOST_TIPS + (a + w);
+        let start = lo * m + tip;
+        let end = lo * m + (a + w);
         fill(&mut owner[start..end], tip as u8);
         lo += 1;
     }
 }
 
-fn no_owners() -> [u8; OWNERS_SIZE]
-    ensures { λ r. ⌜ length r ≡ ownersSize ⌝ }
-{
-    [0u8; OWNERS_SIZE]
-}
-
 // The owner of a line that is a run.
 fn owner_of(m: usize, owner: &[u8], line: u64) -> u8
-    requires { ⌜ (m ≤ mostTips) × Domain m line × (length (now owner) ≡ ownersSize) ⌝ }
-    ensures { λ r. ⌜ r ≡ ownerOf (now (owner .entry)) line ⌝ }
+    requires { ⌜ (m ≤ mostTips) × Domain m line × (m * m ≤ length (now owner)) ⌝ }
+    ensures { λ r. ⌜ r ≡ ownerOf m (now (owner .entry)) line ⌝ }
 {
-    let place = tips::lowest(line) * model::MOST_TIPS + tips::highest(line);
+    let place = tips::lowest(line) * m + tips::highest(line);
     owner[place]
 }
 
 // Each line is planned on its owner.
 fn plan_owners(m: usize, lines: &[u64], owner: &[u8], plan: &mut [u8])
-    requires { ⌜ (m ≤ mostTips) × All (Domain m) (now lines) × (length (now owner) ≡ ownersSize) × (length (now plan) ≡ length (now lines)) ⌝ }
-    ensures { λ _. ⌜ now (plan .exit) ≡ map (ownerOf (now (owner .entry))) (now (lines .entry)) ⌝ }
+    requires { ⌜ (m ≤ mostTips) × All (Domain m) (now lines) × (m * m ≤ length (now owner)) × (length (now plan) ≡ length (now lines)) ⌝ }
+    ensures { λ _. ⌜ now (plan .exit) ≡ map (ownerOf m (now (owner .entry))) (now (lines .entry)) ⌝ }
 {
     let mut i = 0;
     while i < lines.len() {
@@ -171,7 +162,7 @@ fn lay_interval(
     owner: &mut [u8],
 )
     requires { ⌜ Layable m (now sums) (now table) a w (now owner) × PairTable (now pairs) ⌝ }
-    ensures { λ _. ⌜ now (owner .exit) ≡ laid (pickBy (onHead mounted) m (now (sums .entry)) (now (table .entry))) a w (now (owner .entry)) ⌝ }
+    ensures { λ _. ⌜ now (owner .exit) ≡ laid m (pickBy (onHead mounted) m (now (sums .entry)) (now (table .entry))) a w (now (owner .entry)) ⌝ }
 {
     if 0 < w {
         let i = find_tip(m, mounted, pairs, sums, table, a, w);
@@ -193,9 +184,9 @@ fn lay_tip(
 )
     requires { ⌜ Layable m (now sums) (now table) a w (now owner) × (i < w) × (i ≡ pickBy (onHead mounted) m (now sums) (now table) a w)
         × PairTable (now pairs) ⌝ }
-    ensures { λ _. ⌜ now (owner .exit) ≡ laid (pickBy (onHead mounted) m (now (sums .entry)) (now (table .entry))) a w (now (owner .entry)) ⌝ }
+    ensures { λ _. ⌜ now (owner .exit) ≡ laid m (pickBy (onHead mounted) m (now (sums .entry)) (now (table .entry))) a w (now (owner .entry)) ⌝ }
 {
-    own_runs(a, w, i, owner);
+    own_runs(m, a, w, i, owner);
     lay_interval(m, mounted, pairs, sums, table, a, i, owner);
     lay_interval(
         m,
@@ -210,21 +201,22 @@ fn lay_tip(
 }
 
 // The plan of sets that are unbroken runs, from the sums and the table of the lines counted, where any tip may be chosen.
+// The owner of each run is kept in a place that is lent, at its lowest tip * m + its highest.
 pub fn plan_lines(
     m: usize,
     mounted: Mounted,
     sets: &[u64],
+    pairs: &[u32],
     sums: &[u32],
     table: &[u32],
+    owner: &mut [u8],
     plan: &mut [u8],
 )
-    requires { ⌜ Filled m (now sums) (now table) × All (Domain m) (now sets) × All (λ s. T (isRun s)) (now sets)
-        × (length (now plan) ≡ length (now sets)) ⌝ }
+    requires { ⌜ Filled m (now sums) (now table) × All (Domain m) (now sets) × All (λ s. T (isRun s)) (now sets) × PairTable (now pairs)
+        × (m * m ≤ length (now owner)) × (length (now plan) ≡ length (now sets)) ⌝ }
     ensures { λ _. ⌜ ((lines : List ℕ) → Ready m lines (now (sums .entry)) (now (table .entry))
         → now (plan .exit) ≡ planFor (onHead mounted) any m lines (now (sets .entry))) ⌝ }
 {
-    let pairs = pair_count::pair_table();
-    let mut owner = no_owners();
-    lay_interval(m, mounted, &pairs, sums, table, 0, m, &mut owner);
-    plan_owners(m, sets, &owner, plan);
+    lay_interval(m, mounted, pairs, sums, table, 0, m, owner);
+    plan_owners(m, sets, owner, plan);
 }

@@ -42,8 +42,8 @@ handed-out qs {lines} {new} n size old x v p =
     let front = take-at new (drop n old) (length lines) (valid-length v) in
     record { own = rw front v; counted = rw front (sym p) }
 
-module _ (earlier : Refusal) (m : ℕ) (mounted : Mounted) (qs lines old : List ℕ) {n : ℕ} {d : Refusal} (by-count : d ≡ planRefusal earlier n (length old))
-    (size : earlier .number ≡ 0 → n ≡ length lines) where
+module _ (earlier : Refusal) (m : ℕ) (mounted : Mounted) (qs lines old : List ℕ) {n : ℕ} {d : Refusal}
+    (by-count : d ≡ planRefusal earlier n (length old)) (size : earlier .number ≡ 0 → n ≡ length lines) where
   -- the decision by the count is that by the lines
   e : d ≡ planRefusal earlier (length lines) (length old)
   unfolding planRefusal

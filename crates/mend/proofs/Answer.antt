@@ -8,11 +8,13 @@ use mathlib.Core.List.{List, _++_}
 use lib.ListN.{length, take, drop}
 use lib.Seq.{take-at}
 use borrow.Author.Tests.{lt-ltb, le-ltb, ne-eqb}
+use Rattle.text.specs.Buffer.{Printed}
 use Rattle.refusal.specs.declared.Refusal.{Refusal}
 use Rattle.refusal.specs.Refusal.{none, refuse}
 use Rattle.refusal.proofs.Laws.{or-first, or-next, lent-refused, lent-accepted}
-use Rattle.job.specs.Job.{Bytes, startNumber}
+use Rattle.job.specs.Job.{Bytes, startNumber, readRefusal}
 use Rattle.mending.specs.Mending.{mendedFile, mendedReport, mendRefusal}
+use Rattle.mending.proofs.Files.{accepted-same}
 use Rattle.mending.proofs.Rule.{mend-rule}
 use Rattle.mend.specs.declared.Mended.{Mended}
 use Rattle.mend.specs.Call.{refusedBy, mendOf, outAfter, reportAfter, MendRuleOf}
@@ -74,3 +76,13 @@ module _ (file out report : List ℕ) where
           (q ∙ lent-accepted d (length (mendedReport file)) (mendedReport file) report refl refl, λ _. rw (written, told) (mend-rule file b s)),
         ),
       )
+
+  -- a call on a file that reading accepts: it stays as it is, and nothing is told
+  pub call-same : (bytes : ℕ) (out' : List ℕ) → Bytes file → startNumber file ≡ 0 → readRefusal file .number ≡ 0 → length file ≤ length out
+      → Printed file out bytes out'
+      → {r : Refusal} → r ≡ none → Called file out report (record { refusal = r; bytes = bytes; «report_bytes» = 0 }) out' report
+  call-same bytes out' b s e h p z =
+      let (same, quiet) = accepted-same file e b in
+      let copied : out' ≡ mendedFile file ++ drop (length (mendedFile file)) out = rw same (p .bytes) in
+      let left : report ≡ mendedReport file ++ drop (length (mendedReport file)) report = rw quiet refl in
+      call-done bytes 0 out' report b s (p .size ∙ sym (ap length same)) (sym (ap length quiet)) (omega arith) (omega arith) copied left z

@@ -1,4 +1,4 @@
-// Mending a job file over slices: a first pass counts what is kept and what is reported, a second writes both.
+// Mending a job file over slices: a first pass counts what is kept and what is reported, a second writes both. A good file is copied.
 mod line;
 mod measure;
 mod read;
@@ -27,7 +27,7 @@ fn refused(number: u32) -> Mended
     }
 }
 
-// Mends the file: writes the mended file to `out` and the report of changes to `report`.
+// Mends the file: writes the mended file to `out` and the report of changes to `report`. A file that reading accepts stays as it is.
 pub fn mend(file: &[u8], out: &mut [u8], report: &mut [u8]) -> Mended
     ensures answer { λ r. ⌜ r ≡ mendOf (now (file .entry)) (length (now (out .entry))) (length (now (report .entry))) ⌝ }
     ensures out { λ _. ⌜ now (out .exit) ≡ outAfter (now (file .entry)) (now (out .entry)) (length (now (report .entry))) ⌝ }
@@ -38,6 +38,16 @@ pub fn mend(file: &[u8], out: &mut [u8], report: &mut [u8]) -> Mended
     let number = job::start_number(file);
     if number != 0 {
         return refused(number);
+    }
+    if read::is_accepted(file) {
+        if out.len() < file.len() {
+            return refused(11);
+        }
+        return Mended {
+            refusal: refusal::refuse(0),
+            bytes: text::put_word(out, 0, file),
+            report_bytes: 0,
+        };
     }
     let sizes = measure::count_lines(file);
     let kept = sizes.kept;

@@ -1,8 +1,11 @@
 // One line: its mended set and quantity, whether it stays, and the tests of its changes. `total` is the running total before it.
 ghost use mathlib.Core.Path.{_≡_};
-ghost use mathlib.Core.Bool.{cond};
-ghost use Prim.Native.Nat.{_%_, _^_, _≤_, max};
+ghost use mathlib.Core.Bool.{cond, _&&_};
+ghost use lib.Dec.{eqb, leb};
+ghost use Prim.Native.Nat.{_+_, _%_, _^_, _≤_, max};
 ghost use lib.ListN.{length};
+ghost use Rattle.model.specs.Limits.{mostPlacements};
+ghost use Rattle.job.specs.Job.{lineNumber};
 ghost use Rattle.mending.specs.Mending.{leftEmpty, over, after, stays, isCleared, isEmptied, isRaised, isDropped, codes};
 ghost use Rattle.mend.specs.Mend.{lineWith, mostRunning};
 
@@ -105,8 +108,19 @@ pub fn one_if(test: bool) -> usize
     if test { 1 } else { 0 }
 }
 
+// The line is good, and the total does not pass with it.
+fn is_good(rack: usize, total: usize, set: u64, quantity: u8) -> bool
+    requires { ⌜ total ≤ mostRunning ⌝ }
+    ensures { λ r. ⌜ r ≡ (eqb (lineNumber rack set quantity) 0 && leb (total + quantity) mostPlacements) ⌝ }
+{
+    if job::line_number(rack, set, quantity) != 0 {
+        return false;
+    }
+    total + quantity as usize <= model::MOST_PLACEMENTS
+}
+
 // The number of its changes.
-pub fn code_count(rack: usize, total: usize, set: u64, quantity: u8) -> usize
+fn code_count(rack: usize, total: usize, set: u64, quantity: u8) -> usize
     requires { ⌜ total ≤ mostRunning ⌝ }
     ensures { λ r. ⌜ (r ≡ length (codes rack total (lineWith set quantity))) × (r ≤ 4) ⌝ }
 {
@@ -114,4 +128,32 @@ pub fn code_count(rack: usize, total: usize, set: u64, quantity: u8) -> usize
         + one_if(is_emptied(rack, total, set, quantity))
         + one_if(is_raised(rack, total, set, quantity))
         + one_if(is_dropped(rack, total, set, quantity))
+}
+
+// Whether the line is kept, 1 or 0, the number of its changes, and the running total after it.
+pub struct Step {
+    pub kept: usize,
+    pub changes: usize,
+    pub total: usize,
+}
+
+// Most lines are good, and need no other test.
+pub fn mend_line(rack: usize, total: usize, set: u64, quantity: u8) -> Step
+    requires { ⌜ total ≤ mostRunning ⌝ }
+    ensures kept { λ r. ⌜ (r .kept ≡ cond (stays rack total (lineWith set quantity)) 1 0) × (r .kept ≤ 1) ⌝ }
+    ensures changes { λ r. ⌜ (r .changes ≡ length (codes rack total (lineWith set quantity))) × (r .changes ≤ 4) ⌝ }
+    ensures total { λ r. ⌜ (r .total ≡ after rack total (lineWith set quantity)) × (r .total ≤ mostRunning) ⌝ }
+{
+    if is_good(rack, total, set, quantity) {
+        return Step {
+            kept: 1,
+            changes: 0,
+            total: total + quantity as usize,
+        };
+    }
+    Step {
+        kept: one_if(line_stays(rack, total, set, quantity)),
+        changes: code_count(rack, total, set, quantity),
+        total: after_line(rack, total, set, quantity),
+    }
 }

@@ -20,6 +20,7 @@ pub fn count_lines(file: &[u8]) -> Sizes
     ensures kept { λ r. ⌜ (r .kept ≡ length (keptIn (now (file .entry)))) × (r .kept ≤ mostLines) ⌝ }
     ensures changes { λ r. ⌜ (r .changes ≡ length (lineChanges (now (file .entry)))) × (r .changes ≤ 4 * mostLines) ⌝ }
 {
+    let version = job::version_in(file);
     let rack = job::rack_in(file);
     let count = read::read_count(file);
     let mut total = 0;
@@ -27,11 +28,12 @@ pub fn count_lines(file: &[u8]) -> Sizes
     let mut changes = 0;
     let mut i = 0;
     while i < count {
-        let set = read::set_in(file, i);
-        let quantity = read::quantity_in(file, i);
-        kept += line::one_if(line::line_stays(rack, total, set, quantity));
-        changes += line::code_count(rack, total, set, quantity);
-        total = line::after_line(rack, total, set, quantity);
+        let set = read::set_in(file, version, i);
+        let quantity = read::quantity_in(file, version, i);
+        let step = line::mend_line(rack, total, set, quantity);
+        kept += step.kept;
+        changes += step.changes;
+        total = step.total;
         i += 1;
     }
     Sizes { kept, changes }

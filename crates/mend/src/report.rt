@@ -8,7 +8,7 @@ ghost use Prim.Native.Nat.{_≤_};
 ghost use lib.ListN.{length, drop};
 ghost use Rattle.text.specs.Buffer.{Room, Put};
 ghost use Rattle.job.specs.Job.{startNumber};
-ghost use Rattle.mending.specs.Mending.{keptIn, bytesOfChanges, mendedReport};
+ghost use Rattle.mending.specs.Mending.{codes, keptIn, bytesOfChanges, mendedReport};
 ghost use Rattle.mend.specs.Mend.{lineWith, mostRunning, lineChanges, lineReport, change};
 
 // The line number that stands for the whole file.
@@ -28,20 +28,25 @@ fn put_change(test: bool, index: usize, code: usize, at: usize, report: &mut [u8
     at
 }
 
-// Writes the changes of one line from `at` on.
+// Writes the changes of one line from `at` on; most lines have none.
 fn put_codes(
     index: usize,
     rack: usize,
     total: usize,
     set: u64,
     quantity: u8,
+    changes: usize,
     at: usize,
     report: &mut [u8],
 ) -> usize
     requires { ⌜ total ≤ mostRunning ⌝ }
+    requires { ⌜ changes ≡ length (codes rack total (lineWith set quantity)) ⌝ }
     requires { ⌜ Room (now report) at (lineReport index rack total (lineWith set quantity)) ⌝ }
     ensures { λ r. ⌜ Put (now (report .entry)) at (lineReport index rack total (lineWith set quantity)) r (now (report .exit)) ⌝ }
 {
+    if changes == 0 {
+        return at;
+    }
     let cleared = line::is_cleared(rack, total, set);
     let emptied = line::is_emptied(rack, total, set, quantity);
     let raised = line::is_raised(rack, total, set, quantity);
@@ -58,16 +63,18 @@ fn put_changes(file: &[u8], report: &mut [u8]) -> usize
     requires { ⌜ Room (now report) 0 (bytesOfChanges (lineChanges (now file))) ⌝ }
     ensures { λ r. ⌜ Put (now (report .entry)) 0 (bytesOfChanges (lineChanges (now (file .entry)))) r (now (report .exit)) ⌝ }
 {
+    let version = job::version_in(file);
     let rack = job::rack_in(file);
     let count = read::read_count(file);
     let mut total = 0;
     let mut at = 0;
     let mut i = 0;
     while i < count {
-        let set = read::set_in(file, i);
-        let quantity = read::quantity_in(file, i);
-        at = put_codes(i, rack, total, set, quantity, at, report);
-        total = line::after_line(rack, total, set, quantity);
+        let set = read::set_in(file, version, i);
+        let quantity = read::quantity_in(file, version, i);
+        let step = line::mend_line(rack, total, set, quantity);
+        at = put_codes(i, rack, total, set, quantity, step.changes, at, report);
+        total = step.total;
         i += 1;
     }
     at

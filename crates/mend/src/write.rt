@@ -59,8 +59,8 @@ fn put_lines(file: &[u8], out: &mut [u8]) -> usize
     let mut at = job::HEADER;
     let mut i = 0;
     while i < count {
-        let set = read::set_in(file, i);
-        let quantity = read::quantity_in(file, i);
+        let set = read::set_in(file, version, i);
+        let quantity = read::quantity_in(file, version, i);
         at = put_kept(version, rack, total, set, quantity, at, out);
         total = line::after_line(rack, total, set, quantity);
         i += 1;

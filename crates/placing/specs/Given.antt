@@ -1,8 +1,9 @@
 -- The parts as they are given, and the rows that their flags ask for.
 use Prim.Native.Nat.{ℕ, _<_, min}
 use mathlib.Core.Path.{_≡_}
-use mathlib.Core.Bool.{true, false, not, cond}
+use mathlib.Core.Bool.{true, false, not, cond, _&&_}
 use mathlib.Core.List.{List}
+use lib.Dec.{ltb}
 use lib.ListN.{length, replicate}
 use Rattle.model.specs.Count.{each, firstFail, listOf}
 use Rattle.ordering.specs.declared.Part.{Part}
@@ -11,6 +12,7 @@ use Rattle.ordering.specs.Parts.{partAt, finePitch, byFlags, before, ruleOk}
 use Rattle.flat_order.specs.declared.PartSet.{PartSet}
 use Rattle.placing.specs.declared.Parts.{Parts}
 use Rattle.placing.specs.declared.Rows.{Rows}
+use Rattle.placing.specs.declared.flags.Kinds.{Kinds}
 use Rattle.flat_order.specs.Sets.{hasPart, noParts, joined}
 use Rattle.flat_order.specs.Flat.{rowAt}
 
@@ -25,6 +27,11 @@ noPositions = replicate 128 0
 -- the parts that are to precede part x by its flags, from the fine-pitch parts and those that are not tall
 unfoldable pub flagRow : Part → PartSet → PartSet → PartSet
 flagRow x fine short = joined (cond (not (finePitch x)) fine noParts) (cond (x .tall) short noParts)
+
+-- the fine-pitch parts of the first n, and those that are not tall
+pub record KindsOf (parts : List Part) (n : ℕ) (kinds : Kinds) : Type 0 where
+  pub fine : (x : ℕ) → hasPart (kinds .fine) x ≡ (ltb x n && finePitch (partAt parts x))
+  pub short : (x : ℕ) → hasPart (kinds .short) x ≡ (ltb x n && not (partAt parts x .tall))
 
 -- the rows by the flags, before any rule
 pub record Started (p : Parts) (rows : Rows) : Type 0 where

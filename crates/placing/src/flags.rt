@@ -1,11 +1,10 @@
 // The rows that the flags ask for: fine pitch first, tall last.
 ghost use mathlib.Core.Path.{_≡_};
-ghost use mathlib.Core.Bool.{cond, not, _&&_};
-ghost use Prim.Native.Nat.{ℕ, _≤_};
-ghost use lib.Dec.{ltb};
-ghost use Rattle.ordering.specs.Parts.{partAt, finePitch};
-ghost use Rattle.flat_order.specs.Sets.{hasPart, noParts};
-ghost use Rattle.placing.specs.Given.{flagRow, Started};
+ghost use mathlib.Core.Bool.{cond};
+ghost use Prim.Native.Nat.{_≤_};
+ghost use Rattle.ordering.specs.Parts.{finePitch};
+ghost use Rattle.flat_order.specs.Sets.{noParts};
+ghost use Rattle.placing.specs.Given.{flagRow, Started, KindsOf};
 use crate::Parts;
 use crate::Rows;
 use crate::marking::at_most_128;
@@ -14,6 +13,12 @@ use flat_order::PartSet;
 use flat_order::sets::join;
 use flat_order::sets::single_part;
 use ordering::Part;
+
+// The fine-pitch parts, and those that are not tall.
+pub struct Kinds {
+    pub fine: PartSet,
+    pub short: PartSet,
+}
 
 fn when(test: bool, s: PartSet) -> PartSet
     ensures { λ r. ⌜ r ≡ cond test s noParts ⌝ }
@@ -30,34 +35,22 @@ fn is_fine(p: Part) -> bool
     p.fine
 }
 
-// The fine-pitch parts of the first n.
-fn fine_parts(parts: Parts, n: usize) -> PartSet
+// The fine-pitch parts of the first n, and those that are not tall.
+fn kinds_of(parts: Parts, n: usize) -> Kinds
     requires { ⌜ n ≤ 128 ⌝ }
-    ensures { λ r. ⌜ ((x : ℕ) → hasPart r x ≡ (ltb x n && finePitch (partAt (parts .parts) x))) ⌝ }
+    ensures { λ r. ⌜ KindsOf (parts .parts) n r ⌝ }
 {
-    let mut all = PartSet { low: 0, high: 0 };
+    let mut fine = PartSet { low: 0, high: 0 };
+    let mut short = PartSet { low: 0, high: 0 };
     let mut i = 0;
     while i < n {
         let p = parts.parts[i];
-        all = join(all, when(is_fine(p), single_part(i)));
+        let one = single_part(i);
+        fine = join(fine, when(is_fine(p), one));
+        short = join(short, when(!p.tall, one));
         i += 1;
     }
-    all
-}
-
-// The parts of the first n that are not tall.
-fn short_parts(parts: Parts, n: usize) -> PartSet
-    requires { ⌜ n ≤ 128 ⌝ }
-    ensures { λ r. ⌜ ((x : ℕ) → hasPart r x ≡ (ltb x n && not (partAt (parts .parts) x .tall))) ⌝ }
-{
-    let mut all = PartSet { low: 0, high: 0 };
-    let mut i = 0;
-    while i < n {
-        let p = parts.parts[i];
-        all = join(all, when(!p.tall, single_part(i)));
-        i += 1;
-    }
-    all
+    Kinds { fine, short }
 }
 
 // The parts that are to precede a part by its flags, from the sets of the fine-pitch parts and of those that are not tall.
@@ -72,15 +65,14 @@ pub fn start_rows(parts: Parts) -> Rows
     ensures { λ r. ⌜ Started parts r ⌝ }
 {
     let n = at_most_128(parts.count);
-    let fine = fine_parts(parts, n);
-    let short = short_parts(parts, n);
+    let kinds = kinds_of(parts, n);
     let rows = no_rows(parts.count);
     let mut low = rows.low;
     let mut high = rows.high;
     let mut b = 0;
     while b < n {
         let p = parts.parts[b];
-        let row = flag_row(p, fine, short);
+        let row = flag_row(p, kinds.fine, kinds.short);
         low[b] = row.low;
         high[b] = row.high;
         b += 1;

@@ -1,9 +1,9 @@
 -- The outside table of the other lines grows by one interval, and with it the tips at which a chain has ended with the goal's pairs.
 use Prim.Native.Nat.{ℕ, _+_, _*_, _-_, _≤_, _<_}
 use native.Mathlib.Omega.{arith}
-use mathlib.Core.Path.{_≡_}
+use mathlib.Core.Path.{_≡_, refl}
 use mathlib.Core.Logic.{_⊎_, inl, inr, _↔_, ⊎-elim}
-use mathlib.Core.Bool.{Bool, cond, _&&_}
+use mathlib.Core.Bool.{Bool, false, _&&_}
 use mathlib.Core.List.{List}
 use lib.Bits.{bitOr}
 use lib.Dec.{T, leb, ltb, leb→le, le→leb, ltb→lt, lt→ltb}
@@ -89,31 +89,38 @@ module _ {names m q : ℕ} {lines rest xs inner upper : List ℕ} (k : Known nam
           and-in (ltb t (a + w)) (leb a t && (has s t && e)) (lt→ltb t (a + w) (omega arith))
           (and-in (leb a t) (has s t && e) (le→leb a t (omega arith)) (and-in (has s t) e h enough)))
 
-    -- one interval more
-    pub follow-more : {r v : ℕ} → r ≡ cond (isOpen a w) found 0 → v ≡ cond (isOpen a w) out 0
-        → So (set outer (place m a w) v) (bitOr kept r) w (a + 1)
-    follow-more {r} {v} x y = record {
-      table = outside-more (k .others) (k .inside) (f .table) p b y;
-      right = λ t h. ⊎-elim (f .right t) (new t) (or-out kept r t h);
-      wider = λ c u i l g e o h n. or-left kept r (c + i) (f .wider c u i l g e o h n);
-      row = λ c i l g e o h n. ⊎-elim
-          (λ z. let same : c ≡ a = omega arith in or-right kept r (c + i) (all c i same e o h n))
-          (λ z. or-left kept r (c + i) (f .row c i z g e o h n))
+    -- one interval more that is open
+    pub follow-more : {r v : ℕ} → T (isOpen a w) → r ≡ found → v ≡ out → So (set outer (place m a w) v) (bitOr kept r) w (a + 1)
+    follow-more {r} {v} o x y = record {
+      table = outside-more (k .others) (k .inside) (f .table) p b (rw (true-T (isOpen a w) o) y);
+      right = λ t h. ⊎-elim (f .right t) (λ n. found-right o t (rw x at n)) (or-out kept r t h);
+      wider = λ c u i l g e z h n. or-left kept r (c + i) (f .wider c u i l g e z h n);
+      row = λ c i l g e z h n. ⊎-elim
+          (λ y. let same : c ≡ a = omega arith in or-right kept r (c + i) (all c i same e h n))
+          (λ y. or-left kept r (c + i) (f .row c i y g e z h n))
           (le-or-lt a c);
     }
       where
-        new : (t : ℕ) → T (has r t) → T (has s t) × EndsAt t
-        new t h = ⊎-elim
-            (λ o. found-right o t (rw (x, true-T (isOpen a w) o) at h))
-            (λ n. absurd (rw (x, false-T (isOpen a w) n, empty-has 0 t tt) at h))
-            (test (isOpen a w))
-
-        all : (c i : ℕ) → c ≡ a → i < w → T (isOpen c w) → T (has s (c + i)) → K ≤ ended isOpen m (C lines) rest q c w i → T (has r (c + i))
-        all c i e l o h n =
-            let o' : T (isOpen a w) = rw e at o in
+        all : (c i : ℕ) → c ≡ a → i < w → T (has s (c + i)) → K ≤ ended isOpen m (C lines) rest q c w i → T (has r (c + i))
+        all c i e l h n =
             let h' : T (has s (a + i)) = rw e at h in
             let n' : K ≤ ended isOpen m (C lines) rest q a w i = rw e at n in
-            rw (e, x, true-T (isOpen a w) o') (found-all o' i l h' n')
+            rw (e, x) (found-all o i l h' n')
+
+    -- and one that is not
+    pub follow-past : isOpen a w ≡ false → So (set outer (place m a w) 0) kept w (a + 1)
+    follow-past z = record {
+      table = outside-more (k .others) (k .inside) (f .table) p b (rw z refl);
+      right = f .right;
+      wider = f .wider;
+      row = λ c i l g e o h n. ⊎-elim
+          (λ y. let same : c ≡ a = omega arith in absurd (none c same o))
+          (λ y. f .row c i y g e o h n)
+          (le-or-lt a c);
+    }
+      where
+        none : (c : ℕ) → c ≡ a → T (isOpen c w) → ⊥
+        none c same o = rw (same, z) at o
 
   -- a whole row
   pub follow-next : {outer : List ℕ} {kept w a : ℕ} → 0 < w → m < a + w → So outer kept w a → So outer kept (w - 1) 0

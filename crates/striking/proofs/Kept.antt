@@ -1,10 +1,10 @@
 -- The tips that stay, by the sums of the other lines and the two tables of all lines, are the goal's tips.
-use Prim.Native.Nat.{ℕ, suc, _+_, _*_, _^_, _≤_, _<_}
+use Prim.Native.Nat.{ℕ, zero, suc, _+_, _*_, _-_, _^_, _≤_, _<_, min, max}
 use native.Mathlib.Omega.{arith}
 use native.Mathlib.Nat.{mul-le-mul-left}
 use native.Mathlib.Numerals.{add-one}
 use mathlib.Core.Path.{_≡_, refl, ap, sym, _∙_}
-use mathlib.Core.Logic.{_↔_}
+use mathlib.Core.Logic.{_↔_, ⊎-elim}
 use mathlib.Core.Bool.{Bool, true, false, cond, _&&_}
 use mathlib.Core.List.{List}
 use lib.Dec.{T, leb, ltb, leb→le, le→leb, lt→ltb}
@@ -14,12 +14,12 @@ use borrow.Author.Tests.{lt-ltb, le-ltb}
 use lib.Pow.{pow-pos, pow-mono}
 use Rattle.model.specs.Limits.{mostTips}
 use Rattle.model.specs.Count.{listOf}
-use Rattle.model.specs.Plan.{has, choose2}
+use Rattle.model.specs.Plan.{has, choose2, Domain}
 use Rattle.model.specs.CommonTip.{setOf}
 use Rattle.model.specs.Interval.{low, high, inside, C}
-use Rattle.model.proofs.Tests.{true-T, false-not, and-in, same-test, cond-case}
+use Rattle.model.proofs.Tests.{le-or-lt, true-T, false-not, and-in, same-test, cond-case}
 use Rattle.model.proofs.Lists.{all-at}
-use Rattle.model.proofs.Run.{low-le, le-high}
+use Rattle.model.proofs.Run.{low-le, le-high, high-below}
 use Rattle.model.proofs.ListOf.{listOf-at}
 use Rattle.model.proofs.Sets.{setOf-lt, setOf-none, setOf-cong, set-same}
 use Rattle.placements.specs.Repeated.{repeated}
@@ -30,7 +30,7 @@ use Rattle.goals.proofs.Strike.{fewer, tips-by-tables}
 use Rattle.checking.specs.Checking.{NamedRuns}
 use Rattle.checking.proofs.Bounds.{named-runs}
 use Rattle.striking.specs.Striking.{goalRefusal, struckBy, RunSums, limitBy, openBy, endsBy, InsideAll, OutsideAll, Known}
-use Rattle.striking.proofs.Read.{inside-lying}
+use Rattle.striking.proofs.Read.{inside-meeting}
 use Rattle.striking.proofs.Outer.{Out-few}
 
 -- THE KEPT SET of line i: the tips at which some chain ends with the goal's pairs, by the two tables of all lines
@@ -50,14 +50,16 @@ module _ {names m : ℕ} {qs sets : List ℕ} (r : NamedRuns names m qs sets) (i
   opens K t a w h p e b n =
       let s = getD sets i 0 in
       let line = all-at 0 (named-runs r) i l in
-      let enough = leb K (limitBy m xs inner upper (getD qs i 0) a w) in
+      let enough = leb K (limitBy m xs inner upper (getD qs i 0) s a w) in
+      let top = le-high (r .good .most) (line .domain) t h in
       and-in (leb a (high s)) (ltb (low s) (a + w) && enough)
-      (le→leb a (high s) (omega (arith, le-high (r .good .most) (line .domain) t h)))
+      (le→leb a (high s) (omega (arith, top)))
       (and-in (ltb (low s) (a + w)) enough (lt→ltb (low s) (a + w) (omega (arith, low-le s t h))) (le→leb K _ (omega (
         arith,
         o .wider a w (omega arith) b,
         x .narrower a w (omega arith) b,
-        mul-le-mul-left (getD qs i 0) (inside-lying k a w t b p e (line .fits t h)),
+        mul-le-mul-left (getD qs i 0) (inside-meeting k (low s) (high s) a w t b p e (low-le s t h) top
+            (high-below (r .good .most) (line .domain)) (line .fits t h)),
       ))))
 
   pub kept-goal : (K kept : ℕ)
@@ -99,7 +101,37 @@ pub bits-more : (f : ℕ → Bool) (t : ℕ) → setOf f (t + 1) ≡ setOf f t +
 unfolding setOf
 bits-more f t = rw add-one
 
--- no tip before the interval
-pub tips-before : (names m : ℕ) (xs inner : List ℕ) (q s K outside a w : ℕ) → setOf (endsBy names m xs inner q s K outside a w) a ≡ 0
-unfolding endsBy
-tips-before names m xs inner q s K outside a w = setOf-cong _ (λ t. false) a (λ t l. rw (lt-leb a t l)) ∙ setOf-none a
+and-none : (b : Bool) → (b && false) ≡ false
+and-none true = refl
+and-none false = refl
+
+-- tests that fail from x on add nothing
+bits-past : (f : ℕ → Bool) (x n : ℕ) → ((u : ℕ) → x ≤ u → u < x + n → f u ≡ false) → setOf f (x + n) ≡ setOf f x
+bits-past f x zero h = let e : x + 0 ≡ x = omega arith in rw e refl
+bits-past f x (suc n) h =
+    let e : x + suc n ≡ x + n + 1 = omega arith in
+    rw (e, bits-more f (x + n), h (x + n) (omega arith) (omega arith)) (omega (arith, bits-past f x n (λ u p l. h u p (omega arith))))
+
+-- no tip before the interval or the lowest of the set, and none after its highest
+module _ (names m : ℕ) (xs inner : List ℕ) (q s K outside a w : ℕ) where
+  abbrev ends : ℕ → Bool
+  ends = endsBy names m xs inner q s K outside a w
+
+  none-before : (t : ℕ) → t < max a (low s) → ends t ≡ false
+  unfolding endsBy
+  none-before t l = ⊎-elim
+      (λ p. rw (le-leb a t p, false-not (has s t) (λ o. omega (arith, low-le s t o))) refl)
+      (λ p. rw (lt-leb a t p) refl)
+      (le-or-lt a t)
+
+  pub tips-before : (x : ℕ) → x ≤ max a (low s) → setOf ends x ≡ 0
+  tips-before x h = setOf-cong ends (λ t. false) x (λ t l. none-before t (omega arith)) ∙ setOf-none x
+
+  none-after : m ≤ mostTips → Domain m s → (t : ℕ) → high s < t → ends t ≡ false
+  unfolding endsBy
+  none-after narrow d t p = rw (false-not (has s t) (λ o. omega (arith, le-high narrow d t o))) (and-none (leb a t))
+
+  pub tips-after : m ≤ mostTips → Domain m s → (x : ℕ) → x ≡ min (a + w) (high s + 1) → setOf ends x ≡ setOf ends (a + w)
+  tips-after narrow d x e =
+      let n : x + (a + w - x) ≡ a + w = omega arith in
+      sym (rw n at (bits-past ends x (a + w - x) (λ t p l. none-after narrow d t (omega arith))))

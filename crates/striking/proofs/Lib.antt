@@ -4,4 +4,5 @@ pub mod Inner
 pub mod Outer
 pub mod Follow
 pub mod Kept
+pub mod One
 pub mod Laws

@@ -1,5 +1,5 @@
 -- The sums of the other lines are those of all lines without one.
-use Prim.Native.Nat.{ℕ, _+_, _-_, _/_, _%_, _<_}
+use Prim.Native.Nat.{ℕ, _+_, _/_, _%_, _<_}
 use native.Mathlib.Omega.{arith}
 use mathlib.Core.Path.{_≡_, ap, _∙_}
 use mathlib.Core.Bool.{Bool, _&&_}
@@ -13,7 +13,7 @@ use Rattle.placements.specs.Repeated.{repeated}
 use Rattle.placements.proofs.Good.{good-placements}
 use Rattle.placements.proofs.Repeated.{all-repeated}
 use Rattle.spans.specs.Spans.{sumsWidth, sumsSize, below, sums}
-use Rattle.spans.proofs.Below.{length-sums}
+use Rattle.spans.proofs.Below.{length-sums, sums-at}
 use Rattle.goals.specs.Goal.{without, others}
 use Rattle.goals.proofs.Append.{count-replicate, mix-repeated, all-without}
 use Rattle.checking.specs.Checking.{NamedRuns}
@@ -21,9 +21,9 @@ use Rattle.checking.proofs.Bounds.{named-runs}
 use Rattle.striking.specs.Striking.{ownAt, sumsWithout, Removable, RunSums}
 
 -- the sums of all lines
-pub all-sums : {names m : ℕ} {qs sets xs : List ℕ} → NamedRuns names m qs sets → xs ≡ sums (repeated qs sets)
+pub all-sums : {names m : ℕ} {qs sets xs : List ℕ} → NamedRuns names m qs sets → xs ≡ sums m (repeated qs sets)
     → RunSums names m 0 (repeated qs sets) xs
-all-sums {qs} r e = record {
+all-sums {qs = qs} r e = record {
   rack = r .good .most;
   few = omega (arith, good-placements (r .good) .few);
   runs = all-repeated qs (named-runs r);
@@ -39,24 +39,24 @@ module _ {names m : ℕ} {qs sets : List ℕ} (r : NamedRuns names m qs sets) (i
       let f : ℕ → Bool = λ s. ltb (low s) x && ltb (high s) y in
       omega (arith, count-mix f (mix-repeated qs sets i (r .good .same) l), count-replicate f (getD qs i 0) (getD sets i 0))
 
-  sum-at : (k : ℕ) → k < sumsSize → getD (sums (repeated qs sets)) k 0 ≡ below (repeated qs sets) (k / sumsWidth) (k % sumsWidth)
+  sum-at : (k : ℕ) → k < sumsSize m → getD (sums m (repeated qs sets)) k 0 ≡ below (repeated qs sets) (k / sumsWidth m) (k % sumsWidth m)
   unfolding sums
-  sum-at k h = listOf-at _ sumsSize k h
+  sum-at k h = listOf-at _ (sumsSize m) k h
 
   -- no sum goes below zero
-  pub removable : Removable (sums (repeated qs sets)) (getD sets i 0) (getD qs i 0)
+  pub removable : Removable m (sums m (repeated qs sets)) (getD sets i 0) (getD qs i 0)
   removable = record {
-    size = length-sums (repeated qs sets);
-    covers = λ k h. omega (arith, sum-at k h, at-place (k / sumsWidth) (k % sumsWidth));
+    size = length-sums m (repeated qs sets);
+    covers = λ x y h g. omega (arith, sums-at m (repeated qs sets) x y h g, at-place x y);
   }
 
   -- THE SUMS OF THE OTHERS
-  pub without-line : sumsWithout (sums (repeated qs sets)) (getD sets i 0) (getD qs i 0) ≡ sums (others qs sets i)
+  pub without-line : sumsWithout m (sums m (repeated qs sets)) (getD sets i 0) (getD qs i 0) ≡ sums m (others qs sets i)
   unfolding sumsWithout sums
-  without-line = listOf-cong _ _ sumsSize (λ k h. omega (arith, sum-at k h, at-place (k / sumsWidth) (k % sumsWidth)))
+  without-line = listOf-cong _ _ (sumsSize m) (λ k h. omega (arith, sum-at k h, at-place (k / sumsWidth m) (k % sumsWidth m)))
 
   -- with the line's own quantity they are few, and they are runs of the named tips
-  pub rest-sums : {ss xs : List ℕ} → ss ≡ sums (repeated qs sets) → xs ≡ sumsWithout ss (getD sets i 0) (getD qs i 0)
+  pub rest-sums : {ss xs : List ℕ} → ss ≡ sums m (repeated qs sets) → xs ≡ sumsWithout m ss (getD sets i 0) (getD qs i 0)
       → RunSums names m (getD qs i 0) (others qs sets i) xs
   rest-sums e f =
       let q = getD qs i 0 in
@@ -69,5 +69,5 @@ module _ {names m : ℕ} {qs sets : List ℕ} (r : NamedRuns names m qs sets) (i
           length-replicate {A = ℕ} q s,
         );
         runs = all-repeated (without i qs) (all-without i (named-runs r));
-        summed = f ∙ ap (λ ys. sumsWithout ys s q) e ∙ without-line;
+        summed = f ∙ ap (λ ys. sumsWithout m ys s q) e ∙ without-line;
       }

@@ -74,7 +74,7 @@ module _ {names m q : ℕ} {lines xs : List ℕ} (k : RunSums names m q lines xs
 
 module _ {names m q : ℕ} {lines rest xs : List ℕ} (k : RunSums names m q rest xs) {inner : List ℕ} (i : InsideAll m lines inner)
     {isOpen : ℕ → ℕ → Bool} {outer : List ℕ} {w a : ℕ} (o : Outside m isOpen (C lines) rest outer w a) (p : 0 < w) (b : a + w ≤ m) where
-  on-tip : (e v c : ℕ) → e + v ≤ m → e ≤ c → c < e + v → pairsBy names xs 0 e v c ≡ choose2 (inside rest e v c)
+  on-tip : (e v c : ℕ) → e + v ≤ m → e ≤ c → c < e + v → pairsBy names m xs 0 e v c ≡ choose2 (inside rest e v c)
   on-tip e v c x y z =
       let n : inside rest e v c + 0 ≡ inside rest e v c = omega arith in
       pairs-same k 0 e v c x y z ∙ ap choose2 n

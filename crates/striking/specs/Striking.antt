@@ -33,37 +33,38 @@ unfoldable pub ownAt : ℕ → ℕ → ℕ → ℕ → ℕ → ℕ
 ownAt l h q x y = cond (ltb l x && ltb h y) q 0
 
 -- the sums without the line s of quantity q
-unfoldable pub sumsWithout : List ℕ → ℕ → ℕ → List ℕ
-sumsWithout xs s q = listOf (λ k. getD xs k 0 - ownAt (low s) (high s) q (k / sumsWidth) (k % sumsWidth)) sumsSize
+unfoldable pub sumsWithout : ℕ → List ℕ → ℕ → ℕ → List ℕ
+sumsWithout m xs s q = listOf (λ k. getD xs k 0 - ownAt (low s) (high s) q (k / sumsWidth m) (k % sumsWidth m)) (sumsSize m)
 
 -- no sum goes below zero without the line
-pub record Removable (xs : List ℕ) (s q : ℕ) : Type 0 where
-  pub size : length xs ≡ sumsSize
-  pub covers : (k : ℕ) → k < sumsSize → ownAt (low s) (high s) q (k / sumsWidth) (k % sumsWidth) ≤ getD xs k 0
+pub record Removable (m : ℕ) (xs : List ℕ) (s q : ℕ) : Type 0 where
+  pub size : length xs ≡ sumsSize m
+  pub covers : (x y : ℕ) → x < sumsWidth m → y < sumsWidth m → ownAt (low s) (high s) q x y ≤ sumAt m xs x y
 
 -- of the sums each interval's counts can be read, and with q more they are few
-pub record Ready (q : ℕ) (xs : List ℕ) : Type 0 where
-  pub summed : (a w c : ℕ) → a + w ≤ mostTips → a ≤ c → c < a + w → Summed xs a w c
-  pub few : (a w c : ℕ) → a + w ≤ mostTips → a ≤ c → c < a + w → insideBy xs a w c + q ≤ mostPlacements
+pub record Ready (m q : ℕ) (xs : List ℕ) : Type 0 where
+  pub rack : m ≤ mostTips
+  pub summed : (a w c : ℕ) → a + w ≤ m → a ≤ c → c < a + w → Summed m xs a w c
+  pub few : (a w c : ℕ) → a + w ≤ m → a ≤ c → c < a + w → insideBy m xs a w c + q ≤ mostPlacements
 
 -- lines that are runs of the tips of names, with q more few placements, and their sums
 pub record RunSums (names m q : ℕ) (lines xs : List ℕ) : Type 0 where
   pub rack : m ≤ mostTips
   pub few : length lines + q ≤ mostPlacements
   pub runs : All (Line (has names) m) lines
-  pub summed : xs ≡ sums lines
+  pub summed : xs ≡ sums m lines
 
 -- the pairs on tip c, with q placements more, of the lines lying within the interval, from the sums; no line has a tip that is not named
-unfoldable pub pairsBy : ℕ → List ℕ → ℕ → ℕ → ℕ → ℕ → ℕ
-pairsBy names xs q a w c = choose2 (cond (has names c) (insideBy xs a w c) 0 + q)
+unfoldable pub pairsBy : ℕ → ℕ → List ℕ → ℕ → ℕ → ℕ → ℕ → ℕ
+pairsBy names m xs q a w c = choose2 (cond (has names c) (insideBy m xs a w c) 0 + q)
 
 -- the pairs of the interval if tip a + i takes its lines and q placements more, from the sums and the inside table
 unfoldable pub splitBy : ℕ → ℕ → List ℕ → List ℕ → ℕ → ℕ → ℕ → ℕ → ℕ
-splitBy names m xs inner q a w i = pairsBy names xs q a w (a + i) + (entry m inner a i + entry m inner (a + i + 1) (w - (i + 1)))
+splitBy names m xs inner q a w i = pairsBy names m xs q a w (a + i) + (entry m inner a i + entry m inner (a + i + 1) (w - (i + 1)))
 
 -- the pairs outside an interval beside tip c of the interval of first tip e and width v, where that of first tip f and width x is on the other side
 unfoldable pub outsideBy : ℕ → ℕ → List ℕ → List ℕ → List ℕ → ℕ → ℕ → ℕ → ℕ → ℕ → ℕ
-outsideBy names m xs inner outer e v c f x = entry m outer e v + (pairsBy names xs 0 e v c + entry m inner f x)
+outsideBy names m xs inner outer e v c f x = entry m outer e v + (pairsBy names m xs 0 e v c + entry m inner f x)
 
 -- the interval lies before the tip, or behind it
 abbrev pub beforeBy : ℕ → ℕ → List ℕ → List ℕ → List ℕ → ℕ → ℕ → ℕ → ℕ
@@ -77,30 +78,33 @@ abbrev pub aroundBy : ℕ → ℕ → List ℕ → List ℕ → List ℕ → ℕ
 aroundBy names m xs inner outer a w =
     max (largest (beforeBy names m xs inner outer a w) (m - (a + w))) (largest (behindBy names m xs inner outer a w) a)
 
--- the placements of the lines lying within the interval, from two places of the sums
-unfoldable pub lyingBy : List ℕ → ℕ → ℕ → ℕ
-lyingBy xs a w = sumAt xs mostTips (a + w) - sumAt xs a (a + w)
+-- the placements of the lines lying within the interval that do not end before tip l or begin after tip h, from four places of the sums
+unfoldable pub meetingBy : ℕ → List ℕ → ℕ → ℕ → ℕ → ℕ → ℕ
+meetingBy m xs l h a w = sumAt m xs (h + 1) (a + w) + sumAt m xs a l - sumAt m xs a (a + w) - sumAt m xs l l
 
--- the interval is in the largest rack, and the two places can be subtracted
-pub record Lying (xs : List ℕ) (a w : ℕ) : Type 0 where
-  pub size : length xs ≡ sumsSize
-  pub ends : a + w ≤ mostTips
-  pub covers : sumAt xs a (a + w) ≤ sumAt xs mostTips (a + w)
-  pub few : sumAt xs mostTips (a + w) ≤ mostPlacements
+-- the interval and the tips are in the rack, and the four places can be added and subtracted
+pub record Meeting (m : ℕ) (xs : List ℕ) (l h a w : ℕ) : Type 0 where
+  pub size : length xs ≡ sumsSize m
+  pub ends : a + w ≤ m
+  pub from : l ≤ h
+  pub to : h < m
+  pub small : sumAt m xs (h + 1) (a + w) + sumAt m xs a l ≤ 2 * mostPlacements
+  pub covers : sumAt m xs a (a + w) + sumAt m xs l l ≤ sumAt m xs (h + 1) (a + w) + sumAt m xs a l
+  pub few : meetingBy m xs l h a w ≤ mostPlacements
 
--- so for each interval, and q is few
-pub record Counted (q : ℕ) (xs : List ℕ) : Type 0 where
+-- so for each interval that has a tip of the set s, and q is few
+pub record Counted (m q s : ℕ) (xs : List ℕ) : Type 0 where
   pub own : q ≤ mostPlacements
-  pub lying : (a w : ℕ) → a + w ≤ mostTips → Lying xs a w
+  pub meeting : (a w : ℕ) → a + w ≤ m → a ≤ high s → low s < a + w → Meeting m xs (low s) (high s) a w
 
 -- no chain through the interval to a tip with q placements more has more pairs: outside by the table of all lines, inside by theirs, and each of
--- the q with all that lie within the interval
-unfoldable pub limitBy : ℕ → List ℕ → List ℕ → List ℕ → ℕ → ℕ → ℕ → ℕ
-limitBy m xs inner upper q a w = entry m upper a w + (entry m inner a w + (q * lyingBy xs a w + choose2 q))
+-- the q with all that lie within the interval and can share a tip of the set s
+unfoldable pub limitBy : ℕ → List ℕ → List ℕ → List ℕ → ℕ → ℕ → ℕ → ℕ → ℕ
+limitBy m xs inner upper q s a w = entry m upper a w + (entry m inner a w + (q * meetingBy m xs (low s) (high s) a w + choose2 q))
 
 -- an interval is followed if it may have a tip of the set s, and a chain through it can have K pairs
 unfoldable pub openBy : ℕ → List ℕ → List ℕ → List ℕ → ℕ → ℕ → ℕ → ℕ → ℕ → Bool
-openBy m xs inner upper q s K a w = leb a (high s) && (ltb (low s) (a + w) && leb K (limitBy m xs inner upper q a w))
+openBy m xs inner upper q s K a w = leb a (high s) && (ltb (low s) (a + w) && leb K (limitBy m xs inner upper q s a w))
 
 -- the tip t of the interval is in the set s, and takes its lines and q placements more for K pairs, where there are so many outside
 unfoldable pub endsBy : ℕ → ℕ → List ℕ → List ℕ → ℕ → ℕ → ℕ → ℕ → ℕ → ℕ → ℕ → Bool

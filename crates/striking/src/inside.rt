@@ -17,6 +17,7 @@ pub fn larger(x: u64, y: u64) -> u64
 // The pairs on tip c, with q placements more, of the lines lying within the interval. No line has a tip that is not named.
 pub fn pairs_at(
     names: u64,
+    m: usize,
     a: usize,
     w: usize,
     c: usize,
@@ -24,13 +25,13 @@ pub fn pairs_at(
     pairs: &[u32],
     sums: &[u32],
 ) -> u64
-    requires { ⌜ Ready q (now sums) × (a + w ≤ mostTips) × (a ≤ c) × (c < a + w) × PairTable (now pairs) ⌝ }
-    ensures { λ r. ⌜ (r ≡ pairsBy names (now (sums .entry)) q a w c) × (r < 2 ^ 32) ⌝ }
+    requires { ⌜ Ready m q (now sums) × (a + w ≤ m) × (a ≤ c) × (c < a + w) × PairTable (now pairs) ⌝ }
+    ensures { λ r. ⌜ (r ≡ pairsBy names m (now (sums .entry)) q a w c) × (r < 2 ^ 32) ⌝ }
 {
     if !tips::has_tip(names, c) {
         return pair_count::pairs_among(pairs, q) as u64;
     }
-    pair_count::pairs_among(pairs, spans::inside_at(sums, a, w, c) + q) as u64
+    pair_count::pairs_among(pairs, spans::inside_at(m, sums, a, w, c) + q) as u64
 }
 
 // The split of the interval at tip a + i, with q placements more on it.
@@ -45,13 +46,13 @@ pub fn split_at(
     sums: &[u32],
     inner: &[u32],
 ) -> u64
-    requires { ⌜ Ready q (now sums) × (m ≤ mostTips) × (m * m ≤ length (now inner)) × (a + w ≤ m) × (i < w) × PairTable (now pairs) ⌝ }
+    requires { ⌜ Ready m q (now sums) × (m ≤ mostTips) × (m * m ≤ length (now inner)) × (a + w ≤ m) × (i < w) × PairTable (now pairs) ⌝ }
     ensures { λ r. ⌜ (r ≡ splitBy names m (now (sums .entry)) (now (inner .entry)) q a w i) × (r < 2 ^ 34) ⌝ }
 {
     let c = a + i;
     let before = checking::entry_at(m, a, i, inner);
     let after = checking::entry_at(m, c + 1, w - (i + 1), inner);
-    pairs_at(names, a, w, c, q, pairs, sums) + (before + after)
+    pairs_at(names, m, a, w, c, q, pairs, sums) + (before + after)
 }
 
 fn best_split(
@@ -63,7 +64,7 @@ fn best_split(
     sums: &[u32],
     inner: &[u32],
 ) -> u64
-    requires { ⌜ Ready 0 (now sums) × (m ≤ mostTips) × (m * m ≤ length (now inner)) × (a + w ≤ m) × PairTable (now pairs) ⌝ }
+    requires { ⌜ Ready m 0 (now sums) × (m ≤ mostTips) × (m * m ≤ length (now inner)) × (a + w ≤ m) × PairTable (now pairs) ⌝ }
     ensures { λ r. ⌜ r ≡ largest (splitBy names m (now (sums .entry)) (now (inner .entry)) 0 a w) w ⌝ }
 {
     let mut best = 0;

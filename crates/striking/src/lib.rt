@@ -8,6 +8,7 @@ ghost use mathlib.Core.Path.{_≡_};
 ghost use Prim.Native.Nat.{_*_, _≤_, _<_};
 ghost use lib.ListN.{length, getD, take};
 ghost use Rattle.model.specs.Count.{listOf};
+ghost use Rattle.model.specs.Interval.{C};
 ghost use Rattle.placements.specs.Repeated.{repeated};
 ghost use Rattle.spans.specs.Spans.{sumsSize, sums as sumsOf};
 ghost use Rattle.checking.specs.Checking.{NamedRuns};
@@ -18,6 +19,9 @@ use refusal::Refusal;
 
 // A place for each interval of the largest rack.
 const TABLE_SIZE: usize = model::MOST_TIPS * model::MOST_TIPS;
+
+// And of a rack of 16 tips.
+const SMALL_TABLE: usize = 256;
 
 // The first line with the set and the quantity of line i, which may be line i itself.
 fn first_same(lines: &[u64], quantities: &[u8], i: usize) -> usize
@@ -35,7 +39,7 @@ fn first_same(lines: &[u64], quantities: &[u8], i: usize) -> usize
     i
 }
 
-// The kept set of line i: that of an equal line before it, or else by the sums of the others and the two tables of all lines.
+// The kept set of line i: its only tip, that of an equal line before it, or else by the sums of the others and the two tables of all lines.
 fn struck_set(
     names: u64,
     m: usize,
@@ -51,20 +55,23 @@ fn struck_set(
     rest: &mut [u32],
     outer: &mut [u32],
 ) -> u64
-    requires { ⌜ NamedRuns names m (now quantities) (now lines) × (now sums ≡ sumsOf (repeated (now quantities) (now lines)))
+    requires { ⌜ NamedRuns names m (now quantities) (now lines) × (now sums ≡ sumsOf m (repeated (now quantities) (now lines)))
         × (i < length (now lines)) × (take i (now struck) ≡ listOf (goalTips m (now quantities) (now lines) goal) i)
         × (i ≤ length (now struck)) × InsideAll m (repeated (now quantities) (now lines)) (now inner)
-        × OutsideAll m (repeated (now quantities) (now lines)) (now upper) × (length (now rest) ≡ sumsSize) × (m * m ≤ length (now outer))
-        × PairTable (now pairs) ⌝ }
+        × OutsideAll m (repeated (now quantities) (now lines)) (now upper) × (length (now rest) ≡ sumsSize m) × (m * m ≤ length (now outer))
+        × PairTable (now pairs) × (goal ≤ C (repeated (now quantities) (now lines)) 0 m) ⌝ }
     ensures { λ r. ⌜ r ≡ goalTips m (now (quantities .entry)) (now (lines .entry)) goal i ⌝ }
 {
+    let line = lines[i];
+    if tips::lowest(line) == tips::highest(line) {
+        return line;
+    }
     let j = first_same(lines, quantities, i);
     if j < i {
         return struck[j];
     }
-    let line = lines[i];
     let quantity = quantities[i];
-    rest::sums_without(sums, line, quantity, rest);
+    rest::sums_without(m, sums, line, quantity, rest);
     reach::kept_tips(
         names,
         m,
@@ -93,9 +100,10 @@ fn strike_each(
     outer: &mut [u32],
     struck: &mut [u64],
 )
-    requires { ⌜ NamedRuns names m (now quantities) (now lines) × (now sums ≡ sumsOf (repeated (now quantities) (now lines)))
+    requires { ⌜ NamedRuns names m (now quantities) (now lines) × (now sums ≡ sumsOf m (repeated (now quantities) (now lines)))
         × InsideAll m (repeated (now quantities) (now lines)) (now inner) × OutsideAll m (repeated (now quantities) (now lines)) (now upper)
-        × (length (now rest) ≡ sumsSize) × (m * m ≤ length (now outer)) × (length (now struck) ≡ length (now lines)) × PairTable (now pairs) ⌝ }
+        × (length (now rest) ≡ sumsSize m) × (m * m ≤ length (now outer)) × (length (now struck) ≡ length (now lines)) × PairTable (now pairs)
+        × (goal ≤ C (repeated (now quantities) (now lines)) 0 m) ⌝ }
     ensures { λ _. ⌜ now (struck .exit) ≡ strike m (now (quantities .entry)) (now (lines .entry)) goal ⌝ }
 {
     let mut i = 0;
@@ -120,8 +128,51 @@ fn strike_each(
     }
 }
 
+// The goal's refusal and the struck sets, made in places that are lent.
+fn strike_in(
+    names: u64,
+    m: usize,
+    lines: &[u64],
+    quantities: &[u8],
+    goal: u32,
+    sums: &mut [u32],
+    rest: &mut [u32],
+    inner: &mut [u32],
+    upper: &mut [u32],
+    outer: &mut [u32],
+    struck: &mut [u64],
+) -> Refusal
+    requires { ⌜ NamedRuns names m (now quantities) (now lines) × (length (now struck) ≡ length (now lines)) × (length (now sums) ≡ sumsSize m)
+        × (length (now rest) ≡ sumsSize m) × (m * m ≤ length (now inner)) × (m * m ≤ length (now upper)) × (m * m ≤ length (now outer)) ⌝ }
+    ensures answer { λ r. ⌜ r ≡ goalRefusal m (now (quantities .entry)) (now (lines .entry)) goal ⌝ }
+    ensures struck { λ _. ⌜ now (struck .exit) ≡ struckBy m (now (quantities .entry)) (now (lines .entry)) goal (now (struck .entry)) ⌝ }
+{
+    let pairs = pair_count::pair_table();
+    spans::sum_spans(m, lines, quantities, sums);
+    inside::fill_inside(names, m, &pairs, sums, inner);
+    if checking::entry_at(m, 0, m, inner) < goal as u64 {
+        return refusal::refuse(34);
+    }
+    outside::fill_outside(names, m, &pairs, sums, inner, upper);
+    strike_each(
+        names,
+        m,
+        lines,
+        quantities,
+        goal,
+        &pairs,
+        sums,
+        inner,
+        upper,
+        rest,
+        outer,
+        struck,
+    );
+    refusal::refuse(0)
+}
+
 // 34 where the best plan has fewer pairs than the goal, and nothing is struck. `names` is the set of the tips that the lines name.
-// The six arrays take 91,148 bytes of the stack.
+// The six arrays for a rack of more than 16 tips take 91,148 bytes of the stack; for a small rack small ones are filled, as it is quicker.
 pub fn strike(
     names: u64,
     m: usize,
@@ -134,31 +185,43 @@ pub fn strike(
     ensures answer { λ r. ⌜ r ≡ goalRefusal m (now (quantities .entry)) (now (lines .entry)) goal ⌝ }
     ensures struck { λ _. ⌜ now (struck .exit) ≡ struckBy m (now (quantities .entry)) (now (lines .entry)) goal (now (struck .entry)) ⌝ }
 {
-    let pairs = pair_count::pair_table();
-    let mut sums = [0u32; spans::SUMS_SIZE];
-    spans::sum_spans(lines, quantities, &mut sums);
-    let mut inner = [0u32; TABLE_SIZE];
-    inside::fill_inside(names, m, &pairs, &sums, &mut inner);
-    if checking::entry_at(m, 0, m, &inner) < goal as u64 {
-        return refusal::refuse(34);
+    let size = spans::sums_size(m);
+    if m <= 16 {
+        let mut sums = spans::small_sums();
+        let mut rest = spans::small_sums();
+        let mut inner = [0u32; SMALL_TABLE];
+        let mut upper = [0u32; SMALL_TABLE];
+        let mut outer = [0u32; SMALL_TABLE];
+        return strike_in(
+            names,
+            m,
+            lines,
+            quantities,
+            goal,
+            &mut sums[..size],
+            &mut rest[..size],
+            &mut inner,
+            &mut upper,
+            &mut outer,
+            struck,
+        );
     }
+    let mut sums = spans::most_sums();
+    let mut rest = spans::most_sums();
+    let mut inner = [0u32; TABLE_SIZE];
     let mut upper = [0u32; TABLE_SIZE];
-    outside::fill_outside(names, m, &pairs, &sums, &inner, &mut upper);
-    let mut rest = [0u32; spans::SUMS_SIZE];
     let mut outer = [0u32; TABLE_SIZE];
-    strike_each(
+    strike_in(
         names,
         m,
         lines,
         quantities,
         goal,
-        &pairs,
-        &sums,
-        &inner,
-        &upper,
-        &mut rest,
+        &mut sums[..size],
+        &mut rest[..size],
+        &mut inner,
+        &mut upper,
         &mut outer,
         struck,
-    );
-    refusal::refuse(0)
+    )
 }

@@ -23,13 +23,13 @@ fn outside_at(
     inner: &[u32],
     outer: &[u32],
 ) -> u64
-    requires { ⌜ Ready 0 (now sums) × (m ≤ mostTips) × (m * m ≤ length (now inner)) × (m * m ≤ length (now outer))
+    requires { ⌜ Ready m 0 (now sums) × (m ≤ mostTips) × (m * m ≤ length (now inner)) × (m * m ≤ length (now outer))
         × (e + v ≤ m) × (e ≤ c) × (c < e + v) × (f + x ≤ m) × PairTable (now pairs) ⌝ }
     ensures { λ r. ⌜ r ≡ outsideBy names m (now (sums .entry)) (now (inner .entry)) (now (outer .entry)) e v c f x ⌝ }
 {
     let wider = checking::entry_at(m, e, v, outer);
     let other = checking::entry_at(m, f, x, inner);
-    wider + (inside::pairs_at(names, e, v, c, 0, pairs, sums) + other)
+    wider + (inside::pairs_at(names, m, e, v, c, 0, pairs, sums) + other)
 }
 
 // The interval lies before a tip of one with the same first tip, or behind a tip of one with the same last tip.
@@ -43,7 +43,7 @@ pub fn best_outside(
     inner: &[u32],
     outer: &[u32],
 ) -> u64
-    requires { ⌜ Ready 0 (now sums) × (m ≤ mostTips) × (m * m ≤ length (now inner)) × (m * m ≤ length (now outer)) × (a + w ≤ m)
+    requires { ⌜ Ready m 0 (now sums) × (m ≤ mostTips) × (m * m ≤ length (now inner)) × (m * m ≤ length (now outer)) × (a + w ≤ m)
         × PairTable (now pairs) ⌝ }
     ensures { λ r. ⌜ r ≡ max (largest (beforeBy names m (now (sums .entry)) (now (inner .entry)) (now (outer .entry)) a w) (m - (a + w)))
         (largest (behindBy names m (now (sums .entry)) (now (inner .entry)) (now (outer .entry)) a w) a) ⌝ }

@@ -5,29 +5,34 @@ ghost use mathlib.Core.Path.{_≡_};
 ghost use mathlib.Core.Bool.{cond};
 ghost use mathlib.Core.Logic.{_↔_};
 ghost use mathlib.Core.List.{List};
-ghost use Prim.Native.Nat.{ℕ, _+_, _*_, _-_, _^_, _≤_, _<_};
+ghost use Prim.Native.Nat.{ℕ, _+_, _*_, _-_, _^_, _≤_, _<_, min, max};
 ghost use lib.Dec.{T};
 ghost use lib.ListN.{length, set as put};
 ghost use Rattle.model.specs.Limits.{mostTips, mostPlacements};
-ghost use Rattle.model.specs.Plan.{has};
-ghost use Rattle.model.specs.Interval.{C};
+ghost use Rattle.model.specs.Plan.{has, Domain};
+ghost use Rattle.model.specs.Interval.{low, high, C};
 ghost use Rattle.goals.specs.Tables.{Ends};
 ghost use Rattle.pair_count.specs.PairTable.{PairTable};
-ghost use Rattle.striking.specs.Striking.{Ready, Lying, Counted, lyingBy, limitBy, openBy, aroundBy, endsBy, tipsBy, Known};
+ghost use Rattle.striking.specs.Striking.{Ready, Meeting, Counted, meetingBy, limitBy, openBy, aroundBy, endsBy, tipsBy, Known, Followed};
 
-// The placements of the lines lying within the interval.
-fn lying_at(a: usize, w: usize, sums: &[u32]) -> u32
-    requires { ⌜ Lying (now sums) a w ⌝ }
-    ensures { λ r. ⌜ (r ≡ lyingBy (now (sums .entry)) a w) × (r ≤ mostPlacements) ⌝ }
+// The placements of the lines lying within the interval that do not end before tip l or begin after tip h.
+fn meeting_at(m: usize, l: usize, h: usize, a: usize, w: usize, sums: &[u32]) -> u32
+    requires { ⌜ Meeting m (now sums) l h a w ⌝ }
+    ensures { λ r. ⌜ (r ≡ meetingBy m (now (sums .entry)) l h a w) × (r ≤ mostPlacements) ⌝ }
 {
+    let width = m + 1;
     let end = a + w;
-    sums[model::MOST_TIPS * spans::SUMS_WIDTH + end] - sums[a * spans::SUMS_WIDTH + end]
+    let last = (h + 1) * width;
+    let first = a * width;
+    let next = l * width;
+    sums[last + end] + sums[first + l] - sums[first + end] - sums[next + l]
 }
 
-// No chain through the interval to a tip with q placements more has more pairs.
+// No chain through the interval to a tip of the set with q placements more has more pairs.
 fn limit_at(
     m: usize,
     q: u32,
+    set: u64,
     a: usize,
     w: usize,
     pairs: &[u32],
@@ -35,14 +40,15 @@ fn limit_at(
     inner: &[u32],
     upper: &[u32],
 ) -> u64
-    requires { ⌜ Counted q (now sums) × (m ≤ mostTips) × (m * m ≤ length (now inner)) × (m * m ≤ length (now upper)) × (a + w ≤ m)
-        × PairTable (now pairs) ⌝ }
-    ensures { λ r. ⌜ r ≡ limitBy m (now (sums .entry)) (now (inner .entry)) (now (upper .entry)) q a w ⌝ }
+    requires { ⌜ Counted m q set (now sums) × (m ≤ mostTips) × (m * m ≤ length (now inner)) × (m * m ≤ length (now upper)) × (a + w ≤ m)
+        × (a ≤ high set) × (low set < a + w) × PairTable (now pairs) ⌝ }
+    ensures { λ r. ⌜ r ≡ limitBy m (now (sums .entry)) (now (inner .entry)) (now (upper .entry)) q set a w ⌝ }
 {
     let outside = checking::entry_at(m, a, w, upper);
     let inside = checking::entry_at(m, a, w, inner);
     let own = pair_count::pairs_among(pairs, q) as u64;
-    let more = q as u64 * lying_at(a, w, sums) as u64;
+    let meeting = meeting_at(m, tips::lowest(set), tips::highest(set), a, w, sums);
+    let more = q as u64 * meeting as u64;
     outside + (inside + (more + own))
 }
 
@@ -59,7 +65,7 @@ fn is_open(
     inner: &[u32],
     upper: &[u32],
 ) -> bool
-    requires { ⌜ Counted q (now sums) × (m ≤ mostTips) × (m * m ≤ length (now inner)) × (m * m ≤ length (now upper)) × (a + w ≤ m)
+    requires { ⌜ Counted m q set (now sums) × (m ≤ mostTips) × (m * m ≤ length (now inner)) × (m * m ≤ length (now upper)) × (a + w ≤ m)
         × PairTable (now pairs) ⌝ }
     ensures { λ r. ⌜ r ≡ openBy m (now (sums .entry)) (now (inner .entry)) (now (upper .entry)) q set goal a w ⌝ }
 {
@@ -69,7 +75,7 @@ fn is_open(
     if a + w <= tips::lowest(set) {
         return false;
     }
-    goal as u64 <= limit_at(m, q, a, w, pairs, sums, inner, upper)
+    goal as u64 <= limit_at(m, q, set, a, w, pairs, sums, inner, upper)
 }
 
 // The bit of tip t if a chain ends there in the interval with the goal's pairs, where so many are outside; else 0.
@@ -87,7 +93,7 @@ fn end_bit(
     sums: &[u32],
     inner: &[u32],
 ) -> u64
-    requires { ⌜ Ready q (now sums) × (m ≤ mostTips) × (m * m ≤ length (now inner)) × (a + w ≤ m) × (a ≤ t) × (t < a + w) × (outside < 2 ^ 32)
+    requires { ⌜ Ready m q (now sums) × (m ≤ mostTips) × (m * m ≤ length (now inner)) × (a + w ≤ m) × (a ≤ t) × (t < a + w) × (outside < 2 ^ 32)
         × PairTable (now pairs) ⌝ }
     ensures { λ r. ⌜ r ≡ cond (endsBy names m (now (sums .entry)) (now (inner .entry)) q set goal outside a w t) (2 ^ t) 0 ⌝ }
 {
@@ -100,6 +106,19 @@ fn end_bit(
     1u64 << t
 }
 
+fn earlier(x: usize, y: usize) -> usize
+    ensures { λ r. ⌜ r ≡ min x y ⌝ }
+{
+    if x < y { x } else { y }
+}
+
+fn later(x: usize, y: usize) -> usize
+    ensures { λ r. ⌜ r ≡ max x y ⌝ }
+{
+    if x < y { y } else { x }
+}
+
+// No tip before the lowest of the set or after the highest is tried.
 fn ended_tips(
     names: u64,
     m: usize,
@@ -113,19 +132,21 @@ fn ended_tips(
     sums: &[u32],
     inner: &[u32],
 ) -> u64
-    requires { ⌜ Ready q (now sums) × (m ≤ mostTips) × (m * m ≤ length (now inner)) × (a + w ≤ m) × (outside < 2 ^ 32) × PairTable (now pairs) ⌝ }
+    requires { ⌜ Ready m q (now sums) × (m ≤ mostTips) × (m * m ≤ length (now inner)) × (a + w ≤ m) × (outside < 2 ^ 32) × PairTable (now pairs)
+        × Domain m set ⌝ }
     ensures { λ r. ⌜ r ≡ tipsBy names m (now (sums .entry)) (now (inner .entry)) q set goal outside a w ⌝ }
 {
+    let end = earlier(a + w, tips::highest(set) + 1);
     let mut kept = 0u64;
-    let mut t = a;
-    while t < a + w {
+    let mut t = earlier(end, later(a, tips::lowest(set)));
+    while t < end {
         kept += end_bit(names, m, q, set, goal, outside, a, w, t, pairs, sums, inner);
         t += 1;
     }
     kept
 }
 
-// The pairs outside the interval are stored, and the tips at which a chain ends in it found; nothing where the goal cannot be had.
+// The pairs outside the interval are stored, and the tips at which a chain ends in it found.
 fn follow(
     names: u64,
     m: usize,
@@ -137,27 +158,54 @@ fn follow(
     pairs: &[u32],
     sums: &[u32],
     inner: &[u32],
-    upper: &[u32],
     outer: &mut [u32],
 ) -> u64
-    requires { ⌜ Ready q (now sums) × Counted q (now sums) × (m ≤ mostTips) × (m * m ≤ length (now inner)) × (m * m ≤ length (now upper))
-        × (m * m ≤ length (now outer)) × (0 < w) × (a + w ≤ m) × (aroundBy names m (now sums) (now inner) (now outer) a w < 2 ^ 32)
-        × PairTable (now pairs) ⌝ }
-    ensures kept { λ r. ⌜ r ≡ cond (openBy m (now (sums .entry)) (now (inner .entry)) (now (upper .entry)) q set goal a w)
-        (tipsBy names m (now (sums .entry)) (now (inner .entry)) q set goal
-        (aroundBy names m (now (sums .entry)) (now (inner .entry)) (now (outer .entry)) a w) a w) 0 ⌝ }
+    requires { ⌜ Ready m q (now sums) × (m ≤ mostTips) × (m * m ≤ length (now inner)) × (m * m ≤ length (now outer)) × (0 < w) × (a + w ≤ m)
+        × (aroundBy names m (now sums) (now inner) (now outer) a w < 2 ^ 32) × PairTable (now pairs) × Domain m set ⌝ }
+    ensures kept { λ r. ⌜ r ≡ tipsBy names m (now (sums .entry)) (now (inner .entry)) q set goal
+        (aroundBy names m (now (sums .entry)) (now (inner .entry)) (now (outer .entry)) a w) a w ⌝ }
     ensures outer { λ _. ⌜ now (outer .exit) ≡ put (now (outer .entry)) (a * m + (a + (w - 1)))
-        (cond (openBy m (now (sums .entry)) (now (inner .entry)) (now (upper .entry)) q set goal a w)
-        (aroundBy names m (now (sums .entry)) (now (inner .entry)) (now (outer .entry)) a w) 0) ⌝ }
+        (aroundBy names m (now (sums .entry)) (now (inner .entry)) (now (outer .entry)) a w) ⌝ }
 {
-    let k = a * m + (a + (w - 1));
-    if !is_open(m, q, set, goal, a, w, pairs, sums, inner, upper) {
-        outer[k] = 0;
-        return 0;
-    }
     let outside = outside::best_outside(names, m, a, w, pairs, sums, inner, outer);
-    outer[k] = outside as u32;
+    outer[a * m + (a + (w - 1))] = outside as u32;
     ended_tips(names, m, q, set, goal, outside, a, w, pairs, sums, inner)
+}
+
+// The first open interval of the width from a first tip on, or the end; nothing is outside those passed by, as the goal cannot be had there.
+fn next_open(
+    m: usize,
+    q: u32,
+    set: u64,
+    goal: u32,
+    from: usize,
+    w: usize,
+    pairs: &[u32],
+    sums: &[u32],
+    inner: &[u32],
+    upper: &[u32],
+    outer: &mut [u32],
+) -> usize
+    requires { ⌜ Counted m q set (now sums) × (m ≤ mostTips) × (m * m ≤ length (now inner)) × (m * m ≤ length (now upper))
+        × (m * m ≤ length (now outer)) × (0 < w) × (from + w ≤ m + 1) × PairTable (now pairs) ⌝ }
+    ensures ends { λ r. ⌜ (from ≤ r) × (r + w ≤ m + 1) ⌝ }
+    ensures found { λ r. ⌜ (r + w ≤ m → T (openBy m (now (sums .entry)) (now (inner .entry)) (now (upper .entry)) q set goal r w)) ⌝ }
+    ensures outer { λ r. ⌜ ((names kept : ℕ) → (lines rest : List ℕ)
+        → Known names m q lines rest (now (sums .entry)) (now (inner .entry)) (now (upper .entry))
+        → Followed m q set goal (openBy m (now (sums .entry)) (now (inner .entry)) (now (upper .entry)) q set goal) (C lines) rest
+        (now (outer .entry)) kept w from
+        → Followed m q set goal (openBy m (now (sums .entry)) (now (inner .entry)) (now (upper .entry)) q set goal) (C lines) rest
+        (now (outer .exit)) kept w r) ⌝ }
+{
+    let mut a = from;
+    while a + w <= m {
+        if is_open(m, q, set, goal, a, w, pairs, sums, inner, upper) {
+            return a;
+        }
+        outer[a * m + (a + (w - 1))] = 0;
+        a += 1;
+    }
+    a
 }
 
 // The widest intervals first.
@@ -174,7 +222,7 @@ pub fn kept_tips(
     outer: &mut [u32],
 ) -> u64
     requires { ⌜ ((lines : List ℕ) × (rest : List ℕ) × Known names m q lines rest (now sums) (now inner) (now upper))
-        × (m * m ≤ length (now outer)) × PairTable (now pairs) ⌝ }
+        × (m * m ≤ length (now outer)) × PairTable (now pairs) × Domain m set ⌝ }
     ensures { λ r. ⌜ ((lines rest : List ℕ) → Known names m q lines rest (now (sums .entry)) (now (inner .entry)) (now (upper .entry)) → (t : ℕ)
         → T (has r t) ↔ (T (has set t)
         × Ends (openBy m (now (sums .entry)) (now (inner .entry)) (now (upper .entry)) q set goal) m (C lines) rest q goal t)) ⌝ }
@@ -182,24 +230,10 @@ pub fn kept_tips(
     let mut kept = 0u64;
     let mut w = m;
     while 0 < w {
-        let mut a = 0;
+        let mut a = next_open(m, q, set, goal, 0, w, pairs, sums, inner, upper, outer);
         while a + w <= m {
-            kept = kept
-                | follow(
-                    names,
-                    m,
-                    q,
-                    set,
-                    goal,
-                    a,
-                    w,
-                    pairs,
-                    sums,
-                    inner,
-                    upper,
-                    outer,
-                );
-            a += 1;
+            kept = kept | follow(names, m, q, set, goal, a, w, pairs, sums, inner, outer);
+            a = next_open(m, q, set, goal, a + 1, w, pairs, sums, inner, upper, outer);
         }
         w -= 1;
     }

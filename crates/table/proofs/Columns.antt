@@ -124,41 +124,41 @@ module _ {m : ℕ} {lines xs : List ℕ} (k : RunSums m lines xs) (b : ℕ) (end
 
   -- ---- a cell from the allows, the sums, its row and its column
 
-  sums-size : length xs ≡ sumsSize
-  sums-size = ap length (k .summed) ∙ length-sums lines
+  sums-size : length xs ≡ sumsSize m
+  sums-size = ap length (k .summed) ∙ length-sums m lines
 
-  sum-is : (x y : ℕ) → x ≤ b + 1 → y ≤ b + 1 → sumAt xs x y ≡ below lines x y
-  sum-is x y h g = rw (k .summed) (sums-at lines x y (omega (arith, good .most)) (omega (arith, good .most)))
+  sum-is : (x y : ℕ) → x ≤ b + 1 → y ≤ b + 1 → sumAt m xs x y ≡ below lines x y
+  sum-is x y h g = rw (k .summed) (sums-at m lines x y (omega (arith, good .most)) (omega (arith, good .most)))
 
   few-below : (x y : ℕ) → below lines x y ≤ mostPlacements
   few-below x y = omega (arith, below-le lines x y, good .few)
 
-  pub allows-ready : Differences xs b zeros
+  pub allows-ready : Differences m xs b zeros
   allows-ready = record {
     sums-size = sums-size;
-    ends = omega (arith, good .most);
+    ends = ends;
     room = omega (arith, length-zeros, good .most);
     covers = λ c h.
         rw (sum-is (c + 1) c (omega arith) (omega arith), sum-is (c + 1) (b + 1) (omega arith) (omega arith))
         (below-mono lines (c + 1) c (b + 1) (omega arith));
   }
 
-  allows-size : length (allowsOf xs b zeros) ≡ columnSize
+  allows-size : length (allowsOf m xs b zeros) ≡ columnSize
   unfolding allowsOf
-  allows-size = length-listed (allow xs b) (b + 1) zeros (omega (arith, length-zeros, good .most)) ∙ length-zeros
+  allows-size = length-listed (allow m xs b) (b + 1) zeros (omega (arith, length-zeros, good .most)) ∙ length-zeros
 
-  allows-at : (c : ℕ) → c ≤ b → getD (allowsOf xs b zeros) c 0 ≡ below lines (c + 1) (b + 1) - below lines (c + 1) c
+  allows-at : (c : ℕ) → c ≤ b → getD (allowsOf m xs b zeros) c 0 ≡ below lines (c + 1) (b + 1) - below lines (c + 1) c
   unfolding allowsOf
   allows-at c h =
-      listed-at (allow xs b) (b + 1) zeros c (omega arith)
+      listed-at (allow m xs b) (b + 1) zeros c (omega arith)
       ∙ rw (sum-is (c + 1) c (omega arith) (omega arith), sum-is (c + 1) (b + 1) (omega arith) (omega arith))
 
-  module _ {allows table column : List ℕ} (counted : allows ≡ allowsOf xs b zeros) (a : ℕ) (from : a ≤ b)
+  module _ {allows table column : List ℕ} (counted : allows ≡ allowsOf m xs b zeros) (a : ℕ) (from : a ≤ b)
       (r : Rows m lines table column b (a + 1)) where
     -- the numbers of the split at tip a + i
     record Numbers (i : ℕ) : Type 0 where
-      pub lines-of : getD allows (a + i) 0 + sumAt xs a (a + i) ≡ sumAt xs a (b + 1) + inside lines a (b + 1 - a) (a + i)
-      pub small : getD allows (a + i) 0 + sumAt xs a (a + i) ≤ 2 * mostPlacements
+      pub lines-of : getD allows (a + i) 0 + sumAt m xs a (a + i) ≡ sumAt m xs a (b + 1) + inside lines a (b + 1 - a) (a + i)
+      pub small : getD allows (a + i) 0 + sumAt m xs a (a + i) ≤ 2 * mostPlacements
       pub left : leftOf m table a i ≡ C lines a i
       pub right : getD column (a + i + 1) 0 ≡ C lines (a + i + 1) (b + 1 - a - (i + 1))
 
@@ -209,5 +209,5 @@ module _ {m : ℕ} {lines xs : List ℕ} (k : RunSums m lines xs) (b : ℕ) (end
     unfolding cellBy splitOf
     cell-right e = e ∙ largest-cong _ _ (b + 1 - a) (λ i h.
         let n = numbers i h in
-        let p : getD allows (a + i) 0 + sumAt xs a (a + i) - sumAt xs a (b + 1) ≡ inside lines a (b + 1 - a) (a + i) = omega arith in
+        let p : getD allows (a + i) 0 + sumAt m xs a (a + i) - sumAt m xs a (b + 1) ≡ inside lines a (b + 1 - a) (a + i) = omega arith in
         rw (p, n .left, n .right)) ∙ sym (C-split lines a (b + 1 - a))

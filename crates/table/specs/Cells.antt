@@ -39,19 +39,19 @@ pub record SplitLists (base : ℕ) (allows sums lefts rights : List ℕ) : Type 
   pub small : (i : ℕ) → i < length allows → Small base (getD allows i 0) (getD sums i 0) (getD lefts i 0) (getD rights i 0)
 
 -- how many lines that allow tip c have no tip after b
-abbrev pub allow : List ℕ → ℕ → ℕ → ℕ
-allow xs b c = sumAt xs (c + 1) (b + 1) - sumAt xs (c + 1) c
+abbrev pub allow : ℕ → List ℕ → ℕ → ℕ → ℕ
+allow m xs b c = sumAt m xs (c + 1) (b + 1) - sumAt m xs (c + 1) c
 
 -- there is a place for each c to b, and no difference goes below zero
-pub record Differences (xs : List ℕ) (b : ℕ) (allows : List ℕ) : Type 0 where
-  pub sums-size : length xs ≡ sumsSize
-  pub ends : b < mostTips
+pub record Differences (m : ℕ) (xs : List ℕ) (b : ℕ) (allows : List ℕ) : Type 0 where
+  pub sums-size : length xs ≡ sumsSize m
+  pub ends : b < m
   pub room : b < length allows
-  pub covers : (c : ℕ) → c ≤ b → sumAt xs (c + 1) c ≤ sumAt xs (c + 1) (b + 1)
+  pub covers : (c : ℕ) → c ≤ b → sumAt m xs (c + 1) c ≤ sumAt m xs (c + 1) (b + 1)
 
 -- this count for each c to b; the other places are as they were
-unfoldable pub allowsOf : List ℕ → ℕ → List ℕ → List ℕ
-allowsOf xs b old = listOf (allow xs b) (b + 1) ++ drop (b + 1) old
+unfoldable pub allowsOf : ℕ → List ℕ → ℕ → List ℕ → List ℕ
+allowsOf m xs b old = listOf (allow m xs b) (b + 1) ++ drop (b + 1) old
 
 -- a column has a place for each tip, and one more
 abbrev pub columnSize : ℕ
@@ -72,7 +72,7 @@ leftOf m table a (suc i) = tableAt m table a (a + i)
 -- the pairs of the interval from a to b if tip a + i takes its lines, from the counts to b, the sums, row a of the table, and column b below row a
 abbrev pub splitFrom : ℕ → ℕ → ℕ → List ℕ → List ℕ → List ℕ → List ℕ → ℕ → ℕ
 splitFrom m a b xs allows column table i =
-    splitOf (sumAt xs a (b + 1)) (getD allows (a + i) 0) (sumAt xs a (a + i)) (leftOf m table a i) (getD column (a + i + 1) 0)
+    splitOf (sumAt m xs a (b + 1)) (getD allows (a + i) 0) (sumAt m xs a (a + i)) (leftOf m table a i) (getD column (a + i + 1) 0)
 
 -- the most pairs of the interval from a to b, from these lists
 unfoldable pub cellBy : ℕ → ℕ → ℕ → List ℕ → List ℕ → List ℕ → List ℕ → ℕ
@@ -83,12 +83,12 @@ pub record Cell (m a b : ℕ) (xs allows column table : List ℕ) : Type 0 where
   pub rack : m ≤ mostTips
   pub ends : b < m
   pub from : a ≤ b
-  pub sums-size : length xs ≡ sumsSize
+  pub sums-size : length xs ≡ sumsSize m
   pub allows-size : length allows ≡ columnSize
   pub column-size : length column ≡ columnSize
   pub table-size : length table ≡ m * m
   pub small : (i : ℕ) → i < b + 1 - a
-      → Small (sumAt xs a (b + 1)) (getD allows (a + i) 0) (sumAt xs a (a + i)) (leftOf m table a i) (getD column (a + i + 1) 0)
+      → Small (sumAt m xs a (b + 1)) (getD allows (a + i) 0) (sumAt m xs a (a + i)) (leftOf m table a i) (getD column (a + i + 1) 0)
 
 -- good placements in a rack of m tips, each an unbroken run
 pub record Runs (m : ℕ) (lines : List ℕ) : Type 0 where
@@ -98,7 +98,7 @@ pub record Runs (m : ℕ) (lines : List ℕ) : Type 0 where
 -- the sums are those of the lines, which are such runs
 pub record RunSums (m : ℕ) (lines xs : List ℕ) : Type 0 where
   pub runs : Runs m lines
-  pub summed : xs ≡ sums lines
+  pub summed : xs ≡ sums m lines
 
 -- the table in the making: the columns before b are right, and below the diagonal it is 0
 pub record Columns (m : ℕ) (lines table : List ℕ) (b : ℕ) : Type 0 where

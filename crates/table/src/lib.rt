@@ -5,7 +5,8 @@ ghost use lib.ListN.{length};
 ghost use mathlib.Core.List.{List};
 ghost use Rattle.model.specs.Interval.{table as tableOf};
 ghost use Rattle.pair_count.specs.PairTable.{PairTable};
-ghost use Rattle.table.specs.Cells.{splitOf, Small, splitAt, largestAt, SplitLists, allowsOf, zeros, cellBy, Cell, Differences, RunSums, ColumnsBy};
+ghost use Rattle.table.specs.Cells.{splitOf, Small, splitAt, largestAt, SplitLists};
+ghost use Rattle.table.specs.Cells.{allowsOf, zeros, cellBy, Cell, Differences, RunSums, ColumnsBy};
 
 // A column has a place for each tip, and one more.
 const COLUMN_SIZE: usize = model::MOST_TIPS + 1;
@@ -81,14 +82,14 @@ fn zeros() -> [u32; COLUMN_SIZE]
 }
 
 // For each tip c to b, how many lines that allow it have no tip after b.
-fn count_allows(sums: &[u32], b: usize, allows: &mut [u32])
-    requires { ⌜ Differences (now sums) b (now allows) ⌝ }
-    ensures { λ _. ⌜ now (allows .exit) ≡ allowsOf (now (sums .entry)) b (now (allows .entry)) ⌝ }
+fn count_allows(m: usize, sums: &[u32], b: usize, allows: &mut [u32])
+    requires { ⌜ Differences m (now sums) b (now allows) ⌝ }
+    ensures { λ _. ⌜ now (allows .exit) ≡ allowsOf m (now (sums .entry)) b (now (allows .entry)) ⌝ }
 {
     let end = b + 1;
     let mut c = 0;
     while c < end {
-        let next = (c + 1) * spans::SUMS_WIDTH;
+        let next = (c + 1) * (m + 1);
         allows[c] = sums[next + end] - sums[next + c];
         c += 1;
     }
@@ -108,7 +109,7 @@ fn cell(
     requires { ⌜ Cell m a b (now sums) (now allows) (now column) (now table) × PairTable (now pairs) ⌝ }
     ensures { λ r. ⌜ r ≡ cellBy m a b (now (sums .entry)) (now (allows .entry)) (now (column .entry)) (now (table .entry)) ⌝ }
 {
-    let row = a * spans::SUMS_WIDTH;
+    let row = a * (m + 1);
     let next = a + 1;
     let end = b + 1;
     let next_sum = row + next;
@@ -136,7 +137,7 @@ fn fill_column(m: usize, b: usize, pairs: &[u32], sums: &[u32], table: &mut [u32
     ensures { λ _. ⌜ ColumnsBy m (now (sums .entry)) (now (table .exit)) (b + 1) ⌝ }
 {
     let mut allows = zeros();
-    count_allows(sums, b, &mut allows);
+    count_allows(m, sums, b, &mut allows);
     let mut column = zeros();
     let mut a = b + 1;
     while 0 < a {
@@ -148,15 +149,14 @@ fn fill_column(m: usize, b: usize, pairs: &[u32], sums: &[u32], table: &mut [u32
 }
 
 // C of the interval from a to b at a * m + b, and 0 below the diagonal: the table of all lines that have these sums.
-pub fn fill_table(m: usize, sums: &[u32], table: &mut [u32])
-    requires { ⌜ ((lines : List ℕ) × RunSums m lines (now sums)) × (length (now table) ≡ m * m) ⌝ }
+pub fn fill_table(m: usize, pairs: &[u32], sums: &[u32], table: &mut [u32])
+    requires { ⌜ ((lines : List ℕ) × RunSums m lines (now sums)) × (length (now table) ≡ m * m) × PairTable (now pairs) ⌝ }
     ensures { λ _. ⌜ ((lines : List ℕ) → RunSums m lines (now (sums .entry)) → now (table .exit) ≡ tableOf m lines) ⌝ }
 {
-    let pairs = pair_count::pair_table();
     spans::clear(table);
     let mut b = 0;
     while b < m {
-        fill_column(m, b, &pairs, sums, table);
+        fill_column(m, b, pairs, sums, table);
         b += 1;
     }
 }

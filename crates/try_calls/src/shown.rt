@@ -49,7 +49,8 @@ pub(crate) fn say(letters: u64, x: u64) {
     number(x);
 }
 
-// Of the values of a list: how many are not blank, how many of those stand behind the first `written`, the sum of the values and the sum of such sums.
+// Of the values of a list: how many are not blank, how many of those stand behind the first `written`, their sum, and the
+// sum of such sums.
 pub(crate) struct Tally {
     written: usize,
     changed: u64,

@@ -1,6 +1,17 @@
 // Small boards solved by trying every plan by lines, counted in placements, compared with what common tip, keep, quick and best sharing answer.
 // A tally is the boards and those made wrong, and for common tip, keep, quick and best the calls, for keep and best the
 // refusals, and the facts that do not hold.
+mod plans;
+
+use crate::plans::Small;
+use crate::plans::between;
+use crate::plans::busiest;
+use crate::plans::first_no_run;
+use crate::plans::least_off;
+use crate::plans::misses;
+use crate::plans::most_pairs;
+use crate::plans::pairs;
+use crate::plans::supported;
 use board::Board;
 use board::Kept;
 use board::Shared;
@@ -23,15 +34,6 @@ use try_lib::size;
 use try_lib::sum;
 use try_lib::text;
 use try_lib::tips_of;
-use try_plans::Small;
-use try_plans::between;
-use try_plans::busiest;
-use try_plans::first_no_run;
-use try_plans::least_off;
-use try_plans::misses;
-use try_plans::most_pairs;
-use try_plans::pairs;
-use try_plans::supported;
 ghost use Prim.Native.Nat.{_≤_};
 
 // How many of the numbers that a call answered are not those expected.

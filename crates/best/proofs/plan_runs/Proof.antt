@@ -1,68 +1,59 @@
-use Prim.Native.Nat.{ℕ}
-use mathlib.Core.Path.{_≡_, _∙_}
-use mathlib.Core.List.{List}
-use Rattle.model.specs.Interval.{table as tableOf}
-use Rattle.placements.specs.Repeated.{repeated}
-use Rattle.table.specs.Cells.{Runs}
-use Rattle.layout.specs.Picks.{Ready}
-use Rattle.head.specs.OnHead.{onHead}
-use Rattle.placements.proofs.Good.{wider}
-use Rattle.best.proofs.Placed.{placed-runs, plan-placed}
+use Prim.Native.Nat.{_≤_}
+use native.Mathlib.Omega.{arith}
+use native.Mathlib.Nat.{mul-le-mul}
+use mathlib.Core.Path.{_≡_, sym, _∙_}
+use lib.ListN.{length, take}
 use borrow.Author.Needs.{needs}
+use Rattle.spans.specs.Spans.{sumsSize}
+use Rattle.spans.proofs.Below.{sums-mono, lent}
 use Rattle.best.proofs.plan_runs.Statement.{statement}
 use Rattle.best.proofs.plan_runs.Tie as tie
 
--- the table filled, from the end; and the call's start from there
-abbrev filled : tie.After-slice-known4 → tie.After-fill-table
-filled c = c .before .before .before .before .before .before .before .before
+abbrev start : tie.After-sums-size → tie.Start
+start c = c .before .before .before .before .before
 
-abbrev start : tie.After-fill-table → tie.Start
-start c = c .before .before .before .before .before .before .before .before .before .before
+-- a small rack: there is room for its sums
+module _ (c : tie.After-small-sums) where
+  abbrev sized : tie.After-sums-size
+  sized = c .before .before
 
--- the placements of the lines
-abbrev placed : tie.Start → List ℕ
-placed c = repeated (c .args .quantities .now) (c .args .sets .now)
+  few : start sized .args .m ≤ 16
+  few = c .before .if1 .taken
 
-runs : (c : tie.Start) → Runs (c .args .m) (placed c)
-runs c = placed-runs (c .pre .0)
+  small-room : length (take (sized .sums-size .result) (c .small-sums .result)) ≡ sumsSize (start sized .args .m)
+  small-room = lent (c .small-sums .result) few (c .small-sums .ensures) (sized .sums-size .ensures)
 
--- the sums are those of the placements, and so is the table
-table-is : (c : tie.After-fill-table) → c .fill-table .last .1 .1 .0 ≡ tableOf (start c .args .m) (placed (start c))
-table-is c =
-    let summed = c .before .before .before .before .sum-spans .ensures in
-    c .fill-table .ensures (placed (start c)) (record { runs = runs (start c); summed = summed })
+-- and so for any rack
+module _ (c : tie.After-most-sums) where
+  abbrev begun : tie.After-sums-size
+  begun = c .before .before
 
-ready : (c : tie.After-fill-table)
-    → Ready (start c .args .m) (placed (start c)) (c .before .before .before .before .sum-spans .last .1 .1 .0) (c .fill-table .last .1 .1 .0)
-ready c =
-    let r = runs (start c) in
-    let summed = c .before .before .before .before .sum-spans .ensures in
-    record { good = r .good; runs = r .runs; summed = summed; filled = table-is c }
+  narrow : start begun .args .m ≤ 64
+  narrow = start begun .pre .0 .good .most
 
-slice-aggregate-sum-spans : tie.Need-slice-aggregate-sum-spans
-slice-aggregate-sum-spans c = search needs
+  most-room : length (take (begun .sums-size .result) (c .most-sums .result)) ≡ sumsSize (start begun .args .m)
+  most-room = lent (c .most-sums .result) narrow (c .most-sums .ensures) (begun .sums-size .ensures)
 
-sum-spans-requires : tie.Need-sum-spans-requires
-sum-spans-requires c κs =
-    record { size = search needs; good = wider (c .before .before .before .before .before .pre .0 .good) }
+sums-size-requires : tie.Need-sums-size-requires
+sums-size-requires c κs = search needs
 
-slice-aggregate-fill-table : tie.Need-slice-aggregate-fill-table
-slice-aggregate-fill-table c = search needs
+small-sums-requires : tie.Need-small-sums-requires
+small-sums-requires c κs = search needs
 
-fill-table-requires : tie.Need-fill-table-requires
-fill-table-requires c κs =
-    let b = c .before .before .before in
-    let s = b .before .before .before .before .before .before in
-    ((placed s, record { runs = runs s; summed = b .sum-spans .ensures }), s .pre .2)
+array-borrow-prefix-sums : tie.Need-array-borrow-prefix-sums
+array-borrow-prefix-sums c = omega (arith, sized c .sums-size .ensures, c .small-sums .ensures, sums-mono (few c))
 
-slice-aggregate-plan-lines : tie.Need-slice-aggregate-plan-lines
-slice-aggregate-plan-lines c = search needs
+slice-aggregate-plan-in : tie.Need-slice-aggregate-plan-in
+slice-aggregate-plan-in c = sized (c .before) .sums-size .ensures ∙ sym (small-room (c .before))
 
-plan-lines-requires : tie.Need-plan-lines-requires
-plan-lines-requires c κs =
-    let f = c .before .before .before .before .before in
-    let p = start f .pre in
-    ((placed (start f), ready f), p .0 .good .domains, p .0 .runs, p .1)
+slice-aggregate-plan-in-2 : tie.Need-slice-aggregate-plan-in-2
+slice-aggregate-plan-in-2 c = search needs
+
+plan-in-requires : tie.Need-plan-in-requires
+plan-in-requires c κs =
+    let k = c .before .before .before .before in
+    let p = start (sized k) .pre in
+    (p .0, small-room k, mul-le-mul (few k) (few k), p .1, p .2)
 
 same-length : tie.Need-same-length
 same-length c = search needs
@@ -71,21 +62,53 @@ same-length-2 : tie.Need-same-length-2
 same-length-2 c = search needs
 
 returns : tie.Need-returns
-returns c =
-    let f = filled c in
-    let plan = c .before .before .plan-lines .ensures (placed (start f)) (ready f) in
-    (plan ∙ plan-placed (start f .pre .0) (onHead (start f .args .mounted)), table-is f)
+returns c = search needs
+
+most-sums-requires : tie.Need-most-sums-requires
+most-sums-requires c κs = search needs
+
+array-borrow-prefix-sums-2 : tie.Need-array-borrow-prefix-sums-2
+array-borrow-prefix-sums-2 c = omega (arith, begun c .sums-size .ensures, c .most-sums .ensures, sums-mono (narrow c))
+
+slice-aggregate-plan-in-3 : tie.Need-slice-aggregate-plan-in-3
+slice-aggregate-plan-in-3 c = begun (c .before) .sums-size .ensures ∙ sym (most-room (c .before))
+
+slice-aggregate-plan-in-4 : tie.Need-slice-aggregate-plan-in-4
+slice-aggregate-plan-in-4 c = search needs
+
+plan-in-requires-2 : tie.Need-plan-in-requires-2
+plan-in-requires-2 c κs =
+    let k = c .before .before .before .before in
+    let p = start (begun k) .pre in
+    (p .0, most-room k, mul-le-mul (narrow k) (narrow k), p .1, p .2)
+
+same-length-3 : tie.Need-same-length-3
+same-length-3 c = search needs
+
+same-length-4 : tie.Need-same-length-4
+same-length-4 c = search needs
+
+returns-2 : tie.Need-returns-2
+returns-2 c = search needs
 
 pub plan-runs-spec : {M : Type 1} → statement M
 plan-runs-spec =
     tie.close
     (tie.spec
-    slice-aggregate-sum-spans
-    sum-spans-requires
-    slice-aggregate-fill-table
-    fill-table-requires
-    slice-aggregate-plan-lines
-    plan-lines-requires
+    sums-size-requires
+    small-sums-requires
+    array-borrow-prefix-sums
+    slice-aggregate-plan-in
+    slice-aggregate-plan-in-2
+    plan-in-requires
     same-length
     same-length-2
-    returns)
+    returns
+    most-sums-requires
+    array-borrow-prefix-sums-2
+    slice-aggregate-plan-in-3
+    slice-aggregate-plan-in-4
+    plan-in-requires-2
+    same-length-3
+    same-length-4
+    returns-2)

@@ -6,14 +6,64 @@ use Rattle.flat_order.proofs.Settled.{least-settled}
 use Rattle.flat_order.proofs.least_order.Statement.{statement}
 use Rattle.flat_order.proofs.least_order.Tie as tie
 
+first-parts-requires : tie.Need-first-parts-requires
+first-parts-requires c κs = search needs
+
+no-words-requires : tie.Need-no-words-requires
+no-words-requires c κs = search needs
+
+no-words-requires-2 : tie.Need-no-words-requires-2
+no-words-requires-2 c κs = search needs
+
+no-levels-requires : tie.Need-no-levels-requires
+no-levels-requires c κs = search needs
+
+slice-aggregate-put-parts : tie.Need-slice-aggregate-put-parts
+slice-aggregate-put-parts c = search needs
+
+slice-aggregate-put-parts-2 : tie.Need-slice-aggregate-put-parts-2
+slice-aggregate-put-parts-2 c = search needs
+
+put-parts-requires : tie.Need-put-parts-requires
+put-parts-requires c κs = search needs
+
+slice-aggregate-settle-lasts : tie.Need-slice-aggregate-settle-lasts
+slice-aggregate-settle-lasts c = search needs
+
+slice-aggregate-settle-lasts-2 : tie.Need-slice-aggregate-settle-lasts-2
+slice-aggregate-settle-lasts-2 c = search needs
+
+slice-aggregate-settle-lasts-3 : tie.Need-slice-aggregate-settle-lasts-3
+slice-aggregate-settle-lasts-3 c = search needs
+
 settle-lasts-requires : tie.Need-settle-lasts-requires
 settle-lasts-requires c κs = search needs
 
+slice-aggregate-greedy-order : tie.Need-slice-aggregate-greedy-order
+slice-aggregate-greedy-order c = search needs
+
+slice-aggregate-greedy-order-2 : tie.Need-slice-aggregate-greedy-order-2
+slice-aggregate-greedy-order-2 c = search needs
+
+slice-aggregate-greedy-order-3 : tie.Need-slice-aggregate-greedy-order-3
+slice-aggregate-greedy-order-3 c = search needs
+
+-- the start of the call, and the last positions settled
+abbrev first : tie.After-settle-lasts → tie.After-first-parts
+first c = c .before .before .before .before .before .before .before .before .before .before .before .before .before .before
+
+abbrev begun : tie.After-settle-lasts → tie.Start
+begun c = first c .before .before .before .before .before .before
+
+abbrev settled : tie.After-greedy-order-arg2 → tie.After-settle-lasts
+settled c = c .before .before .before .before .before .before .before .before .before .before
+
 greedy-order-requires : tie.Need-greedy-order-requires
 greedy-order-requires c κs =
-    let s = c .before .before .before .before .settle-lasts in
-    let g = c .before .before .before .before .before .before .before .before .before .before .before in
-    let e : length (s .last .1 .1 .0) ≡ length (g .args .lasts .now) = s .kept .1 .1 .0 in
+    let o = settled c in
+    let s = o .settle-lasts in
+    let g = begun o in
+    let e : length (s .last .1 .1 .1 .0) ≡ length (g .args .lasts .now) = s .kept .1 .1 .1 .0 in
     let p = g .pre .0 in (
       record {
         parts = omega (arith, e, p .parts);
@@ -23,7 +73,10 @@ greedy-order-requires c κs =
       },
       omega (arith, e, g .pre .1),
       rw e (g .pre .2),
-      rw e (s .ensures .1),
+      rw e (s .ensures .1 .0),
+      rw e (first o .first-parts .ensures),
+      rw e (s .ensures .1 .1 .0),
+      s .ensures .1 .1 .1,
     )
 
 same-length : tie.Need-same-length
@@ -34,12 +87,32 @@ same-length-2 c = search needs
 
 returns : tie.Need-returns
 returns c =
-    let a = c .before .before .before .before .before .before .before .before .before .before .before .before .before .before .args in
-    let s = c .before .before .before .before .before .before .before .settle-lasts in
-    c .before .before .greedy-order .ensures ∙ least-settled (a .firsts .now) (a .lasts .now) (a .low .now) (a .high .now) (s .last .1 .1 .0)
+    let g = c .before .before .before in
+    let o = settled (g .before) in
+    let a = begun o .args in
+    let s = o .settle-lasts in
+    g .greedy-order .ensures ∙ least-settled (a .firsts .now) (a .lasts .now) (a .low .now) (a .high .now) (s .last .1 .1 .1 .0)
     (s .ensures .0 (a .firsts .now)) .1
 
 pub least-order-spec : {M : Type 1} → statement M
 least-order-spec =
     tie.close
-    (tie.spec settle-lasts-requires greedy-order-requires same-length same-length-2 returns)
+    (tie.spec
+    first-parts-requires
+    no-words-requires
+    no-words-requires-2
+    no-levels-requires
+    slice-aggregate-put-parts
+    slice-aggregate-put-parts-2
+    put-parts-requires
+    slice-aggregate-settle-lasts
+    slice-aggregate-settle-lasts-2
+    slice-aggregate-settle-lasts-3
+    settle-lasts-requires
+    slice-aggregate-greedy-order
+    slice-aggregate-greedy-order-2
+    slice-aggregate-greedy-order-3
+    greedy-order-requires
+    same-length
+    same-length-2
+    returns)

@@ -84,21 +84,23 @@ lay-interval-returns t c = c .before .before .lay-tip .ensures
 
 lay-interval-returns-2 : (t : ℕ) → lay-interval-lts.Need-returns-2 (lay-interval-claims t) (lay-interval-at t) lay-interval.Post
 lay-interval-returns-2 t c =
-    let a = interval t (c .before) .args in
+    let s = interval t (c .before) in
+    let a = s .args in
+    let pick = pickBy (onHead (a .mounted)) (a .m) (a .sums .now) (a .table .now) in
     let e : a .w ≡ 0 = omega arith in
-    rw e (laid-none (pickBy (onHead (a .mounted)) (a .m) (a .sums .now) (a .table .now)) (a .a) (a .owner .now))
+    rw e (laid-none (a .m) pick (a .a) (a .owner .now) (s .pre .1 .0 .filled .1 .good .some))
 
 lay-tip-own-runs-requires : (t : ℕ) → lay-tip-lts.Need-own-runs-requires (lay-tip-claims t) (lay-tip-at t) lay-tip.Post
 lay-tip-own-runs-requires t c κs =
     let (p, inside, _, _) = tip t c .pre .1 in
-    (inside, omega (arith, p .filled .1 .good .most, p .inside), p .places)
+    (inside, p .inside, p .filled .1 .good .most, p .places)
 
 lay-tip-lay-interval-requires : (t : ℕ) → lay-tip-lts.Need-lay-interval-requires (lay-tip-claims t) (lay-tip-at t) lay-tip.Post
 lay-tip-lay-interval-requires t c κs =
     let o = own t c in
     let (e, (p, inside, _, right)) = tip t (o .before) .pre in
-    let size = o .own-runs .kept .1 .1 .1 .0 ∙ p .places in
-    (omega (arith, e), (record { filled = p .filled; inside = omega (arith, p .inside); places = size }, right))
+    let size = o .own-runs .kept .1 .1 .1 .1 .0 in
+    (omega (arith, e), (record { filled = p .filled; inside = omega (arith, p .inside); places = rw size (p .places) }, right))
 
 lay-tip-add-lay-interval : (t : ℕ) → lay-tip-lts.Need-add-lay-interval (lay-tip-claims t) (lay-tip-at t) lay-tip.Post
 lay-tip-add-lay-interval t c = omega arith
@@ -117,15 +119,15 @@ lay-tip-lay-interval-requires-2 t c κs =
     let first = c .before .before .before in
     let o = own t (first .before) in
     let (e, (p, inside, _, right)) = tip t (o .before) .pre in
-    let size = first .lay-interval .kept .1 .1 .1 .1 .1 .1 .1 .0 ∙ o .own-runs .kept .1 .1 .1 .0 ∙ p .places in
-    (omega (arith, e), (record { filled = p .filled; inside = omega (arith, p .inside); places = size }, right))
+    let size = first .lay-interval .kept .1 .1 .1 .1 .1 .1 .1 .0 ∙ o .own-runs .kept .1 .1 .1 .1 .0 in
+    (omega (arith, e), (record { filled = p .filled; inside = omega (arith, p .inside); places = rw size (p .places) }, right))
 
 lay-tip-same-length : (t : ℕ) → lay-tip-lts.Need-same-length (lay-tip-claims t) (lay-tip-at t) lay-tip.Post
 lay-tip-same-length t c =
     let second = c .before .before in
     let first = second .before .before .before .before in
     let o = own t (first .before) in
-    second .lay-interval2 .kept .1 .1 .1 .1 .1 .1 .1 .0 ∙ first .lay-interval .kept .1 .1 .1 .1 .1 .1 .1 .0 ∙ o .own-runs .kept .1 .1 .1 .0
+    second .lay-interval2 .kept .1 .1 .1 .1 .1 .1 .1 .0 ∙ first .lay-interval .kept .1 .1 .1 .1 .1 .1 .1 .0 ∙ o .own-runs .kept .1 .1 .1 .1 .0
 
 lay-tip-returns : (t : ℕ) → lay-tip-lts.Need-returns (lay-tip-claims t) (lay-tip-at t) lay-tip.Post
 lay-tip-returns t c =
@@ -137,7 +139,7 @@ lay-tip-returns t c =
     let pick = pickBy (onHead (a .mounted)) (a .m) (a .sums .now) (a .table .now) in
     let under = pick-lt (onHead (a .mounted)) (a .m) (a .sums .now) (a .table .now) in
     rw (second .lay-interval2 .ensures, first .lay-interval .ensures, o .own-runs .ensures, s .pre .1 .2)
-    (laid-step pick under (a .a) (a .w) (a .owner .now) (omega arith))
+    (laid-step (a .m) (s .pre .1 .0 .filled .1 .good .some) pick under (a .a) (a .w) (a .owner .now) (omega arith))
 
 pub +lay-interval+lay-tip-spec : {M : Type 1} → statement M
 +lay-interval+lay-tip-spec = close μ-lay-interval μ-lay-tip (λ t. lay-interval-lts.spec (lay-interval-claims t)

@@ -68,7 +68,8 @@ returns-2 c =
     let laid = c .before .before .before .before in
     let d = laid .before .before .before .before in
     let e = laid .plan-lines .ensures in
-    quick-accepted _ _ _ _ _ _ (d .before .before .plan-refusal .ensures) (size (begun d)) (d .if1 .left) (count d) (good d) (e .pairs-are) (e .plan-is)
+    let asked = d .before .before .plan-refusal in
+    quick-accepted _ _ _ _ _ _ (asked .ensures) (size (begun d)) (d .if1 .left) (count d) (good d) (e .pairs-are) (e .plan-is)
 
 pub quick-spec : {M : Type 1} → statement M
 quick-spec =

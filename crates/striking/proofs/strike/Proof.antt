@@ -1,195 +1,155 @@
-use Prim.Native.Nat.{ℕ, _*_, _≤_}
+use Prim.Native.Nat.{_≤_}
 use native.Mathlib.Omega.{arith}
 use native.Mathlib.Nat.{mul-le-mul}
-use mathlib.Core.Path.{_≡_, refl, _∙_}
-use mathlib.Core.List.{List}
+use mathlib.Core.Path.{_≡_, sym, _∙_}
+use lib.ListN.{length, take}
 use borrow.Author.Needs.{needs}
-use Rattle.model.specs.Limits.{mostTips}
-use Rattle.model.specs.Interval.{C}
-use Rattle.placements.specs.Repeated.{repeated}
-use Rattle.placements.proofs.Good.{wider}
-use Rattle.pair_count.specs.PairTable.{PairTable}
-use Rattle.refusal.specs.Refusal.{refuse}
-use Rattle.striking.specs.Striking.{RunSums, InsideAll, OutsideAll}
-use Rattle.striking.proofs.Others.{all-sums}
-use Rattle.striking.proofs.Kept.{goal-missed, goal-met}
+use Rattle.spans.specs.Spans.{sumsSize}
+use Rattle.spans.proofs.Below.{sums-mono, lent}
 use Rattle.striking.proofs.strike.Statement.{statement}
 use Rattle.striking.proofs.strike.Tie as tie
 
--- the sums taken, from the inside table; and the call's start from there
-abbrev summed : tie.After-fill-inside → tie.After-sum-spans
-summed c = c .before .before .before .before .before
+abbrev start : tie.After-sums-size → tie.Start
+start c = c .before .before .before .before
 
-abbrev start : tie.After-sum-spans → tie.Start
-start c = c .before .before .before .before .before .before
+-- a small rack: there is room for the sums of all lines, and for those of the others
+module _ (c : tie.After-small-sums2) where
+  abbrev sized : tie.After-sums-size
+  sized = c .before .before .before
 
--- the table of pairs, as it was taken
-paired : (c : tie.After-sum-spans) → PairTable (c .before .before .pair-table .result)
-paired c = c .before .before .pair-table .ensures
+  few : start sized .args .m ≤ 16
+  few = c .before .before .if1 .taken
 
--- the placements of the lines
-abbrev placed : tie.Start → List ℕ
-placed c = repeated (c .args .quantities .now) (c .args .lines .now)
+  small-room : length (take (sized .sums-size .result) (c .before .small-sums .result)) ≡ sumsSize (start sized .args .m)
+  small-room = lent (c .before .small-sums .result) few (c .before .small-sums .ensures) (sized .sums-size .ensures)
 
--- a table has a place for each interval
-room : (c : tie.Start) → c .args .m * c .args .m ≤ mostTips * mostTips
-room c = let most = c .pre .0 .good .most in mul-le-mul most most
+  small-room2 : length (take (sized .sums-size .result) (c .small-sums2 .result)) ≡ sumsSize (start sized .args .m)
+  small-room2 = lent (c .small-sums2 .result) few (c .small-sums2 .ensures) (sized .sums-size .ensures)
 
-sums-of : (c : tie.After-sum-spans) → RunSums (start c .args .names) (start c .args .m) 0 (placed (start c)) (c .sum-spans .last .1 .1 .0)
-sums-of c = all-sums (start c .pre .0) (c .sum-spans .ensures)
+-- and so for any rack
+module _ (c : tie.After-most-sums2) where
+  abbrev sized' : tie.After-sums-size
+  sized' = c .before .before .before
 
-inside-of : (c : tie.After-fill-inside) → InsideAll (start (summed c) .args .m) (placed (start (summed c))) (c .fill-inside .last .1 .1 .1 .1 .0)
-inside-of c = c .fill-inside .ensures (placed (start (summed c))) (sums-of (summed c))
+  most-room : length (take (sized' .sums-size .result) (c .before .most-sums .result)) ≡ sumsSize (start sized' .args .m)
+  most-room = lent (c .before .most-sums .result) (start sized' .pre .0 .good .most) (c .before .most-sums .ensures) (sized' .sums-size .ensures)
 
--- and from the outside table
-abbrev filled : tie.After-fill-outside → tie.After-fill-inside
-filled c = c .before .before .before .before .before .before .before .before .before
+  most-room2 : length (take (sized' .sums-size .result) (c .most-sums2 .result)) ≡ sumsSize (start sized' .args .m)
+  most-room2 = lent (c .most-sums2 .result) (start sized' .pre .0 .good .most) (c .most-sums2 .ensures) (sized' .sums-size .ensures)
 
-outside-of : (c : tie.After-fill-outside)
-    → let f = summed (filled c) in
-    OutsideAll (start f .args .m) (placed (start f)) (c .fill-outside .last .1 .1 .1 .1 .1 .0)
-outside-of c =
-    let f = filled c in
-    c .fill-outside .ensures (placed (start (summed f))) (sums-of (summed f)) (inside-of f)
+sums-size-requires : tie.Need-sums-size-requires
+sums-size-requires c κs = search needs
 
--- the most pairs of the lines
-most : (c : tie.After-entry-at)
-    → let s = start (summed (c .before .before .before)) in
-    c .entry-at .result ≡ C (placed s) 0 (s .args .m)
-most c =
-    let f = c .before .before .before in
-    let m = start (summed f) .args .m in
-    c .entry-at .ensures .0 ∙ inside-of f .narrower 0 m (omega arith) (omega arith)
+small-sums-requires : tie.Need-small-sums-requires
+small-sums-requires c κs = search needs
 
-pair-table-requires : tie.Need-pair-table-requires
-pair-table-requires c κs = search needs
+small-sums-requires-2 : tie.Need-small-sums-requires-2
+small-sums-requires-2 c κs = search needs
 
-slice-aggregate-sum-spans : tie.Need-slice-aggregate-sum-spans
-slice-aggregate-sum-spans c = search needs
+array-borrow-prefix-sums : tie.Need-array-borrow-prefix-sums
+array-borrow-prefix-sums c = omega (arith, sized c .sums-size .ensures, c .before .small-sums .ensures, sums-mono (few c))
 
-sum-spans-requires : tie.Need-sum-spans-requires
-sum-spans-requires c κs = record { size = search needs; good = wider (c .before .before .before .before .before .pre .0 .good) }
+slice-aggregate-strike-in : tie.Need-slice-aggregate-strike-in
+slice-aggregate-strike-in c = sized (c .before) .sums-size .ensures ∙ sym (small-room (c .before))
 
-slice-aggregate-fill-inside : tie.Need-slice-aggregate-fill-inside
-slice-aggregate-fill-inside c = search needs
+array-borrow-prefix-rest : tie.Need-array-borrow-prefix-rest
+array-borrow-prefix-rest c = omega (arith, sized (c .before) .sums-size .ensures, c .before .small-sums2 .ensures, sums-mono (few (c .before)))
 
-slice-aggregate-fill-inside-2 : tie.Need-slice-aggregate-fill-inside-2
-slice-aggregate-fill-inside-2 c = search needs
+slice-aggregate-strike-in-2 : tie.Need-slice-aggregate-strike-in-2
+slice-aggregate-strike-in-2 c = sized (c .before .before) .sums-size .ensures ∙ sym (small-room2 (c .before .before))
 
-slice-aggregate-fill-inside-3 : tie.Need-slice-aggregate-fill-inside-3
-slice-aggregate-fill-inside-3 c = search needs
+slice-aggregate-strike-in-3 : tie.Need-slice-aggregate-strike-in-3
+slice-aggregate-strike-in-3 c = search needs
 
-fill-inside-requires : tie.Need-fill-inside-requires
-fill-inside-requires c κs =
-    let f = c .before .before .before .before in
-    ((placed (start f), sums-of f), room (start f), paired f)
+slice-aggregate-strike-in-4 : tie.Need-slice-aggregate-strike-in-4
+slice-aggregate-strike-in-4 c = search needs
 
-slice-aggregate-entry-at : tie.Need-slice-aggregate-entry-at
-slice-aggregate-entry-at c = search needs
+slice-aggregate-strike-in-5 : tie.Need-slice-aggregate-strike-in-5
+slice-aggregate-strike-in-5 c = search needs
 
-entry-at-requires : tie.Need-entry-at-requires
-entry-at-requires c κs =
-    let f = c .before .before in
-    (start (summed f) .pre .0 .good .most, inside-of f .room, omega arith)
-
-refuse-requires : tie.Need-refuse-requires
-refuse-requires c κs = search needs
-
-returns : tie.Need-returns
-returns c =
-    let e = c .before .before in
-    let s = start (summed (e .before .before .before)) in
-    let args = s .args in
-    let missed = goal-missed (args .m) (args .quantities .now) (args .lines .now) (args .goal) (args .struck .now) in
-    let by = missed (omega (arith, most e, c .before .if1 .taken)) in
-    (c .refuse .ensures ∙ by .0, by .1)
-
-slice-aggregate-fill-outside : tie.Need-slice-aggregate-fill-outside
-slice-aggregate-fill-outside c = search needs
-
-slice-aggregate-fill-outside-2 : tie.Need-slice-aggregate-fill-outside-2
-slice-aggregate-fill-outside-2 c = search needs
-
-slice-aggregate-fill-outside-3 : tie.Need-slice-aggregate-fill-outside-3
-slice-aggregate-fill-outside-3 c = search needs
-
-slice-aggregate-fill-outside-4 : tie.Need-slice-aggregate-fill-outside-4
-slice-aggregate-fill-outside-4 c = search needs
-
-fill-outside-requires : tie.Need-fill-outside-requires
-fill-outside-requires c κs =
-    let f = c .before .before .before .before .before .before .before .before in
-    let s = start (summed f) in
-    ((placed s, sums-of (summed f), inside-of f), room s, paired (summed f))
-
-slice-aggregate-strike-each : tie.Need-slice-aggregate-strike-each
-slice-aggregate-strike-each c = search needs
-
-slice-aggregate-strike-each-2 : tie.Need-slice-aggregate-strike-each-2
-slice-aggregate-strike-each-2 c = search needs
-
-slice-aggregate-strike-each-3 : tie.Need-slice-aggregate-strike-each-3
-slice-aggregate-strike-each-3 c = search needs
-
-slice-aggregate-strike-each-4 : tie.Need-slice-aggregate-strike-each-4
-slice-aggregate-strike-each-4 c = search needs
-
-slice-aggregate-strike-each-5 : tie.Need-slice-aggregate-strike-each-5
-slice-aggregate-strike-each-5 c = search needs
-
-slice-aggregate-strike-each-6 : tie.Need-slice-aggregate-strike-each-6
-slice-aggregate-strike-each-6 c = search needs
-
-strike-each-requires : tie.Need-strike-each-requires
-strike-each-requires c κs =
-    let o = c .before .before .before .before .before .before .before .before in
-    let f = filled o in
-    let s = start (summed f) in
-    (s .pre .0, summed f .sum-spans .ensures, inside-of f, outside-of o, refl, room s, s .pre .1, paired (summed f))
-
-refuse-requires-2 : tie.Need-refuse-requires-2
-refuse-requires-2 c κs = search needs
+strike-in-requires : tie.Need-strike-in-requires
+strike-in-requires c κs =
+    let k = c .before .before .before .before .before .before in
+    let p = start (sized k) .pre in
+    let square = mul-le-mul (few k) (few k) in
+    (p .0, p .1, small-room k, small-room2 k, square, square, square)
 
 same-length : tie.Need-same-length
 same-length c = search needs
 
+returns : tie.Need-returns
+returns c = c .before .before .before .before .before .before .before .strike-in .ensures
+
+most-sums-requires : tie.Need-most-sums-requires
+most-sums-requires c κs = search needs
+
+most-sums-requires-2 : tie.Need-most-sums-requires-2
+most-sums-requires-2 c κs = search needs
+
+array-borrow-prefix-sums-2 : tie.Need-array-borrow-prefix-sums-2
+array-borrow-prefix-sums-2 c =
+    let p = start (sized' c) .pre in
+    omega (arith, sized' c .sums-size .ensures, c .before .most-sums .ensures, sums-mono (p .0 .good .most))
+
+slice-aggregate-strike-in-6 : tie.Need-slice-aggregate-strike-in-6
+slice-aggregate-strike-in-6 c = sized' (c .before) .sums-size .ensures ∙ sym (most-room (c .before))
+
+array-borrow-prefix-rest-2 : tie.Need-array-borrow-prefix-rest-2
+array-borrow-prefix-rest-2 c =
+    let p = start (sized' (c .before)) .pre in
+    omega (arith, sized' (c .before) .sums-size .ensures, c .before .most-sums2 .ensures, sums-mono (p .0 .good .most))
+
+slice-aggregate-strike-in-7 : tie.Need-slice-aggregate-strike-in-7
+slice-aggregate-strike-in-7 c = sized' (c .before .before) .sums-size .ensures ∙ sym (most-room2 (c .before .before))
+
+slice-aggregate-strike-in-8 : tie.Need-slice-aggregate-strike-in-8
+slice-aggregate-strike-in-8 c = search needs
+
+slice-aggregate-strike-in-9 : tie.Need-slice-aggregate-strike-in-9
+slice-aggregate-strike-in-9 c = search needs
+
+slice-aggregate-strike-in-10 : tie.Need-slice-aggregate-strike-in-10
+slice-aggregate-strike-in-10 c = search needs
+
+strike-in-requires-2 : tie.Need-strike-in-requires-2
+strike-in-requires-2 c κs =
+    let k = c .before .before .before .before .before .before in
+    let p = start (sized' k) .pre in
+    let square = mul-le-mul (p .0 .good .most) (p .0 .good .most) in
+    (p .0, p .1, most-room k, most-room2 k, square, square, square)
+
+same-length-2 : tie.Need-same-length-2
+same-length-2 c = search needs
+
 returns-2 : tie.Need-returns-2
-returns-2 c =
-    let each = c .before .before .before .before .before in
-    let left = each .before .before .before .before .before .before .before .before .before .before .before .before .before .before in
-    let e = left .before in
-    let args = start (summed (e .before .before .before)) .args in
-    let met = goal-met (args .m) (args .quantities .now) (args .lines .now) (args .goal) (args .struck .now) in
-    let by = met (omega (arith, most e, left .if1 .left)) in
-    (c .refuse2 .ensures ∙ by .0, each .strike-each .ensures ∙ by .1)
+returns-2 c = c .before .before .before .before .before .before .before .strike-in2 .ensures
 
 pub strike-spec : {M : Type 1} → statement M
 strike-spec =
     tie.close
     (tie.spec
-    pair-table-requires
-    slice-aggregate-sum-spans
-    sum-spans-requires
-    slice-aggregate-fill-inside
-    slice-aggregate-fill-inside-2
-    slice-aggregate-fill-inside-3
-    fill-inside-requires
-    slice-aggregate-entry-at
-    entry-at-requires
-    refuse-requires
-    returns
-    slice-aggregate-fill-outside
-    slice-aggregate-fill-outside-2
-    slice-aggregate-fill-outside-3
-    slice-aggregate-fill-outside-4
-    fill-outside-requires
-    slice-aggregate-strike-each
-    slice-aggregate-strike-each-2
-    slice-aggregate-strike-each-3
-    slice-aggregate-strike-each-4
-    slice-aggregate-strike-each-5
-    slice-aggregate-strike-each-6
-    strike-each-requires
-    refuse-requires-2
+    sums-size-requires
+    small-sums-requires
+    small-sums-requires-2
+    array-borrow-prefix-sums
+    slice-aggregate-strike-in
+    array-borrow-prefix-rest
+    slice-aggregate-strike-in-2
+    slice-aggregate-strike-in-3
+    slice-aggregate-strike-in-4
+    slice-aggregate-strike-in-5
+    strike-in-requires
     same-length
+    returns
+    most-sums-requires
+    most-sums-requires-2
+    array-borrow-prefix-sums-2
+    slice-aggregate-strike-in-6
+    array-borrow-prefix-rest-2
+    slice-aggregate-strike-in-7
+    slice-aggregate-strike-in-8
+    slice-aggregate-strike-in-9
+    slice-aggregate-strike-in-10
+    strike-in-requires-2
+    same-length-2
     returns-2)

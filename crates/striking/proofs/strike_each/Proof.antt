@@ -13,7 +13,7 @@ use Rattle.striking.proofs.strike_each.Tie as tie
 
 abbrev Inv-loop : tie.InvT-loop
 Inv-loop names m lines quantities goal pairs sums inner upper rest₀ outer₀ struck₀ i₀ rest outer struck i =
-    (i ≤ length lines) × (length rest ≡ sumsSize) × (length outer ≡ length outer₀)
+    (i ≤ length lines) × (length rest ≡ sumsSize m) × (length outer ≡ length outer₀)
     × (length struck ≡ length lines) × (take i struck ≡ listOf (goalTips m quantities lines goal) i)
 
 abbrev μ-loop : tie.MeasureT-loop
@@ -57,6 +57,7 @@ struck-set-requires c κs =
       v .1,
       omega (arith, v .2, p .5),
       p .7,
+      p .8,
     )
 
 mul-struck : tie.Need-mul-struck Inv-loop μ-loop

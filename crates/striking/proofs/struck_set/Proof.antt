@@ -4,21 +4,26 @@ use mathlib.Core.Path.{_∙_}
 use mathlib.Core.List.{List}
 use lib.ListN.{getD}
 use borrow.Author.Needs.{needs}
+use Rattle.model.proofs.Lists.{all-at}
 use Rattle.placements.specs.Repeated.{repeated}
 use Rattle.goals.specs.Goal.{others, goalTips}
 use Rattle.goals.proofs.Same.{same-tips}
 use Rattle.striking.specs.Striking.{RunSums, Known}
 use Rattle.striking.proofs.Others.{all-sums, removable, rest-sums}
 use Rattle.striking.proofs.Kept.{known, kept-goal, struck-before}
+use Rattle.striking.proofs.One.{one-tip}
 use Rattle.striking.proofs.struck_set.Statement.{statement}
 use Rattle.striking.proofs.struck_set.Tie as tie
 
 -- the call's start
-abbrev start : tie.After-first-same → tie.Start
-start c = c .before .before .before .before .before .before .before .before .before .before
+abbrev start : tie.After-highest → tie.Start
+start c = c .before .before .before .before .before .before .before .before .before .before .before .before
+
+abbrev found : tie.After-first-same → tie.Start
+found c = start (c .before .before)
 
 abbrev begun : tie.After-sums-without → tie.Start
-begun c = start (c .before .before .before .before .before)
+begun c = found (c .before .before .before .before)
 
 -- the quantity of the line, and the placements of all lines and of the others
 module _ (c : tie.Start) where
@@ -34,7 +39,7 @@ module _ (c : tie.Start) where
 -- their sums
 sums-of : (c : tie.After-sums-without)
     → let s = begun c in
-    RunSums (s .args .names) (s .args .m) (quantity s) (rest s) (c .sums-without .last .1 .1 .1 .0)
+    RunSums (s .args .names) (s .args .m) (quantity s) (rest s) (c .sums-without .last .1 .1 .1 .1 .0)
 sums-of c =
     let s = begun c in
     rest-sums (s .pre .0) (s .args .i) (s .pre .2) (s .pre .1) (c .sums-without .ensures)
@@ -43,49 +48,64 @@ sums-of c =
 known-of : (c : tie.After-sums-without)
     → let s = begun c in
     let args = s .args in
-    Known (args .names) (args .m) (quantity s) (placed s) (rest s) (c .sums-without .last .1 .1 .1 .0) (args .inner .now) (args .upper .now)
+    Known (args .names) (args .m) (quantity s) (placed s) (rest s) (c .sums-without .last .1 .1 .1 .1 .0) (args .inner .now) (args .upper .now)
 known-of c =
     let s = begun c in
     known (s .pre .0) (s .args .i) (s .pre .2) (all-sums (s .pre .0) (s .pre .1)) (sums-of c) (s .pre .5) (s .pre .6)
 
-first-same-requires : tie.Need-first-same-requires
-first-same-requires c κs =
-    let s = c .before .before .before .before .before .before .before .before .before in
-    (s .pre .2, s .pre .0 .good .same)
-
-mul-result : tie.Need-mul-result
-mul-result c = record { fits = omega (arith, c .if1 .taken, start (c .before) .pre .2, start (c .before) .pre .0 .good .few-lines) }
-
-shared-slice-read-result : tie.Need-shared-slice-read-result
-shared-slice-read-result c = omega (arith, c .before .if1 .taken, start (c .before .before) .pre .4)
-
-returns : tie.Need-returns
-returns c =
-    let f = c .before .before in
-    let s = start f in
-    let args = s .args in
-    let j = f .first-same .result in
-    let (_, set, quantity) = f .first-same .ensures in
-    let tips = goalTips (args .m) (args .quantities .now) (args .lines .now) (args .goal) in
-    struck-before tips (args .struck .now) (args .i) j (c .before .if1 .taken) (s .pre .3)
-    ∙ same-tips (args .quantities .now) (args .lines .now) (s .pre .0 .good .same) (omega (arith, c .before .if1 .taken, s .pre .2)) (s .pre .2)
-    quantity set (args .m) (args .goal)
-
 mul-line : tie.Need-mul-line
-mul-line c = record { fits = omega (arith, start (c .before) .pre .2, start (c .before) .pre .0 .good .few-lines) }
+mul-line c =
+    let p = c .before .before .before .before .before .before .before .before .before .pre in
+    record { fits = omega (arith, p .2, p .0 .good .few-lines) }
 
 shared-slice-read-line : tie.Need-shared-slice-read-line
 shared-slice-read-line c = search needs
 
+lowest-requires : tie.Need-lowest-requires
+lowest-requires c κs = search needs
+
+highest-requires : tie.Need-highest-requires
+highest-requires c κs = search needs
+
+returns : tie.Need-returns
+returns c =
+    let h = c .before in
+    let p = start h .pre in
+    let args = start h .args in
+    one-tip (p .0) (args .i) (p .2) (args .goal) (p .10) (omega (arith, c .if1 .taken, h .highest .ensures, h .before .lowest .ensures))
+
+first-same-requires : tie.Need-first-same-requires
+first-same-requires c κs =
+    let p = start (c .before) .pre in
+    (p .2, p .0 .good .same)
+
+mul-result : tie.Need-mul-result
+mul-result c = record { fits = omega (arith, c .if2 .taken, found (c .before) .pre .2, found (c .before) .pre .0 .good .few-lines) }
+
+shared-slice-read-result : tie.Need-shared-slice-read-result
+shared-slice-read-result c = omega (arith, c .before .if2 .taken, found (c .before .before) .pre .4)
+
+returns-2 : tie.Need-returns-2
+returns-2 c =
+    let f = c .before .before in
+    let s = found f in
+    let args = s .args in
+    let j = f .first-same .result in
+    let (_, set, quantity) = f .first-same .ensures in
+    let tips = goalTips (args .m) (args .quantities .now) (args .lines .now) (args .goal) in
+    struck-before tips (args .struck .now) (args .i) j (c .before .if2 .taken) (s .pre .3)
+    ∙ same-tips (args .quantities .now) (args .lines .now) (s .pre .0 .good .same) (omega (arith, c .before .if2 .taken, s .pre .2)) (s .pre .2)
+    quantity set (args .m) (args .goal)
+
 shared-slice-read-quantity : tie.Need-shared-slice-read-quantity
 shared-slice-read-quantity c =
-    let s = start (c .before .before .before) in
+    let s = found (c .before .before) in
     omega (arith, s .pre .2, s .pre .0 .good .same)
 
 sums-without-requires : tie.Need-sums-without-requires
 sums-without-requires c κs =
-    let s = start (c .before .before .before .before) in
-    (rw (s .pre .1) (removable (s .pre .0) (s .args .i) (s .pre .2)), s .pre .7)
+    let s = found (c .before .before .before) in
+    (s .pre .0 .good .most, rw (s .pre .1) (removable (s .pre .0) (s .args .i) (s .pre .2)), s .pre .7)
 
 cast-kept-tips : tie.Need-cast-kept-tips
 cast-kept-tips c =
@@ -96,7 +116,7 @@ kept-tips-requires : tie.Need-kept-tips-requires
 kept-tips-requires c κs =
     let f = c .before .before .before .before in
     let s = begun f in
-    ((placed s, rest s, known-of f), s .pre .8, s .pre .9)
+    ((placed s, rest s, known-of f), s .pre .8, s .pre .9, all-at 0 (s .pre .0 .good .domains) (s .args .i) (s .pre .2))
 
 same-length : tie.Need-same-length
 same-length c = search needs
@@ -104,8 +124,8 @@ same-length c = search needs
 same-length-2 : tie.Need-same-length-2
 same-length-2 c = search needs
 
-returns-2 : tie.Need-returns-2
-returns-2 c =
+returns-3 : tie.Need-returns-3
+returns-3 c =
     let f = c .before .before .before .before .before .before .before in
     let s = begun f in
     kept-goal (s .pre .0) (s .args .i) (s .pre .2) (all-sums (s .pre .0) (s .pre .1)) (sums-of f) (s .pre .5) (s .pre .6) (s .args .goal) _
@@ -115,16 +135,19 @@ pub struck-set-spec : {M : Type 1} → statement M
 struck-set-spec =
     tie.close
     (tie.spec
+    mul-line
+    shared-slice-read-line
+    lowest-requires
+    highest-requires
+    returns
     first-same-requires
     mul-result
     shared-slice-read-result
-    returns
-    mul-line
-    shared-slice-read-line
+    returns-2
     shared-slice-read-quantity
     sums-without-requires
     cast-kept-tips
     kept-tips-requires
     same-length
     same-length-2
-    returns-2)
+    returns-3)

@@ -1,6 +1,6 @@
 use Prim.Native.Nat.{_+_}
 use mathlib.Core.Path.{_≡_}
-use Rattle.table.proofs.Parts.{cell-in, split-lists, by-parts}
+use Rattle.table.proofs.Parts.{cell-in, sum-in, split-lists, by-parts}
 use native.Mathlib.Omega.{arith}
 use borrow.Author.Needs.{needs}
 use Rattle.table.proofs.cell.Statement.{statement}
@@ -13,8 +13,11 @@ known c = c .before .before .before .before .before
 abbrev start : tie.After-shared-slice-known9 → tie.Start
 start c = known (c .before .before .before .before)
 
+add-row : tie.Need-add-row
+add-row c = search needs
+
 mul-row : tie.Need-mul-row
-mul-row c = search needs
+mul-row c = record { fits = omega (arith, sum-in (known c .pre .0)) }
 
 add-next : tie.Need-add-next
 add-next c = search needs
@@ -23,10 +26,10 @@ add-end : tie.Need-add-end
 add-end c = search needs
 
 add-next-sum : tie.Need-add-next-sum
-add-next-sum c = search needs
+add-next-sum c = record { fits = omega (arith, sum-in (known c .pre .0)) }
 
 add-end-sum : tie.Need-add-end-sum
-add-end-sum c = search needs
+add-end-sum c = record { fits = omega (arith, sum-in (known c .pre .0)) }
 
 mul-first-cell : tie.Need-mul-first-cell
 mul-first-cell c = record { fits = omega (arith, cell-in (known c .pre .0)) }
@@ -47,10 +50,10 @@ add-end-right : tie.Need-add-end-right
 add-end-right c = search needs
 
 mul-base : tie.Need-mul-base
-mul-base c = search needs
+mul-base c = record { fits = omega (arith, sum-in (known c .pre .0)) }
 
 shared-slice-read-base : tie.Need-shared-slice-read-base
-shared-slice-read-base c = search needs
+shared-slice-read-base c = omega (arith, sum-in (known (c .before) .pre .0))
 
 mul-split-of : tie.Need-mul-split-of
 mul-split-of c = search needs
@@ -59,13 +62,13 @@ shared-slice-read-split-of : tie.Need-shared-slice-read-split-of
 shared-slice-read-split-of c = search needs
 
 add-split-of : tie.Need-add-split-of
-add-split-of c = search needs
+add-split-of c = record { fits = omega (arith, sum-in (known (c .before .before) .pre .0)) }
 
 mul-split-of-2 : tie.Need-mul-split-of-2
-mul-split-of-2 c = search needs
+mul-split-of-2 c = record { fits = omega (arith, sum-in (known (c .before .before) .pre .0)) }
 
 shared-slice-read-split-of-2 : tie.Need-shared-slice-read-split-of-2
-shared-slice-read-split-of-2 c = search needs
+shared-slice-read-split-of-2 c = omega (arith, sum-in (known (c .before .before .before) .pre .0))
 
 mul-split-of-3 : tie.Need-mul-split-of-3
 mul-split-of-3 c = search needs
@@ -92,7 +95,7 @@ part-largest-split-end : tie.Need-part-largest-split-end
 part-largest-split-end c = search needs
 
 mul-largest-split-2 : tie.Need-mul-largest-split-2
-mul-largest-split-2 c = search needs
+mul-largest-split-2 c = record { fits = omega (arith, sum-in (start (c .before .before) .pre .0)) }
 
 sub-largest-split-2 : tie.Need-sub-largest-split-2
 sub-largest-split-2 c = search needs
@@ -101,7 +104,7 @@ part-largest-split-start-2 : tie.Need-part-largest-split-start-2
 part-largest-split-start-2 c = search needs
 
 part-largest-split-end-2 : tie.Need-part-largest-split-end-2
-part-largest-split-end-2 c = search needs
+part-largest-split-end-2 c = omega (arith, sum-in (start (c .before .before) .pre .0))
 
 mul-largest-split-3 : tie.Need-mul-largest-split-3
 mul-largest-split-3 c =
@@ -145,6 +148,7 @@ pub cell-spec : {M : Type 1} → statement M
 cell-spec =
     tie.close
     (tie.spec
+    add-row
     mul-row
     add-next
     add-end

@@ -34,15 +34,15 @@ module _ (c : tie.In-loop Inv-loop μ-loop) where
   abbrev a : ℕ
   a = c .before .loop .a - 1
 
-  allows-are : f .count-allows .last .1 .1 .0 ≡ allowsOf (s .args .sums .now) (s .args .b) zeros
-  allows-are = f .count-allows .ensures ∙ ap (allowsOf (s .args .sums .now) (s .args .b)) (f .before .before .zeros .ensures)
+  allows-are : f .count-allows .last .1 .1 .1 .0 ≡ allowsOf (s .args .m) (s .args .sums .now) (s .args .b) zeros
+  allows-are = f .count-allows .ensures ∙ ap (allowsOf (s .args .m) (s .args .sums .now) (s .args .b)) (f .before .before .zeros .ensures)
 
   rows : RowsBy (s .args .m) (s .args .sums .now) (c .before .loop .table) (c .before .loop .column) (s .args .b) (a + 1)
   rows =
       let e : a + 1 ≡ c .before .loop .a = omega arith in
       rw e (c .before .loop .inv .1)
 
-  ready : Cell (s .args .m) a (s .args .b) (s .args .sums .now) (f .count-allows .last .1 .1 .0) (c .before .loop .column)
+  ready : Cell (s .args .m) a (s .args .b) (s .args .sums .now) (f .count-allows .last .1 .1 .1 .0) (c .before .loop .column)
       (c .before .loop .table)
   ready =
       let (lines, k) = s .pre .0 in

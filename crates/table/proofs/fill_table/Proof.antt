@@ -8,23 +8,17 @@ use Rattle.table.proofs.fill_table.Statement.{statement}
 use Rattle.table.proofs.fill_table.Tie as tie
 
 abbrev Inv-loop : tie.InvT-loop
-Inv-loop m sums table₀ pairs b₀ table b = (b ≤ m) × ColumnsBy m sums table b
+Inv-loop m pairs sums table₀ b₀ table b = (b ≤ m) × ColumnsBy m sums table b
 
 abbrev μ-loop : tie.MeasureT-loop
-μ-loop m sums table₀ pairs b₀ table b = m - b
+μ-loop m pairs sums table₀ b₀ table b = m - b
 
--- the table of pairs, from the cleared list; and the call's start from there, and from the loop
-abbrev lent : tie.After-slice-known2 Inv-loop μ-loop → tie.After-pair-table Inv-loop μ-loop
-lent c = c .before .before .before .before
-
+-- the call's start, from the cleared list, and from the loop
 abbrev cleared : tie.After-slice-known2 Inv-loop μ-loop → tie.Start Inv-loop μ-loop
-cleared c = lent c .before .before .before
+cleared c = c .before .before .before .before .before .before .before
 
 abbrev start : tie.At-loop Inv-loop μ-loop → tie.Start Inv-loop μ-loop
 start c = cleared (c .before)
-
-pair-table-requires : tie.Need-pair-table-requires Inv-loop μ-loop
-pair-table-requires c κs = search needs
 
 clear-requires : tie.Need-clear-requires Inv-loop μ-loop
 clear-requires c κs = search needs
@@ -34,14 +28,11 @@ loop-holds c =
     let s = cleared c in
     (search needs, λ lines k. rw (c .before .before .clear .ensures) (columns-first (s .args .table .now) (s .pre .1)))
 
-slice-aggregate-fill-column : tie.Need-slice-aggregate-fill-column Inv-loop μ-loop
-slice-aggregate-fill-column c = search needs
-
 fill-column-requires : tie.Need-fill-column-requires Inv-loop μ-loop
 fill-column-requires c κs =
-    let t = c .before .before in
+    let t = c .before in
     let l = t .before in
-    (start l .pre .0, t .loop-test .taken, l .loop .inv .1, lent (l .before) .pair-table .ensures)
+    (start l .pre .0, t .loop-test .taken, l .loop .inv .1, start l .pre .2)
 
 add-b : tie.Need-add-b Inv-loop μ-loop
 add-b c = search needs
@@ -70,10 +61,8 @@ fill-table-spec =
     (tie.spec
     Inv-loop
     μ-loop
-    pair-table-requires
     clear-requires
     loop-holds
-    slice-aggregate-fill-column
     fill-column-requires
     add-b
     loop-less

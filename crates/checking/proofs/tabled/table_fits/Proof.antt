@@ -1,125 +1,109 @@
-use Prim.Native.Nat.{ℕ, _+_, _≤_, _-_}
+use Prim.Native.Nat.{ℕ, _≤_, _-_}
 use native.Mathlib.Omega.{arith}
-use mathlib.Core.Path.{_≡_, refl, sym}
-use mathlib.Core.Bool.{Bool, true}
+use mathlib.Core.Path.{_≡_, refl, sym, _∙_}
+use mathlib.Core.Logic.{⊎-elim}
+use mathlib.Core.Bool.{Bool, true, false, not, _||_}
+use lib.Dec.{eqb}
 use borrow.Author.Tests.{eq-eqb, ne-eqb}
+use Rattle.goals.specs.Check.{entry}
 use borrow.Author.Needs.{needs}
 use Rattle.model.specs.Count.{every}
+use Rattle.model.specs.Plan.{has}
 use Rattle.model.proofs.Tests.{fails, passes}
-use Rattle.checking.specs.Checking.{tipsBy, widthsBy, boundsBy}
+use Rattle.checking.specs.Checking.{tipBy, boundsBy}
 use Rattle.checking.proofs.Bounds.{every-stop, every-more}
 use Rattle.checking.proofs.tabled.table_fits.Statement.{statement}
 use Rattle.checking.proofs.tabled.table_fits.Tie as tie
 
-abbrev Inv-loop2 : tie.InvT-loop2
-Inv-loop2 names m claim pairs sums table a w₀ w = (a + w ≤ m + 1) × (every (tipsBy names m sums table a) w ≡ true)
-
-abbrev μ-loop2 : tie.MeasureT-loop2
-μ-loop2 names m claim pairs sums table a w₀ w = m + 1 - (a + w)
-
 abbrev Inv-loop : tie.InvT-loop
-Inv-loop names m claim pairs sums table a₀ a = (a ≤ m) × (every (widthsBy names m sums table) a ≡ true)
+Inv-loop names m claim pairs sums table c₀ c = (c ≤ m) × (every (λ c. not (has names c) || tipBy m sums table c) c ≡ true)
 
 abbrev μ-loop : tie.MeasureT-loop
-μ-loop names m claim pairs sums table a₀ a = m - a
+μ-loop names m claim pairs sums table c₀ c = m - c
 
--- the call's start, from the outer loop
-abbrev start : tie.At-loop Inv-loop2 μ-loop2 Inv-loop μ-loop → tie.Start Inv-loop2 μ-loop2 Inv-loop μ-loop
-start c = c .before .before .before .before .before .before
+-- the entry for the rack, from the loop, and the call's start from there; and the test of each tip
+abbrev entered : tie.At-loop Inv-loop μ-loop → tie.After-entry-at Inv-loop μ-loop
+entered c = c .before .before
 
--- the tests from a first tip, and of one interval from it
-abbrev widths : tie.At-loop Inv-loop2 μ-loop2 Inv-loop μ-loop → ℕ → Bool
-widths c = let args = start c .args in widthsBy (args .names) (args .m) (args .sums .now) (args .table .now)
+abbrev start : tie.After-entry-at Inv-loop μ-loop → tie.Start Inv-loop μ-loop
+start c = c .before .before .before .before
 
-abbrev tips : tie.At-loop Inv-loop2 μ-loop2 Inv-loop μ-loop → ℕ → Bool
-tips c = let args = start c .args in tipsBy (args .names) (args .m) (args .sums .now) (args .table .now) (c .loop .a)
+abbrev test : tie.At-loop Inv-loop μ-loop → ℕ → Bool
+test c =
+    let args = start (entered c) .args in
+    λ c. not (has (args .names) c) || tipBy (args .m) (args .sums .now) (args .table .now) c
 
-entry-at-requires : tie.Need-entry-at-requires Inv-loop2 μ-loop2 Inv-loop μ-loop
+-- the entry is the claim
+claimed : (c : tie.At-loop Inv-loop μ-loop)
+    → let s = start (entered c) in
+    eqb (entry (s .args .m) (s .args .table .now) 0 (s .args .m)) (s .args .claim) ≡ true
+claimed c =
+    let call = entered c .entry-at in
+    rw (← (call .ensures .0)) (eq-eqb (call .result) (start (entered c) .args .claim) (c .before .if1 .left))
+
+entry-at-requires : tie.Need-entry-at-requires Inv-loop μ-loop
 entry-at-requires c κs = search needs
 
-returns : tie.Need-returns Inv-loop2 μ-loop2 Inv-loop μ-loop
+returns : tie.Need-returns Inv-loop μ-loop
 returns c =
     let call = c .before .entry-at in
-    rw (← (call .ensures .0), ne-eqb (call .result) (c .before .before .before .before .before .args .claim) (c .if1 .taken))
+    rw (← (call .ensures .0), ne-eqb (call .result) (start (c .before) .args .claim) (c .if1 .taken))
 
-loop-holds : tie.Need-loop-holds Inv-loop2 μ-loop2 Inv-loop μ-loop
+loop-holds : tie.Need-loop-holds Inv-loop μ-loop
 unfolding every
 loop-holds c = (search needs, refl)
 
-loop2-holds : tie.Need-loop2-holds Inv-loop2 μ-loop2 Inv-loop μ-loop
-unfolding every tipsBy
-loop2-holds c = (search needs, refl)
+has-tip-requires : tie.Need-has-tip-requires Inv-loop μ-loop
+has-tip-requires c κs = search needs
 
-add-loop2 : tie.Need-add-loop2 Inv-loop2 μ-loop2 Inv-loop μ-loop
-add-loop2 c = search needs
+tip-bounded-requires : tie.Need-tip-bounded-requires Inv-loop μ-loop
+tip-bounded-requires c κs = search needs
 
-tips-bounded-requires : tie.Need-tips-bounded-requires Inv-loop2 μ-loop2 Inv-loop μ-loop
-tips-bounded-requires c κs = search needs
-
-returns-2 : tie.Need-returns-2 Inv-loop2 μ-loop2 Inv-loop μ-loop
-unfolding boundsBy widthsBy
+returns-2 : tie.Need-returns-2 Inv-loop μ-loop
+unfolding boundsBy
 returns-2 c =
-    let inner = c .before .before .before in
-    let loop = inner .before .before in
-    let m = start loop .args .m in
-    let a = loop .loop .a in
-    let call = loop .before .before .entry-at in
-    let stop = every-stop (tips loop) (m - a + 1) (inner .loop2 .w) (omega arith) (fails (c .before .tips-bounded .ensures) (c .if2 .taken)) in
-    rw (← (call .ensures .0), eq-eqb (call .result) (start loop .args .claim) (loop .before .if1 .left))
-    (sym (every-stop (widths loop) m a (omega arith) stop))
+    let named = c .before .before in
+    let l = named .before .before .before in
+    let m = start (entered l) .args .m in
+    let one : test l (l .loop .c) ≡ false =
+    rw (sym (named .before .has-tip .ensures) ∙ named .if2 .taken, fails (c .before .tip-bounded .ensures) (c .if3 .taken)) in
+    rw (claimed l) (sym (every-stop (test l) m (l .loop .c) (omega arith) one))
 
-add-w : tie.Need-add-w Inv-loop2 μ-loop2 Inv-loop μ-loop
-add-w c = search needs
+add-c : tie.Need-add-c Inv-loop μ-loop
+add-c c = search needs
 
-loop2-less : tie.Need-loop2-less Inv-loop2 μ-loop2 Inv-loop μ-loop
-loop2-less c = search needs
-
-loop2-again : tie.Need-loop2-again Inv-loop2 μ-loop2 Inv-loop μ-loop
-loop2-again c =
-    let inner = c .before .before .before in
-    let more = every-more (tips (inner .before .before)) (inner .loop2 .w) (inner .loop2 .inv .1) in
-    (search needs, more (passes (c .before .tips-bounded .ensures) (c .if2 .left)))
-
-add-a : tie.Need-add-a Inv-loop2 μ-loop2 Inv-loop μ-loop
-add-a c = search needs
-
-loop-less : tie.Need-loop-less Inv-loop2 μ-loop2 Inv-loop μ-loop
+loop-less : tie.Need-loop-less Inv-loop μ-loop
 loop-less c = search needs
 
-loop-again : tie.Need-loop-again Inv-loop2 μ-loop2 Inv-loop μ-loop
-unfolding widthsBy
+loop-again : tie.Need-loop-again Inv-loop μ-loop
 loop-again c =
-    let loop = c .before .before .before in
-    let e : c .before .loop2 .w ≡ start loop .args .m - loop .loop .a + 1 = omega arith in
-    (search needs, every-more (widths loop) (loop .loop .a) (loop .loop .inv .1) (rw e at (c .before .loop2 .inv .1)))
+    let l = c .before .before .before in
+    let one : test l (l .loop .c) ≡ true = ⊎-elim
+    (λ w. rw (sym (c .before .has-tip .ensures) ∙ w .0 .taken, passes (w .1 .ensures) (w .2 .left)))
+    (λ w. rw (sym (c .before .has-tip .ensures) ∙ w .left))
+    (c .if2 .came) in
+    (search needs, every-more (test l) (l .loop .c) (l .loop .inv .1) one)
 
-returns-3 : tie.Need-returns-3 Inv-loop2 μ-loop2 Inv-loop μ-loop
+returns-3 : tie.Need-returns-3 Inv-loop μ-loop
 unfolding boundsBy
 returns-3 c =
-    let loop = c .before in
-    let call = loop .before .before .entry-at in
-    let e : loop .loop .a ≡ start loop .args .m = omega arith in
-    rw (← (call .ensures .0), eq-eqb (call .result) (start loop .args .claim) (loop .before .if1 .left)) (sym (rw e at (loop .loop .inv .1)))
+    let l = c .before in
+    let e : l .loop .c ≡ start (entered l) .args .m = omega arith in
+    rw (claimed l) (sym (rw e at (l .loop .inv .1)))
 
 pub table-fits-spec : {M : Type 1} → statement M
 table-fits-spec =
     tie.close
     (tie.spec
-    Inv-loop2
-    μ-loop2
     Inv-loop
     μ-loop
     entry-at-requires
     returns
     loop-holds
-    loop2-holds
-    add-loop2
-    tips-bounded-requires
+    has-tip-requires
+    tip-bounded-requires
     returns-2
-    add-w
-    loop2-less
-    loop2-again
-    add-a
+    add-c
     loop-less
     loop-again
     returns-3)

@@ -1,88 +1,71 @@
-use Prim.Native.Nat.{_+_}
+use Prim.Native.Nat.{ℕ, _+_, _≤_, _-_}
 use native.Mathlib.Omega.{arith}
+use mathlib.Core.Path.{_≡_, refl, sym}
+use mathlib.Core.Bool.{Bool, true}
 use borrow.Author.Needs.{needs}
+use Rattle.model.specs.Count.{every}
 use Rattle.model.proofs.Tests.{fails, passes}
-use Rattle.checking.specs.Checking.{atBy}
+use Rattle.checking.specs.Checking.{endsBy, tipBy}
+use Rattle.checking.proofs.Bounds.{every-stop, every-more}
 use Rattle.checking.proofs.tabled.tip_bounded.Statement.{statement}
 use Rattle.checking.proofs.tabled.tip_bounded.Tie as tie
 
-add-c : tie.Need-add-c
-add-c c = search needs
+abbrev Inv-loop : tie.InvT-loop
+Inv-loop m c pairs sums table a₀ a = (a ≤ c + 1) × (every (λ a. endsBy m sums table a c) a ≡ true)
 
-has-tip-requires : tie.Need-has-tip-requires
-has-tip-requires c κs = search needs
+abbrev μ-loop : tie.MeasureT-loop
+μ-loop m c pairs sums table a₀ a = c + 1 - a
 
-returns : tie.Need-returns
-unfolding atBy
-returns c = rw (fails (c .before .has-tip .ensures) (c .if1 .taken))
+-- the call's start, from the loop, and the test of each first tip
+abbrev start : tie.At-loop Inv-loop μ-loop → tie.Start Inv-loop μ-loop
+start c = c .before .before .before .before
 
-inside-at-requires : tie.Need-inside-at-requires
-inside-at-requires c κs =
-    let s = c .before .before .before .before .before in
-    s .pre .0 .summed (s .args .a) (s .args .w) (s .args .a + s .args .i) (omega arith) (omega arith) (omega arith)
+abbrev test : tie.At-loop Inv-loop μ-loop → ℕ → Bool
+test c =
+    let args = start c .args in
+    λ a. endsBy (args .m) (args .sums .now) (args .table .now) a (args .c)
 
-pairs-among-requires : tie.Need-pairs-among-requires
-pairs-among-requires c κs =
-    let s = c .before .before .before .before .before .before in (
-      s .pre .3,
-      omega (
-        arith,
-        c .inside-at .ensures,
-        s .pre .0 .few (s .args .a) (s .args .w) (s .args .a + s .args .i) (omega arith) (omega arith) (omega arith),
-      ),
-    )
+loop-holds : tie.Need-loop-holds Inv-loop μ-loop
+unfolding every
+loop-holds c = (search needs, refl)
 
-cast-here : tie.Need-cast-here
-cast-here c = search needs
+first-bounded-requires : tie.Need-first-bounded-requires Inv-loop μ-loop
+first-bounded-requires c κs = search needs
 
-entry-at-requires : tie.Need-entry-at-requires
-entry-at-requires c κs = search needs
+returns : tie.Need-returns Inv-loop μ-loop
+unfolding tipBy
+returns c =
+    let l = c .before .before .before in
+    sym (every-stop (test l) (start l .args .c + 1) (l .loop .a) (omega arith) (fails (c .before .first-bounded .ensures) (c .if1 .taken)))
 
-add-entry-at : tie.Need-add-entry-at
-add-entry-at c = search needs
+add-a : tie.Need-add-a Inv-loop μ-loop
+add-a c = search needs
 
-add-entry-at-2 : tie.Need-add-entry-at-2
-add-entry-at-2 c = search needs
+loop-less : tie.Need-loop-less Inv-loop μ-loop
+loop-less c = search needs
 
-sub-entry-at : tie.Need-sub-entry-at
-sub-entry-at c = search needs
+loop-again : tie.Need-loop-again Inv-loop μ-loop
+loop-again c =
+    let l = c .before .before .before in
+    (search needs, every-more (test l) (l .loop .a) (l .loop .inv .1) (passes (c .before .first-bounded .ensures) (c .if1 .left)))
 
-entry-at-requires-2 : tie.Need-entry-at-requires-2
-entry-at-requires-2 c κs = search needs
-
-add-result : tie.Need-add-result
-add-result c = search needs
-
-add-result-2 : tie.Need-add-result-2
-add-result-2 c = search needs
-
-returns-2 : tie.Need-returns-2
-unfolding atBy
+returns-2 : tie.Need-returns-2 Inv-loop μ-loop
+unfolding tipBy
 returns-2 c =
-    let inside = c .before .before .before in
-    rw (
-      passes (inside .before .before .has-tip .ensures) (inside .before .if1 .left),
-      c .before .before .pairs-among .ensures,
-      inside .inside-at .ensures,
-      c .before .entry-at .ensures .0,
-      c .entry-at2 .ensures .0,
-    )
+    let l = c .before in
+    let e : l .loop .a ≡ start l .args .c + 1 = omega arith in
+    sym (rw e at (l .loop .inv .1))
 
 pub tip-bounded-spec : {M : Type 1} → statement M
 tip-bounded-spec =
     tie.close
     (tie.spec
-    add-c
-    has-tip-requires
+    Inv-loop
+    μ-loop
+    loop-holds
+    first-bounded-requires
     returns
-    inside-at-requires
-    pairs-among-requires
-    cast-here
-    entry-at-requires
-    add-entry-at
-    add-entry-at-2
-    sub-entry-at
-    entry-at-requires-2
-    add-result
-    add-result-2
+    add-a
+    loop-less
+    loop-again
     returns-2)

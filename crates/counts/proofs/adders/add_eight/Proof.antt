@@ -1,4 +1,4 @@
-use Rattle.counts.proofs.Lines.{seven-adders}
+use Rattle.counts.proofs.Sums.{seven-adders}
 use borrow.Author.Needs.{needs}
 use Rattle.counts.proofs.adders.add_eight.Statement.{statement}
 use Rattle.counts.proofs.adders.add_eight.Tie as tie
@@ -56,7 +56,7 @@ returns c =
     let r = d .before .before .before in
     let b = r .before in
     let a = b .before .before .before in
-    seven-adders (a .before .before .before .before .pre)
+    seven-adders
     (a .add-three .ensures)
     (b .add-three2 .ensures)
     (r .add-three3 .ensures)

@@ -9,45 +9,24 @@ add-row c = search needs
 row-requires : tie.Need-row-requires
 row-requires c κs = search needs
 
-add-row-2 : tie.Need-add-row-2
-add-row-2 c = search needs
-
 row-requires-2 : tie.Need-row-requires-2
 row-requires-2 c κs = search needs
-
-row-requires-3 : tie.Need-row-requires-3
-row-requires-3 c κs = search needs
-
-meet-requires : tie.Need-meet-requires
-meet-requires c κs = search needs
 
 remove-requires : tie.Need-remove-requires
 remove-requires c κs = search needs
 
-meet-requires-2 : tie.Need-meet-requires-2
-meet-requires-2 c κs = search needs
+meet-requires : tie.Need-meet-requires
+meet-requires c κs = search needs
 
 returns : tie.Need-returns
 unfolding candidatesAt
 returns c = rw (
-  c .meet2 .ensures,
+  c .meet .ensures,
   c .before .remove .ensures,
-  c .before .before .meet .ensures,
-  c .before .before .before .row3 .ensures,
-  c .before .before .before .before .row2 .ensures,
-  c .before .before .before .before .before .row .ensures,
+  c .before .before .row2 .ensures,
+  c .before .before .before .row .ensures,
 )
 
 pub candidates-spec : {M : Type 1} → statement M
 candidates-spec =
-    tie.close
-    (tie.spec
-    add-row
-    row-requires
-    add-row-2
-    row-requires-2
-    row-requires-3
-    meet-requires
-    remove-requires
-    meet-requires-2
-    returns)
+    tie.close (tie.spec add-row row-requires row-requires-2 remove-requires meet-requires returns)

@@ -1,293 +1,338 @@
 use Prim.Native.Nat.{ℕ, _+_, _-_, _≤_, _<_, _^_}
 use mathlib.Core.Path.{_≡_, refl, ap, sym, subst, _∙_}
-use mathlib.Core.Bool.{Bool}
-use lib.Dec.{T}
-use Rattle.flat_order.specs.declared.PartSet.{PartSet}
-use Rattle.flat_order.specs.declared.PartSets.{PartSets}
+use mathlib.Core.Bool.{Bool, _&&_}
 use mathlib.Core.List.{List}
-use lib.ListN.{length, getD, set}
+use lib.Dec.{T, ltb}
+use lib.ListN.{length, getD}
 use native.Mathlib.Omega.{arith}
-use Rattle.flat_order.specs.Flat.{rowAt, flatTask, Counted, Below, upTo, tightOf, candidatesAt, isPick}
-use Rattle.flat_order.specs.Sets.{hasPart, single, removed}
 use Rattle.ordering.specs.Number.{lowest}
 use Rattle.ordering.specs.Least.{pick}
 use Rattle.ordering.proofs.Number.{lowest-passes}
-use Rattle.flat_order.proofs.Counts.{end-counted, counted-less}
-use Rattle.flat_order.proofs.Tight.{up-most, up-set, up-first, up-then, tight-same, tight-most}
+use Rattle.flat_order.specs.declared.PartSet.{PartSet}
+use Rattle.flat_order.specs.Sets.{hasPart, single, joined, removed, met}
+use Rattle.flat_order.specs.Flat.{rowAt, flatTask, candidatesAt, isPick, PartsAt, Levels, IsEnd, Held}
+use Rattle.flat_order.proofs.Below.{before-none, before-more}
+use Rattle.flat_order.proofs.Levels.{levels-next, levels-most, end-in, end-tight, end-stays}
 use Rattle.flat_order.proofs.Picks.{Placing, placing-none, placing-more, placing-stops, placing-all, pick-is, pick-known}
+use Rattle.flat_order.proofs.Free.{held-none, held-next}
 use borrow.Author.Needs.{needs}
 use Rattle.flat_order.proofs.picking.greedy_order.Statement.{statement}
 use Rattle.flat_order.proofs.picking.greedy_order.Tie as tie
 
 abbrev Inv-loop : tie.InvT-loop
-Inv-loop firsts lasts low high order₀ n firsts-low firsts-high lasts-low lasts-high left₀ counts₀ before₀ p₀ order left counts before p =
-    (p ≤ n) × (n ≡ length lasts) × Placing firsts lasts low high p order left × Counted left lasts (length lasts) counts
-    × (before + getD counts p 0 ≡ upTo counts p) × Below firsts (length lasts) firsts-low firsts-high
-    × Below lasts (length lasts) lasts-low lasts-high
+Inv-loop firsts lasts low high ends-low ends-high _ _ n firsts-low firsts-high _ _ _ _ _ _ _ levels order wait-low wait-high waiting begun left v p =
+    (p ≤ n) × (n ≡ length lasts) × Placing firsts lasts low high p order left × Levels left lasts p levels × IsEnd (length lasts) p levels v
+    × PartsAt firsts (length lasts) firsts-low firsts-high
+    × ((x : ℕ) → hasPart begun x ≡ (ltb x (length lasts) && ltb (getD firsts x 0) p)) × Held left waiting low high wait-low wait-high
 
 abbrev μ-loop : tie.MeasureT-loop
-μ-loop firsts lasts low high order₀ n firsts-low firsts-high lasts-low lasts-high left₀ counts₀ before₀ p₀ order left counts before p = n - p
-
-parts-below-requires : tie.Need-parts-below-requires Inv-loop μ-loop
-parts-below-requires c κs = let p = c .before .before .before .before .before .pre in (p .0 .parts, p .0 .firsts, p .2)
-
-parts-below-requires-2 : tie.Need-parts-below-requires-2 Inv-loop μ-loop
-parts-below-requires-2 c κs = let p = c .before .before .before .before .before .before .before .before .pre in (p .0 .parts, omega arith, p .3)
-
-first-parts-requires : tie.Need-first-parts-requires Inv-loop μ-loop
-first-parts-requires c κs = c .before .before .before .before .before .before .before .before .before .before .before .pre .0 .parts
-
-ends-requires : tie.Need-ends-requires Inv-loop μ-loop
-ends-requires c κs = c .before .before .before .before .before .before .before .before .before .before .before .before .pre .0 .parts
-
-loop-holds : tie.Need-loop-holds Inv-loop μ-loop
-loop-holds c =
-    let s = c .before .before .before .before .before .before .before .before .before .before .before .before .before in (
-      search needs,
-      refl,
-      placing-none _ _ _ _ _ _ (s .pre .1) (c .before .first-parts .ensures),
-      c .ends .ensures,
-      up-first _,
-      c .before .before .before .before .before .before .before .parts-below .ensures,
-      c .before .before .before .before .parts-below2 .ensures,
-    )
+μ-loop firsts lasts low high ends-low ends-high _ _ n firsts-low firsts-high _ _ _ _ _ _ _ levels order wait-low wait-high waiting begun left v p =
+    n - p
 
 -- the start of the call, and of a turn
-abbrev begun : tie.At-loop Inv-loop μ-loop → tie.Start Inv-loop μ-loop
-begun c = c .before .before .before .before .before .before .before .before .before .before .before .before .before .before
+abbrev start : tie.After-slice-known2 Inv-loop μ-loop → tie.Start Inv-loop μ-loop
+start c = c .before .before .before .before .before .before .before .before
 
-abbrev turn : tie.After-tight-end Inv-loop μ-loop → tie.At-loop Inv-loop μ-loop
-turn c = c .before .before .before
+abbrev begins : tie.After-put-parts Inv-loop μ-loop → tie.Start Inv-loop μ-loop
+begins c = start (c .before .before .before .before .before)
 
--- the position of a turn is one
-in-turn : (c : tie.In-loop Inv-loop μ-loop) → c .before .loop .p < length (begun (c .before) .args .lasts .now)
-in-turn c = omega arith
+abbrev put : tie.After-tight-end Inv-loop μ-loop → tie.After-put-parts Inv-loop μ-loop
+put c = c .before .before .before .before .before .before
 
-slice-aggregate-tight-end : tie.Need-slice-aggregate-tight-end Inv-loop μ-loop
-slice-aggregate-tight-end c = sym (c .before .before .loop .inv .3 .size)
+abbrev called : tie.At-loop Inv-loop μ-loop → tie.Start Inv-loop μ-loop
+called t = begins (put (t .before))
+
+no-words-requires : tie.Need-no-words-requires Inv-loop μ-loop
+no-words-requires c κs = search needs
+
+no-words-requires-2 : tie.Need-no-words-requires-2 Inv-loop μ-loop
+no-words-requires-2 c κs = search needs
+
+slice-aggregate-put-parts : tie.Need-slice-aggregate-put-parts Inv-loop μ-loop
+slice-aggregate-put-parts c = search needs
+
+slice-aggregate-put-parts-2 : tie.Need-slice-aggregate-put-parts-2 Inv-loop μ-loop
+slice-aggregate-put-parts-2 c = search needs
+
+put-parts-requires : tie.Need-put-parts-requires Inv-loop μ-loop
+put-parts-requires c κs =
+    let p = start (c .before .before .before .before) .pre in
+    (p .0 .parts, p .0 .firsts, p .2, c .before .before .before .no-words .ensures, c .before .before .no-words2 .ensures)
+
+no-words-requires-3 : tie.Need-no-words-requires-3 Inv-loop μ-loop
+no-words-requires-3 c κs = search needs
+
+no-words-requires-4 : tie.Need-no-words-requires-4 Inv-loop μ-loop
+no-words-requires-4 c κs = search needs
 
 tight-end-requires : tie.Need-tight-end-requires Inv-loop μ-loop
 tight-end-requires c κs =
+    let p = begins (c .before .before .before .before .before) .pre in
+    (omega arith, omega (arith, p .0 .parts, p .6 .size), λ e. absurd (omega arith))
+
+loop-holds : tie.Need-loop-holds Inv-loop μ-loop
+loop-holds c =
+    let s = begins (put c) in
+    let a = s .args in (
+      search needs,
+      refl,
+      placing-none _ _ _ _ _ _ (s .pre .1) (s .pre .4),
+      s .pre .6,
+      c .tight-end .ensures,
+      put c .put-parts .ensures,
+      before-none (a .firsts .now) (length (a .lasts .now)),
+      rw (c .before .before .before .no-words3 .ensures, c .before .before .no-words4 .ensures) (held-none (a .all) (a .low .now) (a .high .now)),
+    )
+
+-- the position of a turn is one, and so is the end
+module _ (c : tie.In-loop Inv-loop μ-loop) where
+  abbrev lasts : List ℕ
+  lasts = called (c .before) .args .lasts .now
+
+  position-in : c .before .loop .p < length lasts
+  position-in = omega arith
+
+  few : length lasts ≤ 128
+  few = called (c .before) .pre .0 .parts
+
+  within : c .before .loop .v < length lasts
+  within =
+      let l = c .before .loop in
+      end-in (l .left) lasts (l .levels) (l .p) (l .inv .3) (l .inv .2 .count) (l .v) (called (c .before) .pre .3) position-in (l .inv .4)
+
+add-p : tie.Need-add-p Inv-loop μ-loop
+add-p c = record { fits = omega (arith, position-in c, few c) }
+
+slice-aggregate-row : tie.Need-slice-aggregate-row Inv-loop μ-loop
+slice-aggregate-row c = search needs
+
+slice-aggregate-row-2 : tie.Need-slice-aggregate-row-2 Inv-loop μ-loop
+slice-aggregate-row-2 c = search needs
+
+row-requires : tie.Need-row-requires Inv-loop μ-loop
+row-requires c κs =
     let t = c .before .before in
-    let s = begun t in
-    let counted = t .loop .inv .3 in
-    let most = up-most (t .loop .left) (s .args .lasts .now) (t .loop .counts) counted (s .pre .0 .parts) in
-    (omega arith, omega (arith, counted .size, s .pre .0 .parts), most, t .loop .inv .4)
+    let l = t .before .loop in
+    (omega (arith, position-in t, few t, l .inv .5 .lows), omega (arith, position-in t, few t, l .inv .5 .highs))
 
--- the position found is at most the number of parts, and is that of the parts left
-tight-within : (c : tie.After-tight-end Inv-loop μ-loop) → c .tight-end .result ≤ length (begun (turn c) .args .lasts .now)
-tight-within c =
-    let l = turn c .loop in
-    let n = length (begun (turn c) .args .lasts .now) in
-    omega (arith, c .tight-end .ensures, tight-most (l .counts) (l .p) (n - l .p))
+join-requires : tie.Need-join-requires Inv-loop μ-loop
+join-requires c κs = search needs
 
-tight-found : (c : tie.After-tight-end Inv-loop μ-loop)
-    → c .tight-end .result ≡ turn c .loop .p + tightOf (turn c .loop .left) (begun (turn c) .args .lasts .now) (turn c .loop .p)
-tight-found c =
-    let l = turn c .loop in
-    let s = begun (turn c) in
-    c .tight-end .ensures
-    ∙ ap (λ d. l .p + d) (tight-same (l .left) (s .args .lasts .now) (l .counts) (l .inv .3) (l .p) (omega arith) (s .pre .0 .parts))
-
-slice-aggregate-candidates : tie.Need-slice-aggregate-candidates Inv-loop μ-loop
-slice-aggregate-candidates c = search needs
-
-slice-aggregate-candidates-2 : tie.Need-slice-aggregate-candidates-2 Inv-loop μ-loop
-slice-aggregate-candidates-2 c = search needs
-
-slice-aggregate-candidates-3 : tie.Need-slice-aggregate-candidates-3 Inv-loop μ-loop
-slice-aggregate-candidates-3 c = search needs
-
-slice-aggregate-candidates-4 : tie.Need-slice-aggregate-candidates-4 Inv-loop μ-loop
-slice-aggregate-candidates-4 c = search needs
+meet-requires : tie.Need-meet-requires Inv-loop μ-loop
+meet-requires c κs = search needs
 
 candidates-requires : tie.Need-candidates-requires Inv-loop μ-loop
 candidates-requires c κs =
-    let o = c .before .before .before .before in
-    let t = turn o in
-    let n = begun t .pre .0 .parts in (
-      omega (arith, n),
-      omega (arith, n, tight-within o),
-      t .loop .inv .5 .lows,
-      t .loop .inv .5 .highs,
-      t .loop .inv .6 .lows,
-      t .loop .inv .6 .highs,
-    )
+    let t = c .before .before .before .before .before in
+    let ends = called (t .before) .pre .5 in
+    (omega (arith, position-in t, few t), omega (arith, within t, few t), ends .lows, ends .highs)
 
--- the words of the rows fit
-words : (c : tie.After-shared-slice-known4 Inv-loop μ-loop) (i : ℕ)
-    → (getD (c .before .before .before .before .args .low .now) i 0 < 2 ^ 64)
-    × (getD (c .before .before .before .before .args .high .now) i 0 < 2 ^ 64)
-words c i = (c .before .shared-slice-known3 .given i .fits, c .shared-slice-known4 .given i .fits)
+slice-aggregate-lowest-free : tie.Need-slice-aggregate-lowest-free Inv-loop μ-loop
+slice-aggregate-lowest-free c = search needs
 
--- the candidates of a turn that have to stand at v or earlier
-abbrev begins : tie.At-loop Inv-loop μ-loop → PartSets
-begins t = t .before .before .before .before .before .before .before .before .parts-below .result
+slice-aggregate-lowest-free-2 : tie.Need-slice-aggregate-lowest-free-2 Inv-loop μ-loop
+slice-aggregate-lowest-free-2 c = search needs
 
-abbrev closes : tie.At-loop Inv-loop μ-loop → PartSets
-closes t = t .before .before .before .before .before .parts-below2 .result
-
-abbrev among : tie.At-loop Inv-loop μ-loop → ℕ → PartSet
-among t v = candidatesAt (t .loop .p) v (t .loop .left) (begins t .low) (begins t .high) (closes t .low) (closes t .high)
-
-abbrev tight : tie.After-lowest-free Inv-loop μ-loop → tie.After-tight-end Inv-loop μ-loop
-tight c = c .before .before .before .before .before .before
-
--- the part found is the pick
-found : (c : tie.After-lowest-free Inv-loop μ-loop)
-    → (let t = turn (tight c) in let a = begun t .args in let v = tight c .tight-end .result in
-    c .lowest-free .result ≡ lowest (isPick (among t v) (t .loop .left) (a .low .now) (a .high .now)) (length (a .lasts .now)))
-found c =
-    let t = turn (tight c) in
-    let a = begun t .args in
-    c .lowest-free .ensures
-    ∙ ap (λ s. lowest (isPick s (t .loop .left) (a .low .now) (a .high .now)) (length (a .lasts .now))) (c .before .candidates .ensures)
-
-picked : (c : tie.After-lowest-free Inv-loop μ-loop)
-    → (let t = turn (tight c) in let a = begun t .args in
-    c .lowest-free .result ≡ pick (flatTask (a .firsts .now) (a .lasts .now) (a .low .now) (a .high .now)) (t .loop .p) (hasPart (t .loop .left)))
-picked c =
-    let t = turn (tight c) in
-    let a = begun t .args in
-    found c ∙ ap (λ v. lowest (isPick (among t v) (t .loop .left) (a .low .now) (a .high .now)) (length (a .lasts .now))) (tight-found (tight c))
-    ∙ sym (pick-is (a .firsts .now) (a .lasts .now) (a .low .now) (a .high .now) (t .loop .left) (t .loop .inv .2 .inside)
-    (words (t .before .before .before .before .before .before .before .before .before .before)) _ _ _ _ (t .loop .inv .5) (t .loop .inv .6)
-    (t .loop .p) (in-turn (tight c .before .before)))
-
--- the part found is left, and its last position is not before that of the turn
-left-found : (c : tie.After-lowest-free Inv-loop μ-loop) → c .lowest-free .result < length (begun (turn (tight c)) .args .lasts .now)
-    → (let t = turn (tight c) in let x = c .lowest-free .result in
-    T (hasPart (t .loop .left) x) × (t .loop .p ≤ getD (begun t .args .lasts .now) x 0) × (getD (begun t .args .lasts .now) x 0 < 129))
-left-found c h =
-    let t = turn (tight c) in
-    let a = begun t .args in
-    let v = tight c .tight-end .result in
-    let n = length (a .lasts .now) in
-    let test : ℕ → Bool = isPick (among t v) (t .loop .left) (a .low .now) (a .high .now) in
-    let e : c .lowest-free .result ≡ lowest test n = found c in
-    let k : lowest test n < n = omega (arith, e, h) in
-    let f = pick-known (a .firsts .now) (a .lasts .now) (a .low .now) (a .high .now) (t .loop .left) (t .loop .inv .2 .inside)
-    (words (t .before .before .before .before .before .before .before .before .before .before)) _ _ _ _ (t .loop .inv .5) (t .loop .inv .6)
-    (t .loop .p) v (c .lowest-free .result) (omega arith) (tight-within (tight c)) h (subst (λ y. T (test y)) (sym e) (lowest-passes test n k)) in
-    (f .0, f .1, omega (arith, f .2, tight-within (tight c), begun t .pre .0 .parts))
+-- the turn of the candidates
+abbrev turn : tie.After-candidates Inv-loop μ-loop → tie.In-loop Inv-loop μ-loop
+turn c = c .before .before .before .before .before .before
 
 lowest-free-requires : tie.Need-lowest-free-requires Inv-loop μ-loop
-lowest-free-requires c κs = let p = begun (turn (c .before .before .before .before .before)) .pre .0 in (p .parts, p .low, p .high)
+lowest-free-requires c κs =
+    let t = turn (c .before .before) .before in
+    let p = called t .pre .0 in
+    (p .parts, p .low, p .high, t .loop .inv .7)
+
+-- the part found
+module _ (w : tie.After-wait-high2 Inv-loop μ-loop) where
+  abbrev o : tie.After-candidates Inv-loop μ-loop
+  o = w .before .before .before .before .before
+
+  abbrev i : tie.In-loop Inv-loop μ-loop
+  i = turn o
+
+  abbrev t : tie.At-loop Inv-loop μ-loop
+  t = i .before
+
+  abbrev s : tie.Start Inv-loop μ-loop
+  s = called t
+
+  abbrev x : ℕ
+  x = w .before .before .lowest-free .result .part
+
+  -- the parts begun at the position, and the candidates
+  abbrev begun : PartSet
+  begun = joined (t .loop .begun) (rowAt (put (t .before) .put-parts .last .1 .1 .0) (put (t .before) .put-parts .last .1 .1 .1 .0) (t .loop .p + 1))
+
+  begun-at : (y : ℕ) → hasPart begun y ≡ (ltb y (length (lasts i)) && ltb (getD (s .args .firsts .now) y 0) (t .loop .p + 1))
+  begun-at = before-more (s .args .firsts .now) _ _ (length (lasts i)) (t .loop .p) (t .loop .begun) (omega (arith, position-in i, few i))
+      (t .loop .inv .5) (t .loop .inv .6)
+
+  begun-is : o .before .before .join .result ≡ begun
+  begun-is = o .before .before .join .ensures ∙ ap (joined (t .loop .begun)) (o .before .before .before .row .ensures)
+
+  abbrev among : PartSet
+  among = candidatesAt (t .loop .p) (t .loop .v) (met (t .loop .left) begun) (s .args .ends-low .now) (s .args .ends-high .now)
+
+  among-is : o .candidates .result ≡ among
+  among-is =
+      o .candidates .ensures ∙ ap (λ b. candidatesAt (t .loop .p) (t .loop .v) b (s .args .ends-low .now) (s .args .ends-high .now))
+      (o .before .meet .ensures ∙ ap (met (t .loop .left)) begun-is)
+
+  abbrev test : ℕ → Bool
+  test = isPick among (t .loop .left) (s .args .low .now) (s .args .high .now)
+
+  found : x ≡ lowest test (length (lasts i))
+  found = w .before .before .lowest-free .ensures .0
+      ∙ ap (λ b. lowest (isPick b (t .loop .left) (s .args .low .now) (s .args .high .now)) (length (lasts i))) among-is
+
+  -- the words of the rows fit
+  words : (y : ℕ) → (getD (s .args .low .now) y 0 < 2 ^ 64) × (getD (s .args .high .now) y 0 < 2 ^ 64)
+  words y =
+      let k = put (t .before) .before .before .before .before .before .before .before .before .before in
+      (k .before .shared-slice-known3 .given y .fits, k .shared-slice-known4 .given y .fits)
+
+  picked : x ≡ pick (flatTask (s .args .firsts .now) (lasts i) (s .args .low .now) (s .args .high .now)) (t .loop .p) (hasPart (t .loop .left))
+  picked =
+      let end = end-tight (t .loop .left) (lasts i) (t .loop .levels) (t .loop .p) (t .loop .inv .3) (t .loop .v) (t .loop .inv .4) in
+      found ∙ sym (pick-is (s .args .firsts .now) (lasts i) (s .args .low .now) (s .args .high .now) (t .loop .left) (t .loop .inv .2 .inside) words
+      _ _ begun (t .loop .p) begun-at (s .pre .5) (t .loop .v) (position-in i) (within i) end)
+
+  -- it is left, and ends at the end or before it
+  module _ (h : x < length (lasts i)) where
+    known : T (hasPart (t .loop .left) x) × (getD (lasts i) x 0 ≤ t .loop .v)
+    known =
+        let k : lowest test (length (lasts i)) < length (lasts i) = omega (arith, found) in
+        pick-known (s .args .firsts .now) (lasts i) (s .args .low .now) (s .args .high .now) (t .loop .left) (t .loop .inv .2 .inside) words
+        _ _ begun (t .loop .p) begun-at (s .pre .5) (t .loop .v) x (position-in i) (within i) h
+        (subst (λ y. T (test y)) (sym found) (lowest-passes test (length (lasts i)) k))
 
 same-length : tie.Need-same-length Inv-loop μ-loop
-same-length c = let t = turn (tight (c .before)) in t .loop .inv .2 .size ∙ sym (begun t .pre .1)
+same-length c = t (c .before) .loop .inv .3 .size ∙ sym (s (c .before) .pre .6 .size)
+
+same-length-2 : tie.Need-same-length-2 Inv-loop μ-loop
+same-length-2 c = t (c .before) .loop .inv .2 .size ∙ sym (s (c .before) .pre .1)
 
 returns : tie.Need-returns Inv-loop μ-loop
-returns c = placing-stops _ _ _ _ _ _ _ (in-turn (tight (c .before) .before .before)) (turn (tight (c .before)) .loop .inv .2)
-    (omega (arith, picked (c .before), c .if1 .taken))
+returns c =
+    let w = c .before in
+    placing-stops _ _ _ _ _ _ _ (position-in (i w)) (t w .loop .inv .2) (omega (arith, picked w, c .if1 .taken))
 
 -- the part found is one of the parts
-part-in : (c : tie.Else1 Inv-loop μ-loop) → c .before .lowest-free .result < length (begun (turn (tight (c .before))) .args .lasts .now)
+part-in : (c : tie.Else1 Inv-loop μ-loop) → x (c .before) < length (lasts (i (c .before)))
 part-in c = omega (arith, c .if1 .left)
 
 cast-order : tie.Need-cast-order Inv-loop μ-loop
-cast-order c = record { fits = omega (arith, part-in c, begun (turn (tight (c .before))) .pre .0 .parts) }
+cast-order c = record { fits = omega (arith, part-in c, few (i (c .before))) }
 
 slice-write-order : tie.Need-slice-write-order Inv-loop μ-loop
-slice-write-order c = let o = tight (c .before) in omega (arith, in-turn (o .before .before), turn o .loop .inv .2 .size)
+slice-write-order c = let w = c .before in omega (arith, position-in (i w), t w .loop .inv .2 .size)
 
-single-part-requires : tie.Need-single-part-requires Inv-loop μ-loop
-single-part-requires c κs = omega (arith, part-in c, begun (turn (tight (c .before))) .pre .0 .parts)
+slice-aggregate-row-3 : tie.Need-slice-aggregate-row-3 Inv-loop μ-loop
+slice-aggregate-row-3 c = search needs
+
+slice-aggregate-row-4 : tie.Need-slice-aggregate-row-4 Inv-loop μ-loop
+slice-aggregate-row-4 c = search needs
+
+-- those that wait, after the search
+held : (w : tie.After-wait-high2 Inv-loop μ-loop)
+    → (let f = w .before .before .lowest-free in let a = s w .args in
+    Held (t w .loop .left) (f .result .waiting) (a .low .now) (a .high .now) (f .last .1 .1 .1 .1 .1 .1 .0) (f .last .1 .1 .1 .1 .1 .1 .1 .0))
+held w = w .before .before .lowest-free .ensures .1
+
+row-requires-2 : tie.Need-row-requires-2 Inv-loop μ-loop
+row-requires-2 c κs =
+    let d = c .before .before in
+    let h = held (d .before) in
+    (omega (arith, part-in d, few (i (d .before)), h .lows), omega (arith, part-in d, few (i (d .before)), h .highs))
 
 remove-requires : tie.Need-remove-requires Inv-loop μ-loop
 remove-requires c κs = search needs
 
+single-part-requires : tie.Need-single-part-requires Inv-loop μ-loop
+single-part-requires c κs = let d = c .before .before .before .before in omega (arith, part-in d, few (i (d .before)))
+
+remove-requires-2 : tie.Need-remove-requires-2 Inv-loop μ-loop
+remove-requires-2 c κs = search needs
+
+-- the turn in which a part is taken off
+abbrev taken : tie.After-remove2 Inv-loop μ-loop → tie.Else1 Inv-loop μ-loop
+taken c = c .before .before .before .before .before .before
+
 mul-last : tie.Need-mul-last Inv-loop μ-loop
-mul-last c = record { fits = omega (arith, part-in (c .before .before), begun (turn (tight (c .before .before .before))) .pre .0 .parts) }
+mul-last c = let d = taken c in record { fits = omega (arith, part-in d, few (i (d .before))) }
 
 shared-slice-read-last : tie.Need-shared-slice-read-last Inv-loop μ-loop
-shared-slice-read-last c = part-in (c .before .before .before)
+shared-slice-read-last c = part-in (taken (c .before))
 
--- the last position of the part found is counted, and the counts are those of the parts left without it
-module _ (c : tie.Else1 Inv-loop μ-loop) where
-  abbrev t : tie.At-loop Inv-loop μ-loop
-  t = turn (tight (c .before))
+-- its last position is one
+last-in : (c : tie.Else1 Inv-loop μ-loop) → getD (lasts (i (c .before))) (x (c .before)) 0 < length (lasts (i (c .before)))
+last-in c = s (c .before) .pre .3 (x (c .before)) (part-in c)
 
-  abbrev lasts : List ℕ
-  lasts = begun t .args .lasts .now
+raise-requires : tie.Need-raise-requires Inv-loop μ-loop
+raise-requires c κs =
+    let d = taken (c .before .before) in
+    let w = d .before in
+    let k = t w .loop in
+    let most = levels-most (k .left) (lasts (i w)) (k .levels) (k .p) (k .inv .3) (k .inv .2 .count) in
+    (omega (arith, last-in d, few (i w)), k .inv .3 .size, λ v l h. omega (arith, most v (omega arith) (omega (arith, last-in d)), few (i w)))
 
-  abbrev x : ℕ
-  x = c .before .lowest-free .result
+-- the levels raised
+abbrev before-raise : tie.After-raise Inv-loop μ-loop → tie.Else1 Inv-loop μ-loop
+before-raise c = taken (c .before .before .before)
 
-  abbrev last : ℕ
-  last = getD lasts x 0
+levelled : (c : tie.After-raise Inv-loop μ-loop)
+    → (let w = before-raise c .before in Levels (removed (t w .loop .left) (single (x w))) (lasts (i w)) (t w .loop .p + 1) (c .raise .last .1 .1 .0))
+levelled c =
+    let d = before-raise c in
+    let w = d .before in
+    let k = t w .loop in
+    levels-next (k .left) (lasts (i w)) (k .levels) (k .p) (k .inv .3) (x w) (part-in d) (known w (part-in d) .0) _ _ (c .raise .ensures)
 
-  abbrev fewer : List ℕ
-  fewer = set (t .loop .counts) last (getD (t .loop .counts) last 0 - 1)
-
-  last-in : last < 129
-  last-in = left-found (c .before) (part-in c) .2
-
-  counted : 1 ≤ getD (t .loop .counts) last 0
-  counted = end-counted (t .loop .left) lasts (t .loop .counts) x (t .loop .inv .3) (part-in c) (left-found (c .before) (part-in c) .0) last-in
-
-  still : Counted (removed (t .loop .left) (single x)) lasts (length lasts) fewer
-  still = counted-less (t .loop .left) lasts (t .loop .counts) x (t .loop .inv .3) (part-in c) (left-found (c .before) (part-in c) .0) last-in
-
-  up-still : t .loop .before + getD fewer (t .loop .p) 0 ≡ upTo fewer (t .loop .p)
-  up-still = up-set (t .loop .counts) last (getD (t .loop .counts) last 0 - 1) (t .loop .p) (t .loop .before) (left-found (c .before) (part-in c) .1)
-      (t .loop .inv .4)
-
-  position-in : t .loop .p < 128
-  position-in = omega (arith, in-turn (tight (c .before) .before .before), begun t .pre .0 .parts)
-
-  few-before : t .loop .before + getD fewer (t .loop .p) 0 ≤ 128
-  few-before = omega (
-    arith,
-    up-still,
-    up-most (removed (t .loop .left) (single x)) lasts fewer still (begun t .pre .0 .parts) (t .loop .p) (omega (arith, position-in, still .size)),
-  )
-
-mul-counts : tie.Need-mul-counts Inv-loop μ-loop
-mul-counts c = record { fits = omega (arith, last-in (c .before .before .before)) }
-
-array-read-counts : tie.Need-array-read-counts Inv-loop μ-loop
-array-read-counts c = last-in (c .before .before .before)
-
-sub-counts : tie.Need-sub-counts Inv-loop μ-loop
-sub-counts c = counted (c .before .before .before)
-
-array-write-counts : tie.Need-array-write-counts Inv-loop μ-loop
-array-write-counts c = last-in (c .before .before .before)
-
-mul-before : tie.Need-mul-before Inv-loop μ-loop
-mul-before c = record { fits = omega (arith, position-in (c .before .before .before)) }
-
-array-read-before : tie.Need-array-read-before Inv-loop μ-loop
-array-read-before c = omega (arith, position-in (c .before .before .before))
-
-add-before : tie.Need-add-before Inv-loop μ-loop
-add-before c = record { fits = omega (arith, few-before (c .before .before .before)) }
-
-add-p : tie.Need-add-p Inv-loop μ-loop
-add-p c = record { fits = omega (arith, position-in (c .before .before .before)) }
+tight-end-requires-2 : tie.Need-tight-end-requires-2 Inv-loop μ-loop
+tight-end-requires-2 c κs =
+    let r = c .before .before .before in
+    let d = before-raise r in
+    let w = d .before in
+    let k = t w .loop in (
+      omega (arith, position-in (i w)),
+      omega (arith, levelled r .size, few (i w)),
+      λ e h. end-stays _ (k .p) (k .levels) _ (k .v) _ _ (k .inv .4) (r .raise .ensures) (known w (part-in d) .1) e h,
+    )
 
 loop-less : tie.Need-loop-less Inv-loop μ-loop
-loop-less c = omega (arith, in-turn (tight (c .before .before .before .before) .before .before))
+loop-less c = let w = before-raise (c .before .before .before .before) .before in omega (arith, position-in (i w))
 
 loop-again : tie.Need-loop-again Inv-loop μ-loop
 loop-again c =
-    let d = c .before .before .before in
-    let o = d .before in
-    let u = turn (tight o) in
-    let p = in-turn (tight o .before .before) in (
-      omega (arith, p),
+    let r = c .before .before .before .before in
+    let q = r .before .before .before in
+    let d = before-raise r in
+    let w = d .before in
+    let k = t w .loop in
+    let a = s w .args in
+    let left : q .remove2 .result ≡ removed (k .left) (single (x w)) =
+    q .remove2 .ensures ∙ ap (removed (k .left)) (q .before .single-part .ensures) in
+    let freed = q .before .before in
+    let f = w .before .before .lowest-free in
+    let still : freed .remove .result
+    ≡ removed (f .result .waiting) (rowAt (f .last .1 .1 .1 .1 .1 .1 .0) (f .last .1 .1 .1 .1 .1 .1 .1 .0) (x w)) =
+    freed .remove .ensures ∙ ap (removed (f .result .waiting)) (freed .before .row2 .ensures) in (
+      omega (arith, position-in (i w)),
       refl,
-      rw (c .before .remove .ensures, c .before .before .single-part .ensures)
-          (placing-more _ _ _ _ _ _ _ p (u .loop .inv .2) _ (picked o) (part-in d)),
-      rw (c .before .remove .ensures, c .before .before .single-part .ensures) (still d),
-      up-then _ (u .loop .before) (u .loop .p) (up-still d),
-      u .loop .inv .5,
-      u .loop .inv .6,
+      rw left (placing-more _ _ _ _ _ (k .left) (k .p) (position-in (i w)) (k .inv .2) _ (picked w) (part-in d) (known w (part-in d) .0)),
+      rw left (levelled r),
+      c .tight-end2 .ensures,
+      k .inv .5,
+      rw (begun-is w) (begun-at w),
+      held-next _ _ _ _ _ _ (held w) (x w) _ _ left still,
     )
 
-same-length-2 : tie.Need-same-length-2 Inv-loop μ-loop
-same-length-2 c = c .before .loop .inv .2 .size ∙ sym (begun (c .before) .pre .1)
+same-length-3 : tie.Need-same-length-3 Inv-loop μ-loop
+same-length-3 c = c .before .loop .inv .3 .size ∙ sym (called (c .before) .pre .6 .size)
+
+same-length-4 : tie.Need-same-length-4 Inv-loop μ-loop
+same-length-4 c = c .before .loop .inv .2 .size ∙ sym (called (c .before) .pre .1)
 
 returns-2 : tie.Need-returns-2 Inv-loop μ-loop
 returns-2 c = placing-all _ _ _ _ _ _ (c .before .loop .p) (omega arith) (c .before .loop .inv .2)
@@ -298,36 +343,42 @@ greedy-order-spec =
     (tie.spec
     Inv-loop
     μ-loop
-    parts-below-requires
-    parts-below-requires-2
-    first-parts-requires
-    ends-requires
-    loop-holds
-    slice-aggregate-tight-end
+    no-words-requires
+    no-words-requires-2
+    slice-aggregate-put-parts
+    slice-aggregate-put-parts-2
+    put-parts-requires
+    no-words-requires-3
+    no-words-requires-4
     tight-end-requires
-    slice-aggregate-candidates
-    slice-aggregate-candidates-2
-    slice-aggregate-candidates-3
-    slice-aggregate-candidates-4
+    loop-holds
+    add-p
+    slice-aggregate-row
+    slice-aggregate-row-2
+    row-requires
+    join-requires
+    meet-requires
     candidates-requires
+    slice-aggregate-lowest-free
+    slice-aggregate-lowest-free-2
     lowest-free-requires
     same-length
+    same-length-2
     returns
     cast-order
     slice-write-order
-    single-part-requires
+    slice-aggregate-row-3
+    slice-aggregate-row-4
+    row-requires-2
     remove-requires
+    single-part-requires
+    remove-requires-2
     mul-last
     shared-slice-read-last
-    mul-counts
-    array-read-counts
-    sub-counts
-    array-write-counts
-    mul-before
-    array-read-before
-    add-before
-    add-p
+    raise-requires
+    tight-end-requires-2
     loop-less
     loop-again
-    same-length-2
+    same-length-3
+    same-length-4
     returns-2)

@@ -1,4 +1,5 @@
-use Prim.Native.Nat.{_-_}
+use Prim.Native.Nat.{_-_, _%_}
+use mathlib.Core.Path.{_≡_}
 use native.Mathlib.Omega.{arith}
 use Rattle.flat_order.proofs.Members.{shifted}
 use borrow.Author.Tests.{le-ltb, lt-ltb}
@@ -7,19 +8,22 @@ use borrow.Author.Needs.{needs}
 use Rattle.flat_order.proofs.sets.single_part.Statement.{statement}
 use Rattle.flat_order.proofs.sets.single_part.Tie as tie
 
-shl-t5 : tie.Need-shl-t5
-shl-t5 c = search needs
+shl-bit : tie.Need-shl-bit
+shl-bit c = search needs
 
 returns : tie.Need-returns
 unfolding single
-returns c = simp (shifted _ (c .if1 .taken), lt-ltb _ _ (c .if1 .taken))
-
-shl-t7 : tie.Need-shl-t7
-shl-t7 c = search needs
+returns c =
+    let x = c .before .args .x in
+    let e : x % 64 ≡ x = omega arith in
+    simp (e, shifted x (c .if1 .taken), lt-ltb x 64 (c .if1 .taken))
 
 returns-2 : tie.Need-returns-2
 unfolding single
-returns-2 c = simp (shifted (c .before .args .x - 64) (omega arith), le-ltb _ _ (c .if1 .left))
+returns-2 c =
+    let x = c .before .args .x in
+    let e : x % 64 ≡ x - 64 = omega arith in
+    simp (e, shifted (x - 64) (omega arith), le-ltb x 64 (c .if1 .left))
 
 pub single-part-spec : {M : Type 1} → statement M
-single-part-spec = tie.close (tie.spec shl-t5 returns shl-t7 returns-2)
+single-part-spec = tie.close (tie.spec shl-bit returns returns-2)

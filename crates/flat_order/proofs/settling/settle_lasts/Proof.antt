@@ -1,127 +1,65 @@
-use Prim.Native.Nat.{_-_, _≤_, _<_}
+use Prim.Native.Nat.{ℕ, _+_, _-_, _≤_, _<_}
 use mathlib.Core.Path.{_≡_, refl, ap, ap₂, sym, _∙_}
+use mathlib.Core.Bool.{_&&_}
 use native.Mathlib.Omega.{arith}
-use lib.Dec.{T}
-use lib.ListN.{length}
+use mathlib.Core.List.{List}
+use lib.Dec.{T, ltb, eqb}
+use lib.ListN.{length, getD}
+use Rattle.ordering.proofs.Number.{number-pos}
 use Rattle.flat_order.specs.declared.PartSet.{PartSet}
-use Rattle.flat_order.specs.declared.PartSets.{PartSets}
-use Rattle.flat_order.specs.Sets.{hasPart, single, joined, removed, met, IsLowest}
-use Rattle.flat_order.specs.Flat.{Below, rowAt, opened}
+use Rattle.flat_order.specs.Sets.{hasPart, joined, removed, met, IsLowest}
+use Rattle.flat_order.specs.Flat.{rowAt}
 use Rattle.flat_order.proofs.Settled.{Settling, settling-none, settling-all}
-use Rattle.flat_order.proofs.Waiting.{Waiting, viewed, waiting-none, viewed-none, end-below, waiting-opened, viewed-opened, strictly}
-use Rattle.flat_order.proofs.Waiting.{due-found, settled-one, viewed-all}
+use Rattle.flat_order.proofs.Waiting.{Waiting, viewed, waiting-none, viewed-none, waiting-here, viewed-here, strictly}
+use Rattle.flat_order.proofs.Waiting.{later, waiting-next, viewed-next, settled-one, viewed-all}
+use Rattle.flat_order.proofs.Ended.{Ended, ended-none, ended-set, ended-next, ended-count, ended-below, ended-levels}
 use borrow.Author.Needs.{needs}
 use Rattle.flat_order.proofs.settling.settle_lasts.Statement.{statement}
 use Rattle.flat_order.proofs.settling.settle_lasts.Tie as tie
 
 abbrev Inv-loop : tie.InvT-loop
-Inv-loop low high lasts₀ n ends-low ends-high left₀ due₀ e₀ j₀ lasts left due e j =
-    (j ≤ n) × (n ≡ length lasts₀) × Below lasts₀ (length lasts₀) ends-low ends-high × Waiting lasts₀ j lasts left due e
-    × Settling low high lasts₀ j (viewed due e lasts) left
+Inv-loop all low high lasts₀ ends-low₀ ends-high₀ levels₀ n left₀ due₀ e₀ j₀ lasts ends-low ends-high levels left due e j =
+    (e ≤ n) × (n ≡ length lasts₀) × Waiting lasts₀ j lasts left due e × Settling low high lasts₀ j (viewed due e lasts) left
+    × Ended all lasts₀ lasts e ends-low ends-high levels
 
 abbrev μ-loop : tie.MeasureT-loop
-μ-loop low high lasts₀ n ends-low ends-high left₀ due₀ e₀ j₀ lasts left due e j = n - j
-
-parts-below-requires : tie.Need-parts-below-requires Inv-loop μ-loop
-parts-below-requires c κs = let p = c .before .before .before .before .pre in (p .0, omega arith, p .3)
-
-first-parts-requires : tie.Need-first-parts-requires Inv-loop μ-loop
-first-parts-requires c κs = search needs
+μ-loop all low high lasts₀ ends-low₀ ends-high₀ levels₀ n left₀ due₀ e₀ j₀ lasts ends-low ends-high levels left due e j = n - e + (n - j)
 
 loop-holds : tie.Need-loop-holds Inv-loop μ-loop
 loop-holds c =
-    let s = c .before .before .before .before .before .before .before .before in (
-      search needs,
+    let s = c .before .before .before .before .before .before in
+    let a = s .args in (
+      omega arith,
       refl,
-      c .before .before .before .parts-below .ensures,
-      waiting-none _ _ (c .first-parts .ensures) (s .pre .3),
-      rw (viewed-none (s .args .lasts .now)) (settling-none _ _ _ _ (c .first-parts .ensures)),
+      waiting-none _ _ (s .pre .4) (s .pre .3),
+      rw (viewed-none (a .lasts .now)) (settling-none _ _ _ _ (s .pre .4)),
+      ended-none _ _ _ _ _ (s .pre .5) (s .pre .6),
     )
 
 -- the start of the call, and of a turn
 abbrev begun : tie.At-loop Inv-loop μ-loop → tie.Start Inv-loop μ-loop
-begun c = c .before .before .before .before .before .before .before .before .before
+begun t = t .before .before .before .before .before .before .before
 
-abbrev turn : tie.After-next-end Inv-loop μ-loop → tie.At-loop Inv-loop μ-loop
-turn c = c .before .before .before .before
+abbrev turn : tie.After-lowest-part Inv-loop μ-loop → tie.At-loop Inv-loop μ-loop
+turn a = a .before .before .before .before .before .before .before
 
-abbrev ends : tie.At-loop Inv-loop μ-loop → PartSets
-ends c = c .before .before .before .before .parts-below .result
+-- the number of parts, and that of the turn
+parts-in : (t : tie.At-loop Inv-loop μ-loop) → length (begun t .args .lasts .now) ≤ 128
+parts-in t = begun t .pre .0
 
--- the position found is one
-end-in : (c : tie.After-next-end Inv-loop μ-loop) → c .next-end .result < length (begun (turn c) .args .lasts .now)
-end-in c =
-    let t = turn c in
-    end-below _ (t .loop .lasts) _ _ (t .loop .j) (t .loop .e) _ (t .loop .left) (t .loop .due) (begun t .pre .0) (t .loop .inv .2) (t .loop .inv .3)
-    (c .next-end .ensures) (omega arith)
+position-in : (c : tie.In-loop Inv-loop μ-loop) → c .before .loop .e < length (begun (c .before) .args .lasts .now)
+position-in c = omega arith
 
--- the parts due there, and the lowest of them
-abbrev here : tie.After-next-end Inv-loop μ-loop → PartSet
-here c = opened (turn c .loop .due) (turn c .loop .left) (ends (turn c) .low) (ends (turn c) .high) (c .next-end .result)
-
-abbrev next : tie.After-lowest-part Inv-loop μ-loop → tie.After-next-end Inv-loop μ-loop
-next c = c .before .before .before .before
-
-is-lowest : (c : tie.After-lowest-part Inv-loop μ-loop) → IsLowest (here (next c)) (c .lowest-part .result)
-is-lowest c = rw (← c .before .due-now .ensures) (c .lowest-part .ensures)
-
-is-due : (c : tie.After-lowest-part Inv-loop μ-loop) → T (hasPart (here (next c)) (c .lowest-part .result))
-is-due c =
-    let t = turn (next c) in
-    due-found _ (t .loop .lasts) _ _ (t .loop .j) (t .loop .e) _ (t .loop .left) (t .loop .due) (begun t .pre .0) (t .loop .inv .2) (t .loop .inv .3)
-    (next c .next-end .ensures) _ (end-in (next c)) (is-lowest c)
-
-waits : (c : tie.After-next-end Inv-loop μ-loop)
-    → Waiting (begun (turn c) .args .lasts .now) (turn c .loop .j) (turn c .loop .lasts) (turn c .loop .left) (here c) (c .next-end .result)
-waits c =
-    let t = turn c in
-    waiting-opened _ (t .loop .lasts) _ _ (t .loop .j) (t .loop .e) _ (t .loop .left) (t .loop .due) (begun t .pre .0) (t .loop .inv .2)
-    (t .loop .inv .3) (c .next-end .ensures) (omega (arith, end-in c))
-
-part-in : (c : tie.After-lowest-part Inv-loop μ-loop) → c .lowest-part .result < length (begun (turn (next c)) .args .lasts .now)
-part-in c = let w = waits (next c) in w .inside _ (w .part _ (is-due c))
-
-slice-aggregate-next-end : tie.Need-slice-aggregate-next-end Inv-loop μ-loop
-slice-aggregate-next-end c = search needs
-
-slice-aggregate-next-end-2 : tie.Need-slice-aggregate-next-end-2 Inv-loop μ-loop
-slice-aggregate-next-end-2 c = search needs
-
-next-end-requires : tie.Need-next-end-requires Inv-loop μ-loop
-next-end-requires c κs = let t = c .before .before .before in (omega (arith, begun t .pre .0), t .loop .inv .2 .lows, t .loop .inv .2 .highs)
-
-slice-aggregate-due-now : tie.Need-slice-aggregate-due-now Inv-loop μ-loop
-slice-aggregate-due-now c = search needs
-
-slice-aggregate-due-now-2 : tie.Need-slice-aggregate-due-now-2 Inv-loop μ-loop
-slice-aggregate-due-now-2 c = search needs
-
-due-now-requires : tie.Need-due-now-requires Inv-loop μ-loop
-due-now-requires c κs =
-    let t = turn (c .before .before) in
-    let l = end-in (c .before .before) in
-    (omega (arith, l, begun t .pre .0, t .loop .inv .2 .lows), omega (arith, l, begun t .pre .0, t .loop .inv .2 .highs))
-
-lowest-part-requires : tie.Need-lowest-part-requires Inv-loop μ-loop
-lowest-part-requires c κs = search needs
-
-mul-lasts : tie.Need-mul-lasts Inv-loop μ-loop
-mul-lasts c = record { fits = omega (arith, part-in c, begun (turn (next c)) .pre .0) }
-
-slice-write-lasts : tie.Need-slice-write-lasts Inv-loop μ-loop
-slice-write-lasts c = omega (arith, part-in c, turn (next c) .loop .inv .3 .size)
-
-single-part-requires : tie.Need-single-part-requires Inv-loop μ-loop
-single-part-requires c κs = omega (arith, part-in c, begun (turn (next c)) .pre .0)
-
-remove-requires : tie.Need-remove-requires Inv-loop μ-loop
-remove-requires c κs = search needs
+add-row : tie.Need-add-row Inv-loop μ-loop
+add-row c = let t = c .before .before in record { fits = omega (arith, position-in t, parts-in (t .before)) }
 
 row-requires : tie.Need-row-requires Inv-loop μ-loop
 row-requires c κs =
-    let l = part-in (c .before .before) in
-    let s = begun (turn (next (c .before .before))) in
-    (omega (arith, l, s .pre .1), omega (arith, l, s .pre .2))
+    let t = c .before .before in
+    let l = t .before .loop in
+    let p = position-in t in
+    let n = parts-in (t .before) in
+    (omega (arith, p, n, l .inv .4 .lows), omega (arith, p, n, l .inv .4 .highs))
 
 join-requires : tie.Need-join-requires Inv-loop μ-loop
 join-requires c κs = search needs
@@ -129,44 +67,188 @@ join-requires c κs = search needs
 meet-requires : tie.Need-meet-requires Inv-loop μ-loop
 meet-requires c κs = search needs
 
-add-j : tie.Need-add-j Inv-loop μ-loop
-add-j c = record { fits = omega (arith, begun (turn (next (c .before .before .before .before .before))) .pre .0) }
+lowest-part-requires : tie.Need-lowest-part-requires Inv-loop μ-loop
+lowest-part-requires c κs = search needs
+
+-- the parts that end at the position, those due there, and the lowest of them
+module _ (a : tie.After-lowest-part Inv-loop μ-loop) where
+  abbrev t : tie.At-loop Inv-loop μ-loop
+  t = turn a
+
+  abbrev lasts₀ : List ℕ
+  lasts₀ = begun (t) .args .lasts .now
+
+  abbrev ends : PartSet
+  ends = rowAt (t .loop .ends-low) (t .loop .ends-high) (t .loop .e + 1)
+
+  abbrev here : PartSet
+  here = met (joined (t .loop .due) ends) (t .loop .left)
+
+  in-turn : t .loop .e < length lasts₀
+  in-turn = position-in (a .before .before .before .before .before .before)
+
+  here-is : a .before .meet .result ≡ here
+  here-is =
+      a .before .meet .ensures ∙ ap (λ s. met s (t .loop .left))
+      (a .before .before .join .ensures ∙ ap (joined (t .loop .due)) (a .before .before .before .row .ensures))
+
+  at-ends : (x : ℕ) → hasPart ends x ≡ (ltb x (length lasts₀) && eqb (getD lasts₀ x 0 + 1) (t .loop .e + 1))
+  at-ends x = t .loop .inv .4 .rest (t .loop .e + 1) x (omega arith) (omega (arith, in-turn, parts-in t))
+
+  is-lowest : IsLowest here (a .lowest-part .result)
+  is-lowest = rw (← here-is) (a .lowest-part .ensures)
+
+  waits : Waiting lasts₀ (t .loop .j) (t .loop .lasts) (t .loop .left) here (t .loop .e)
+  waits = waiting-here lasts₀ (t .loop .lasts) (t .loop .j) (t .loop .e) (t .loop .left) (t .loop .due) ends (parts-in t) at-ends (t .loop .inv .2)
+
+remove-requires : tie.Need-remove-requires Inv-loop μ-loop
+remove-requires c κs = search needs
+
+slice-write-levels : tie.Need-slice-write-levels Inv-loop μ-loop
+slice-write-levels c = let a = c .before .before in omega (arith, in-turn a, parts-in (turn a), turn a .loop .inv .4 .size)
+
+add-e : tie.Need-add-e Inv-loop μ-loop
+add-e c = let a = c .before .before in record { fits = omega (arith, in-turn a, parts-in (turn a)) }
+
+mul-ends-low : tie.Need-mul-ends-low Inv-loop μ-loop
+mul-ends-low c = let a = c .before .before in record { fits = omega (arith, in-turn a, parts-in (turn a)) }
+
+slice-write-ends-low : tie.Need-slice-write-ends-low Inv-loop μ-loop
+slice-write-ends-low c = let a = c .before .before in omega (arith, in-turn a, parts-in (turn a), turn a .loop .inv .4 .lows)
+
+mul-ends-high : tie.Need-mul-ends-high Inv-loop μ-loop
+mul-ends-high c = let a = c .before .before in record { fits = omega (arith, in-turn a, parts-in (turn a)) }
+
+slice-write-ends-high : tie.Need-slice-write-ends-high Inv-loop μ-loop
+slice-write-ends-high c = let a = c .before .before in omega (arith, in-turn a, parts-in (turn a), turn a .loop .inv .4 .highs)
 
 loop-less : tie.Need-loop-less Inv-loop μ-loop
-loop-less c = search needs
+loop-less c = let a = c .before .before in omega (arith, in-turn a)
 
+-- none is due: the next position
 loop-again : tie.Need-loop-again Inv-loop μ-loop
 loop-again c =
-    let f = c .before .before .before .before .before in
-    let o = next f in
-    let t = turn o in
-    let a = begun t .args in
-    let q = f .lowest-part .result in
-    let d : f .before .due-now .result ≡ here o = f .before .due-now .ensures in
+    let a = c .before .before in
+    let t = turn a in
+    let k = t .loop in
+    let h = c .before .if1 .taken in
+    let s = begun t in
+    let few = parts-in t in (
+      omega (arith, in-turn a),
+      k .inv .1,
+      rw (here-is a) (waiting-next (lasts₀ a) (k .lasts) (k .j) (k .e) (k .left) (k .due) (ends a) few (at-ends a) (k .inv .2) _ (is-lowest a) h),
+      rw (
+        here-is a,
+        viewed-next (lasts₀ a) (k .lasts) (k .j) (k .e) (k .left) (k .due) (ends a) few (at-ends a) (k .inv .2) _ (is-lowest a) h,
+      ) (k .inv .3),
+      ended-next (s .args .all) (lasts₀ a) (k .lasts) (k .j) (k .e) _ _ _ (k .left) (k .due) (s .pre .4) (k .inv .2) (k .inv .4)
+          (later (lasts₀ a) (k .lasts) (k .j) (k .e) (k .left) (k .due) (ends a) few (at-ends a) (k .inv .2) _ (is-lowest a) h) few (in-turn a) _
+          (c .remove .ensures),
+    )
+
+-- the lowest part is due, and left
+module _ (o : tie.Else1 Inv-loop μ-loop) where
+  is-due : T (hasPart (here (o .before)) (o .before .lowest-part .result))
+  is-due = is-lowest (o .before) .found (o .if1 .left)
+
+  is-left : T (hasPart (turn (o .before) .loop .left) (o .before .lowest-part .result))
+  is-left = waits (o .before) .part _ is-due
+
+  part-in : o .before .lowest-part .result < length (lasts₀ (o .before))
+  part-in = waits (o .before) .inside _ is-left
+
+  more-left : turn (o .before) .loop .j < length (lasts₀ (o .before))
+  more-left =
+      let k = turn (o .before) .loop in
+      omega (arith, k .inv .2 .count, number-pos (hasPart (k .left)) (length (lasts₀ (o .before))) _ part-in is-left)
+
+mul-lasts : tie.Need-mul-lasts Inv-loop μ-loop
+mul-lasts c = record { fits = omega (arith, part-in c, parts-in (turn (c .before))) }
+
+slice-write-lasts : tie.Need-slice-write-lasts Inv-loop μ-loop
+slice-write-lasts c = omega (arith, part-in c, turn (c .before) .loop .inv .2 .size)
+
+single-part-requires : tie.Need-single-part-requires Inv-loop μ-loop
+single-part-requires c κs = omega (arith, part-in c, parts-in (turn (c .before)))
+
+remove-requires-2 : tie.Need-remove-requires-2 Inv-loop μ-loop
+remove-requires-2 c κs = search needs
+
+row-requires-2 : tie.Need-row-requires-2 Inv-loop μ-loop
+row-requires-2 c κs =
+    let o = c .before .before in
+    let s = begun (turn (o .before)) in
+    (omega (arith, part-in o, s .pre .1), omega (arith, part-in o, s .pre .2))
+
+join-requires-2 : tie.Need-join-requires-2 Inv-loop μ-loop
+join-requires-2 c κs = search needs
+
+meet-requires-2 : tie.Need-meet-requires-2 Inv-loop μ-loop
+meet-requires-2 c κs = search needs
+
+add-j : tie.Need-add-j Inv-loop μ-loop
+add-j c =
+    let o = c .before .before .before .before .before in
+    record { fits = omega (arith, more-left o, parts-in (turn (o .before))) }
+
+loop-less-2 : tie.Need-loop-less-2 Inv-loop μ-loop
+loop-less-2 c = let o = c .before .before .before .before .before in omega (arith, more-left o, turn (o .before) .loop .inv .1)
+
+-- one part settled
+loop-again-2 : tie.Need-loop-again-2 Inv-loop μ-loop
+loop-again-2 c =
     let w = c .before .before .before in
-    let u : w .before .single-part .result ≡ single q = w .before .single-part .ensures in
-    let m : w .remove .result ≡ removed (t .loop .left) (w .before .single-part .result) = w .remove .ensures in
-    let r : c .before .before .row .result ≡ rowAt (a .low .now) (a .high .now) q = c .before .before .row .ensures in
-    let j : c .before .join .result ≡ joined (f .before .due-now .result) (c .before .before .row .result) = c .before .join .ensures in
-    let k : c .meet .result ≡ met (c .before .join .result) (c .before .before .before .remove .result) = c .meet .ensures in
-    let strict = strictly _ (t .loop .lasts) _ _ (t .loop .j) (t .loop .e) _ (t .loop .left) (t .loop .due) (begun t .pre .0) (t .loop .inv .2)
-    (t .loop .inv .3) (o .next-end .ensures) (omega (arith, end-in o)) in
-    let view = viewed-opened _ (t .loop .lasts) _ _ (t .loop .j) (t .loop .e) _ (t .loop .left) (t .loop .due) (begun t .pre .0) (t .loop .inv .2)
-    (t .loop .inv .3) (o .next-end .ensures) (omega (arith, end-in o)) in
-    let z = settled-one (a .low .now) (a .high .now) _ (t .loop .lasts) (t .loop .j) _ q (t .loop .left) (here o) (begun t .pre .0) (waits o) strict
-    (end-in o) (is-lowest f) (is-due f) (c .before .before .before .remove .result) (c .meet .result) (m ∙ ap (removed (t .loop .left)) u)
-    (k ∙ ap (λ v. met v (c .before .before .before .remove .result)) (j ∙ ap₂ joined d r)) (omega arith) (rw view (t .loop .inv .4)) in
-    (search needs, refl, t .loop .inv .2, z .0, z .1)
+    let o = w .before .before in
+    let a = o .before in
+    let t = turn a in
+    let k = t .loop in
+    let s = begun t in
+    let q = a .lowest-part .result in
+    let view = viewed-here (lasts₀ a) (k .lasts) (k .j) (k .e) (k .left) (k .due) (ends a) (parts-in t) (at-ends a) (k .inv .2) in
+    let strict = strictly (lasts₀ a) (k .lasts) (k .j) (k .e) (k .left) (k .due) (ends a) (parts-in t) (at-ends a) (k .inv .2) in
+    let z = settled-one (s .args .low .now) (s .args .high .now) (lasts₀ a) (k .lasts) (k .j) (k .e) q (k .left) (here a) (parts-in t) (waits a)
+    strict (in-turn a) (is-lowest a) (is-due o) (w .remove2 .result) (c .meet2 .result)
+    (w .remove2 .ensures ∙ ap (removed (k .left)) (w .before .single-part .ensures))
+    (c .meet2 .ensures ∙ ap (λ v. met v (w .remove2 .result)) (c .before .join2 .ensures ∙ ap₂ joined (here-is a) (c .before .before .row2 .ensures)))
+    (more-left o) (rw view (k .inv .3)) in (
+      omega (arith, k .inv .0),
+      k .inv .1,
+      z .0,
+      z .1,
+      ended-set (s .args .all) (lasts₀ a) (k .lasts) (k .j) (k .e) _ _ _ (k .left) (k .due) (s .pre .4) (k .inv .2) (k .inv .4) q (is-left o),
+    )
 
 same-length : tie.Need-same-length Inv-loop μ-loop
-same-length c = c .before .loop .inv .3 .size
+same-length c = c .before .loop .inv .2 .size
+
+same-length-2 : tie.Need-same-length-2 Inv-loop μ-loop
+same-length-2 c = c .before .loop .inv .4 .lows ∙ sym (begun (c .before) .pre .5 .lows)
+
+same-length-3 : tie.Need-same-length-3 Inv-loop μ-loop
+same-length-3 c = c .before .loop .inv .4 .highs ∙ sym (begun (c .before) .pre .5 .highs)
+
+same-length-4 : tie.Need-same-length-4 Inv-loop μ-loop
+same-length-4 c = c .before .loop .inv .4 .size ∙ sym (begun (c .before) .pre .6)
 
 returns : tie.Need-returns Inv-loop μ-loop
 returns c =
-    let l = c .before .loop in
-    let s = c .before .before .before .before .before .before .before .before .before .before in
-    let e = viewed-all (s .args .lasts .now) (l .lasts) (l .left) (l .due) (l .e) (l .j) (omega arith) (l .inv .3) in
-    (λ firsts. sym e ∙ settling-all _ _ _ _ _ (l .j) (omega arith) (l .inv .4) firsts, l .inv .3 .below)
+    let t = c .before in
+    let k = t .loop in
+    let s = begun t in
+    let a = s .args in
+    let e : length (a .lasts .now) ≤ k .e = omega (arith, k .inv .1) in
+    let all : length (a .lasts .now) ≤ k .j =
+    ended-count (a .all) _ (k .lasts) (k .j) (k .e) _ _ _ (k .left) (k .due) (s .pre .4) (k .inv .2) (k .inv .4) e in
+    let view = viewed-all (a .lasts .now) (k .lasts) (k .left) (k .due) (k .e) (k .j) all (k .inv .2) in (
+      λ firsts. sym view ∙ settling-all _ _ _ _ _ (k .j) all (k .inv .3) firsts,
+      (
+        k .inv .2 .below,
+        (
+          ended-below (a .all) _ (k .lasts) (k .j) (k .e) _ _ _ (k .left) (k .due) (s .pre .4) (k .inv .2) (k .inv .4) e,
+          ended-levels (a .all) _ (k .lasts) (k .j) (k .e) _ _ _ (k .left) (k .due) (s .pre .4) (k .inv .2) (k .inv .4) e,
+        ),
+      ),
+    )
 
 pub settle-lasts-spec : {M : Type 1} → statement M
 settle-lasts-spec =
@@ -174,25 +256,33 @@ settle-lasts-spec =
     (tie.spec
     Inv-loop
     μ-loop
-    parts-below-requires
-    first-parts-requires
     loop-holds
-    slice-aggregate-next-end
-    slice-aggregate-next-end-2
-    next-end-requires
-    slice-aggregate-due-now
-    slice-aggregate-due-now-2
-    due-now-requires
-    lowest-part-requires
-    mul-lasts
-    slice-write-lasts
-    single-part-requires
-    remove-requires
+    add-row
     row-requires
     join-requires
     meet-requires
-    add-j
+    lowest-part-requires
+    remove-requires
+    slice-write-levels
+    add-e
+    mul-ends-low
+    slice-write-ends-low
+    mul-ends-high
+    slice-write-ends-high
     loop-less
     loop-again
+    mul-lasts
+    slice-write-lasts
+    single-part-requires
+    remove-requires-2
+    row-requires-2
+    join-requires-2
+    meet-requires-2
+    add-j
+    loop-less-2
+    loop-again-2
     same-length
+    same-length-2
+    same-length-3
+    same-length-4
     returns)

@@ -14,33 +14,39 @@ use Rattle.mend.proofs.report.put_changes.Statement.{statement}
 use Rattle.mend.proofs.report.put_changes.Tie as tie
 
 abbrev Inv-loop : tie.InvT-loop
-Inv-loop file report₀ rack count total₀ at₀ i₀ report total at i =
+Inv-loop file report₀ version rack count total₀ at₀ i₀ report total at i =
     Passed file rack count i total × Filled 0 at (bytesOfChanges (changesTo file i)) report₀ report
 
 abbrev μ-loop : tie.MeasureT-loop
-μ-loop file report₀ rack count total₀ at₀ i₀ report total at i = count - i
+μ-loop file report₀ version rack count total₀ at₀ i₀ report total at i = count - i
+
+version-in-requires : tie.Need-version-in-requires Inv-loop μ-loop
+version-in-requires c κs = start-long _ (c .before .before .pre .0)
 
 rack-in-requires : tie.Need-rack-in-requires Inv-loop μ-loop
-rack-in-requires c κs = start-long _ (c .before .before .pre .0)
+rack-in-requires c κs = start-long _ (c .before .before .before .pre .0)
 
 read-count-requires : tie.Need-read-count-requires Inv-loop μ-loop
-read-count-requires c κs = start-long _ (c .before .before .before .pre .0)
+read-count-requires c κs = start-long _ (c .before .before .before .before .pre .0)
 
 loop-holds : tie.Need-loop-holds Inv-loop μ-loop
 unfolding changes bytesOfChanges
 loop-holds c = (pass-start _ _ _ (c .before .rack-in .ensures) (c .read-count .ensures), fill-start _ _)
 
 set-in-requires : tie.Need-set-in-requires Inv-loop μ-loop
-set-in-requires c κs = (c .before .before .before .before .before .before .pre .0, omega (arith, c .before .loop .inv .0 .countIs))
+set-in-requires c κs =
+    let versioned = c .before .before .before .before in
+    (versioned .before .before .before .pre .0, versioned .version-in .ensures, omega (arith, c .before .loop .inv .0 .countIs))
 
 quantity-in-requires : tie.Need-quantity-in-requires Inv-loop μ-loop
 quantity-in-requires c κs =
     let at = c .before .before in
-    (at .before .before .before .before .before .pre .0, omega (arith, at .loop .inv .0 .countIs))
+    let versioned = at .before .before .before in
+    (versioned .before .before .before .pre .0, versioned .version-in .ensures, omega (arith, at .loop .inv .0 .countIs))
 
 -- the arguments, and the loop's values, at a line that was read
 abbrev entry : tie.After-quantity-in Inv-loop μ-loop → tie.Start Inv-loop μ-loop
-entry c = c .before .before .before .before .before .before .before .before
+entry c = c .before .before .before .before .before .before .before .before .before
 
 abbrev turn : tie.After-quantity-in Inv-loop μ-loop → tie.At-loop Inv-loop μ-loop
 turn c = c .before .before .before
@@ -62,13 +68,13 @@ room : (c : tie.After-quantity-in Inv-loop μ-loop) →
     0 + length (bytesOfChanges (changesTo (a .file .now) (turn c .loop .i + 1))) ≤ length (a .report .now)
 room c = omega (arith, entry c .pre .1, report-room (entry c .args .file .now) (turn c .loop .i + 1))
 
+mend-line-requires : tie.Need-mend-line-requires Inv-loop μ-loop
+mend-line-requires c κs = search needs
+
 put-codes-requires : tie.Need-put-codes-requires Inv-loop μ-loop
 put-codes-requires c κs =
-    let b = c .before in
-    (turn b .loop .inv .0 .low, fill-room (turn b .loop .inv .1) _ _ (next b) (room b))
-
-after-line-requires : tie.Need-after-line-requires Inv-loop μ-loop
-after-line-requires c κs = search needs
+    let b = c .before .before in
+    (turn b .loop .inv .0 .low, (c .before .mend-line .ensures .1 .0 .0, fill-room (turn b .loop .inv .1) _ _ (next b) (room b)))
 
 add-i : tie.Need-add-i Inv-loop μ-loop
 add-i c = omega arith
@@ -78,14 +84,15 @@ loop-less c = omega arith
 
 loop-again : tie.Need-loop-again Inv-loop μ-loop
 loop-again c =
-    let put = c .before .before .before .put-codes in
+    let put = c .before .before .put-codes in
+    let new = c .before .before .before .before .mend-line in
     let b = c .before .before .before .before .before in
     let at = turn b .loop in
     let set = b .before .set-in in
     let quantity = b .quantity-in in
-    let new = c .after-line in (
+    let total = new .ensures .1 .1 in (
       pass-next _ _ _ (at .i) (at .total) (set .result) (quantity .result) (at .inv .0) (b .before .before .loop-test .taken) (set .ensures)
-          (quantity .ensures) (new .result) (new .ensures .0) (new .ensures .1),
+          (quantity .ensures) (new .result .total) (total .0) (total .1),
       fill-next (at .inv .1) _ _ (next b) (room b) (put .ensures) (omega arith),
     )
 
@@ -94,7 +101,7 @@ same-length c = c .before .loop .inv .1 .same
 
 returns : tie.Need-returns Inv-loop μ-loop
 returns c =
-    let file = c .before .before .before .before .before .before .args .file .now in
+    let file = c .before .before .before .before .before .before .before .args .file .now in
     let at = c .before .loop in
     rw (pass-end file _ _ (at .i) (at .total) (at .inv .0) (c .loop-test .left)) at (at .inv .1 .put)
 
@@ -104,13 +111,14 @@ put-changes-spec =
     (tie.spec
     Inv-loop
     μ-loop
+    version-in-requires
     rack-in-requires
     read-count-requires
     loop-holds
     set-in-requires
     quantity-in-requires
+    mend-line-requires
     put-codes-requires
-    after-line-requires
     add-i
     loop-less
     loop-again

@@ -1,14 +1,27 @@
 use Prim.Native.Nat.{ℕ, _+_, _≤_}
 use native.Mathlib.Omega.{arith}
-use mathlib.Core.Path.{_≡_, ap}
-use mathlib.Core.List.{List, _++_}
+use mathlib.Core.Path.{_≡_, refl, sym, ap, _∙_}
+use mathlib.Core.List.{List, [], _∷_, _++_}
 use lib.ListN.{length, length-append}
 use borrow.Author.Needs.{needs}
-use Rattle.text.proofs.Buffer.{both}
+use Rattle.text.proofs.Buffer.{start, both}
+use Rattle.mending.specs.Mending.{codes, bytesOfChanges}
 use Rattle.mend.specs.Mend.{lineWith, lineReport, change}
 use Rattle.mend.proofs.Codes.{codes-told}
 use Rattle.mend.proofs.report.put_codes.Statement.{statement}
 use Rattle.mend.proofs.report.put_codes.Tie as tie
+
+-- no changes
+no-codes : (cs : List ℕ) → length cs ≡ 0 → cs ≡ []
+no-codes [] e = refl
+no-codes (c ∷ cs) e = absurd (omega arith)
+
+returns : tie.Need-returns
+unfolding bytesOfChanges
+returns c =
+    let s = c .before .before in
+    let a = s .args in
+    rw (no-codes (codes (a .rack) (a .total) (lineWith (a .set) (a .quantity))) (sym (s .pre .1 .0) ∙ c .if1 .taken)) start
 
 is-cleared-requires : tie.Need-is-cleared-requires
 is-cleared-requires c κs = search needs
@@ -24,7 +37,7 @@ is-dropped-requires c κs = search needs
 
 -- the start, where the tests are made
 abbrev startOf : tie.After-is-dropped → tie.Start
-startOf c = c .before .before .before .before .before
+startOf c = c .before .before .before .before .before .before
 
 -- the bytes of the four changes
 one : tie.After-is-dropped → List ℕ
@@ -55,7 +68,7 @@ room : (c : tie.After-is-dropped) →
 room c =
     omega (
       arith,
-      startOf c .pre .1,
+      startOf c .pre .1 .1,
       ap length (all c),
       length-append (one c ++ two c ++ three c) (four c),
       length-append (one c ++ two c) (three c),
@@ -88,9 +101,9 @@ put-change-requires-4 c κs =
 same-length : tie.Need-same-length
 same-length c = search needs
 
-returns : tie.Need-returns
+returns-2 : tie.Need-returns-2
 unfolding one two three four
-returns c =
+returns-2 c =
     let fourth = c .before .before in
     let third = fourth .before .before .before .before in
     let second = third .before .before .before .before in
@@ -105,6 +118,7 @@ pub put-codes-spec : {M : Type 1} → statement M
 put-codes-spec =
     tie.close
     (tie.spec
+    returns
     is-cleared-requires
     is-emptied-requires
     is-raised-requires
@@ -114,4 +128,4 @@ put-codes-spec =
     put-change-requires-3
     put-change-requires-4
     same-length
-    returns)
+    returns-2)

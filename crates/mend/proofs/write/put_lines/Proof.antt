@@ -35,12 +35,14 @@ unfolding kept bytesOfLines
 loop-holds c = (pass-start _ _ _ (c .before .rack-in .ensures) (c .read-count .ensures), c .before .before .version-in .ensures, fill-start _ _)
 
 set-in-requires : tie.Need-set-in-requires Inv-loop μ-loop
-set-in-requires c κs = (c .before .before .before .before .before .before .before .pre .0, omega (arith, c .before .loop .inv .0 .countIs))
+set-in-requires c κs =
+    let at = c .before in
+    (at .before .before .before .before .before .before .pre .0, at .loop .inv .1, omega (arith, at .loop .inv .0 .countIs))
 
 quantity-in-requires : tie.Need-quantity-in-requires Inv-loop μ-loop
 quantity-in-requires c κs =
     let at = c .before .before in
-    (at .before .before .before .before .before .before .pre .0, omega (arith, at .loop .inv .0 .countIs))
+    (at .before .before .before .before .before .before .pre .0, at .loop .inv .1, omega (arith, at .loop .inv .0 .countIs))
 
 -- the arguments, and the loop's values, at a line that was read
 abbrev entry : tie.After-quantity-in Inv-loop μ-loop → tie.Start Inv-loop μ-loop

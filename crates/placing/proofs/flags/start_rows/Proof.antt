@@ -12,20 +12,17 @@ use Rattle.placing.proofs.flags.start_rows.Statement.{statement}
 use Rattle.placing.proofs.flags.start_rows.Tie as tie
 
 abbrev Inv-loop : tie.InvT-loop
-Inv-loop parts n fine short rows low₀ high₀ b₀ low high b = (b ≤ n) × (n ≤ 128)
+Inv-loop parts n kinds rows low₀ high₀ b₀ low high b = (b ≤ n) × (n ≤ 128)
     × Rowed parts n b (record { parts = rows .parts; good = rows .good; bad = rows .bad; low = low; high = high })
 
 abbrev μ-loop : tie.MeasureT-loop
-μ-loop parts n fine short rows low₀ high₀ b₀ low high b = n - b
+μ-loop parts n kinds rows low₀ high₀ b₀ low high b = n - b
 
 at-most-128-requires : tie.Need-at-most-128-requires Inv-loop μ-loop
 at-most-128-requires c κs = search needs
 
-fine-parts-requires : tie.Need-fine-parts-requires Inv-loop μ-loop
-fine-parts-requires c κs = omega (arith, c .at-most-128 .ensures)
-
-short-parts-requires : tie.Need-short-parts-requires Inv-loop μ-loop
-short-parts-requires c κs = omega (arith, c .before .at-most-128 .ensures)
+kinds-of-requires : tie.Need-kinds-of-requires Inv-loop μ-loop
+kinds-of-requires c κs = omega (arith, c .at-most-128 .ensures)
 
 no-rows-requires : tie.Need-no-rows-requires Inv-loop μ-loop
 no-rows-requires c κs = search needs
@@ -33,7 +30,7 @@ no-rows-requires c κs = search needs
 loop-holds : tie.Need-loop-holds Inv-loop μ-loop
 loop-holds c =
     let r = c .before .before .no-rows in
-    let m = c .before .before .before .before .before in
+    let m = c .before .before .before .before in
     let z : Rowed (m .before .args .t1) (m .at-most-128 .result) 0 (r .result) = rw (r .ensures) (rowed-none _ _) in
     (search needs, omega (arith, m .at-most-128 .ensures), z)
 
@@ -69,16 +66,15 @@ unfolding withRow
 loop-again c =
     let l = c .before .before .before .loop in
     let made = c .before .before .before .before .before .before in
-    let short = made .before in
-    let fine = short .before in
-    let m = fine .before in
+    let kinds = made .before in
+    let m = kinds .before in
     let rows = made .no-rows .result in
     let a = m .before .args in
     let n = m .at-most-128 .result in
-    let f : (x : ℕ) → x < n → hasPart (fine .fine-parts .result) x ≡ finePitch (partAt (a .t1 .parts) x) =
-    λ x k. fine .fine-parts .ensures x ∙ ap (λ z. z && finePitch (partAt (a .t1 .parts) x)) (lt-ltb x n k) in
-    let s : (x : ℕ) → x < n → hasPart (short .short-parts .result) x ≡ not (partAt (a .t1 .parts) x .tall) =
-    λ x k. short .short-parts .ensures x ∙ ap (λ z. z && not (partAt (a .t1 .parts) x .tall)) (lt-ltb x n k) in (
+    let f : (x : ℕ) → x < n → hasPart (kinds .kinds-of .result .fine) x ≡ finePitch (partAt (a .t1 .parts) x) =
+    λ x k. kinds .kinds-of .ensures .fine x ∙ ap (λ z. z && finePitch (partAt (a .t1 .parts) x)) (lt-ltb x n k) in
+    let s : (x : ℕ) → x < n → hasPart (kinds .kinds-of .result .short) x ≡ not (partAt (a .t1 .parts) x .tall) =
+    λ x k. kinds .kinds-of .ensures .short x ∙ ap (λ z. z && not (partAt (a .t1 .parts) x .tall)) (lt-ltb x n k) in (
       search needs,
       l .inv .1,
       rw (c .flag-row .ensures)
@@ -89,7 +85,7 @@ loop-again c =
 returns : tie.Need-returns Inv-loop μ-loop
 returns c =
     let l = c .before .loop in
-    let m = c .before .before .before .before .before .before .before in
+    let m = c .before .before .before .before .before .before in
     let e : m .at-most-128 .result ≡ min (m .before .args .t1 .count) 128 = m .at-most-128 .ensures in
     let r = l .inv .2 in
     record {
@@ -107,8 +103,7 @@ start-rows-spec =
     Inv-loop
     μ-loop
     at-most-128-requires
-    fine-parts-requires
-    short-parts-requires
+    kinds-of-requires
     no-rows-requires
     loop-holds
     mul-p

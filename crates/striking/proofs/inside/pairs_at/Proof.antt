@@ -12,7 +12,7 @@ use Rattle.striking.proofs.inside.pairs_at.Statement.{statement}
 use Rattle.striking.proofs.inside.pairs_at.Tie as tie
 
 -- the placements on the tip are few
-few : (c : tie.Start) → insideBy (c .args .sums .now) (c .args .a) (c .args .w) (c .args .c) + c .args .q ≤ mostPlacements
+few : (c : tie.Start) → insideBy (c .args .m) (c .args .sums .now) (c .args .a) (c .args .w) (c .args .c) + c .args .q ≤ mostPlacements
 few c = c .pre .0 .few (c .args .a) (c .args .w) (c .args .c) (c .pre .1) (c .pre .2) (c .pre .3)
 
 has-tip-requires : tie.Need-has-tip-requires
@@ -55,7 +55,7 @@ returns-2 c =
     let s = c .before .before .before .before .before .before in
     let i = c .before .inside-at in
     let q = s .args .q in
-    let e : c .pairs-among2 .result ≡ choose2 (insideBy (s .args .sums .now) (s .args .a) (s .args .w) (s .args .c) + q) =
+    let e : c .pairs-among2 .result ≡ choose2 (insideBy (s .args .m) (s .args .sums .now) (s .args .a) (s .args .w) (s .args .c) + q) =
     c .pairs-among2 .ensures ∙ ap (λ p. choose2 (p + q)) (i .ensures) in
     (rw (passes (c .before .before .before .has-tip .ensures) (c .before .before .if1 .left)) e, omega (arith, choose2-few _ (few s)))
 

@@ -1,10 +1,11 @@
-use Prim.Native.Nat.{ℕ, _+_, _-_, _≤_}
+use Prim.Native.Nat.{ℕ, _+_, _-_, _≤_, _<_}
 use native.Mathlib.Omega.{arith}
 use mathlib.Core.Path.{_≡_, refl, _∙_}
 use mathlib.Core.List.{List}
+use lib.Dec.{T}
 use lib.ListN.{length, length-set}
 use borrow.Author.Needs.{needs}
-use Rattle.striking.specs.Striking.{Known}
+use Rattle.striking.specs.Striking.{openBy, Known}
 use Rattle.striking.proofs.Read.{ready, counted}
 use Rattle.striking.proofs.Follow.{So, follow-few, follow-more, follow-next, follow-first, follow-all}
 use Rattle.striking.proofs.reach.kept_tips.Statement.{statement}
@@ -12,7 +13,7 @@ use Rattle.striking.proofs.reach.kept_tips.Tie as tie
 
 abbrev Inv-loop2 : tie.InvT-loop2
 Inv-loop2 names m q set goal pairs sums inner upper outer₀ kept₀ w a₀ outer kept a =
-    (a + w ≤ m + 1) × (length outer ≡ length outer₀)
+    (a + w ≤ m + 1) × (length outer ≡ length outer₀) × (a + w ≤ m → T (openBy m sums inner upper q set goal a w))
     × ((lines rest : List ℕ) → (k : Known names m q lines rest sums inner upper) → So k set goal outer kept w a)
 
 abbrev μ-loop2 : tie.MeasureT-loop2
@@ -30,24 +31,47 @@ abbrev μ-loop : tie.MeasureT-loop
 abbrev start : tie.At-loop Inv-loop2 μ-loop2 Inv-loop μ-loop → tie.Start Inv-loop2 μ-loop2 Inv-loop μ-loop
 start c = c .before .before .before .before .before .before
 
--- the start and the width, from the inner loop
+-- the outer loop, from the first interval found; and the start and the width, from the inner loop
+abbrev looped : tie.At-loop2 Inv-loop2 μ-loop2 Inv-loop μ-loop → tie.In-loop Inv-loop2 μ-loop2 Inv-loop μ-loop
+looped c = c .before .before .before .before .before
+
 module _ (c : tie.In-loop2 Inv-loop2 μ-loop2 Inv-loop μ-loop) where
   abbrev s : tie.Start Inv-loop2 μ-loop2 Inv-loop μ-loop
-  s = start (c .before .before .before)
+  s = start (looped (c .before) .before)
 
   abbrev w : ℕ
-  w = c .before .before .before .loop .w
+  w = looped (c .before) .before .loop .w
 
   abbrev a : ℕ
   a = c .before .loop2 .a
+
+  some : 0 < w
+  some = looped (c .before) .loop-test .taken
 
 loop-holds : tie.Need-loop-holds Inv-loop2 μ-loop2 Inv-loop μ-loop
 loop-holds c =
     let b = c .before .before .before .before .before in
     (search needs, refl, λ lines rest k. follow-first k (b .args .set) (b .args .goal) (b .args .outer .now) (b .pre .1))
 
+next-open-requires : tie.Need-next-open-requires Inv-loop2 μ-loop2 Inv-loop μ-loop
+next-open-requires c κs =
+    let l = c .before .before in
+    let (lines, rest, k) = start l .pre .0 in (
+      counted (k .others) (start l .pre .3),
+      k .others .rack,
+      k .inside .room,
+      k .outside .room,
+      l .loop .inv .2 lines rest k .table .room,
+      c .before .loop-test .taken,
+      omega (arith, l .loop .inv .0),
+      start l .pre .2,
+    )
+
 loop2-holds : tie.Need-loop2-holds Inv-loop2 μ-loop2 Inv-loop μ-loop
-loop2-holds c = (omega (arith, c .before .loop .inv .0), refl, c .before .loop .inv .2)
+loop2-holds c =
+    let l = c .before .before .before .before .before in
+    let (ends, (found, past)) = c .before .before .next-open .ensures in
+    (ends .1, refl, found, λ lines rest k. past (start l .args .names) (l .loop .kept) lines rest k (l .loop .inv .2 lines rest k))
 
 add-loop2 : tie.Need-add-loop2 Inv-loop2 μ-loop2 Inv-loop μ-loop
 add-loop2 c = search needs
@@ -57,34 +81,54 @@ follow-requires c κs =
     let b = c .before in
     let t = s b in
     let (lines, rest, k) = t .pre .0 in
-    let f = b .before .loop2 .inv .2 lines rest k in (
+    let f = b .before .loop2 .inv .3 lines rest k in (
       ready (k .others),
-      counted (k .others),
+      k .others .rack,
+      k .inside .room,
+      f .table .room,
+      some b,
+      omega arith,
+      omega (arith, follow-few k (t .args .set) (t .args .goal) f (some b) (omega arith)),
+      t .pre .2,
+      t .pre .3,
+    )
+
+add-next-open : tie.Need-add-next-open Inv-loop2 μ-loop2 Inv-loop μ-loop
+add-next-open c = search needs
+
+next-open-requires-2 : tie.Need-next-open-requires-2 Inv-loop2 μ-loop2 Inv-loop μ-loop
+next-open-requires-2 c κs =
+    let f = c .before .before .before in
+    let b = f .before .before in
+    let t = s b in
+    let (lines, rest, k) = t .pre .0 in (
+      counted (k .others) (t .pre .3),
       k .others .rack,
       k .inside .room,
       k .outside .room,
-      f .table .room,
+      rw (f .follow .ensures .1, length-set) (b .before .loop2 .inv .3 lines rest k .table .room),
+      some b,
       omega arith,
-      omega arith,
-      omega (arith, follow-few k (t .args .set) (t .args .goal) f (omega arith) (omega arith)),
       t .pre .2,
     )
 
-add-a : tie.Need-add-a Inv-loop2 μ-loop2 Inv-loop μ-loop
-add-a c = search needs
-
 loop2-less : tie.Need-loop2-less Inv-loop2 μ-loop2 Inv-loop μ-loop
-loop2-less c = search needs
+loop2-less c =
+    let b = c .before .before .before .before .before .before .before .before in
+    omega (arith, b .loop2-test .taken, c .before .before .next-open2 .ensures .0 .0)
 
 loop2-again : tie.Need-loop2-again Inv-loop2 μ-loop2 Inv-loop μ-loop
 loop2-again c =
-    let f = c .before .before .follow in
-    let b = c .before .before .before .before in
-    let t = s b in (
-      search needs,
-      rw (f .ensures .1, length-set) (b .before .loop2 .inv .1),
-      λ lines rest k. rw (f .ensures .1)
-          (follow-more k (t .args .set) (t .args .goal) (b .before .loop2 .inv .2 lines rest k) (omega arith) (omega arith) (f .ensures .0) refl),
+    let f = c .before .before .before .before .before .before .follow in
+    let b = c .before .before .before .before .before .before .before .before in
+    let v = b .before .loop2 .inv in
+    let t = s b in
+    let (ends, (found, past)) = c .before .before .next-open2 .ensures in (
+      ends .1,
+      c .before .outer3 .given ∙ c .before .before .before .before .before .outer2 .given ∙ v .1,
+      found,
+      λ lines rest k. past (t .args .names) _ lines rest k (rw (f .ensures .1)
+          (follow-more k (t .args .set) (t .args .goal) (v .3 lines rest k) (some b) (omega arith) (v .2 (omega arith)) (f .ensures .0) refl)),
     )
 
 sub-w : tie.Need-sub-w Inv-loop2 μ-loop2 Inv-loop μ-loop
@@ -95,12 +139,12 @@ loop-less c = search needs
 
 loop-again : tie.Need-loop-again Inv-loop2 μ-loop2 Inv-loop μ-loop
 loop-again c =
-    let p = c .before .before .loop-test .taken in
     let l = c .before .loop2 in
-    let t = start (c .before .before .before) in (
+    let b = looped (c .before) in
+    let t = start (b .before) in (
       search needs,
-      l .inv .1 ∙ c .before .before .before .loop .inv .1,
-      λ lines rest k. follow-next k (t .args .set) (t .args .goal) p (omega arith) (l .inv .2 lines rest k),
+      l .inv .1 ∙ c .before .before .before .outer .given ∙ b .before .loop .inv .1,
+      λ lines rest k. follow-next k (t .args .set) (t .args .goal) (b .loop-test .taken) (omega arith) (l .inv .3 lines rest k),
     )
 
 same-length : tie.Need-same-length Inv-loop2 μ-loop2 Inv-loop μ-loop
@@ -121,10 +165,12 @@ kept-tips-spec =
     Inv-loop
     μ-loop
     loop-holds
+    next-open-requires
     loop2-holds
     add-loop2
     follow-requires
-    add-a
+    add-next-open
+    next-open-requires-2
     loop2-less
     loop2-again
     sub-w

@@ -10,15 +10,19 @@ use Rattle.striking.proofs.reach.limit_at.Statement.{statement}
 use Rattle.striking.proofs.reach.limit_at.Tie as tie
 
 -- the call's start
-abbrev start : tie.After-lying-at → tie.Start
-start c = c .before .before .before .before .before .before .before .before
+abbrev start : tie.After-meeting-at → tie.Start
+start c = c .before .before .before .before .before .before .before .before .before .before
+
+-- the pairs of the q placements, from there
+abbrev among : tie.After-meeting-at → tie.After-pairs-among
+among c = c .before .before .before
 
 -- what is added is small
-more : (c : tie.After-lying-at) → start c .args .q * c .lying-at .result ≤ mostPlacements * mostPlacements
-more c = mul-le-mul (start c .pre .0 .own) (c .lying-at .ensures .1)
+more : (c : tie.After-meeting-at) → start c .args .q * c .meeting-at .result ≤ mostPlacements * mostPlacements
+more c = mul-le-mul (start c .pre .0 .own) (c .meeting-at .ensures .1)
 
-own : (c : tie.After-lying-at) → c .before .pairs-among .result ≤ mostPairs
-own c = omega (arith, c .before .pairs-among .ensures, choose2-few (start c .args .q) (start c .pre .0 .own))
+own : (c : tie.After-meeting-at) → among c .pairs-among .result ≤ mostPairs
+own c = omega (arith, among c .pairs-among .ensures, choose2-few (start c .args .q) (start c .pre .0 .own))
 
 entry-at-requires : tie.Need-entry-at-requires
 entry-at-requires c κs = search needs
@@ -32,10 +36,16 @@ pairs-among-requires c κs = search needs
 cast-own : tie.Need-cast-own
 cast-own c = search needs
 
-lying-at-requires : tie.Need-lying-at-requires
-lying-at-requires c κs =
-    let s = c .before .before .before .before .before .before .before in
-    s .pre .0 .lying (s .args .a) (s .args .w) (omega (arith, s .pre .1, s .pre .4))
+lowest-requires : tie.Need-lowest-requires
+lowest-requires c κs = search needs
+
+highest-requires : tie.Need-highest-requires
+highest-requires c κs = search needs
+
+meeting-at-requires : tie.Need-meeting-at-requires
+meeting-at-requires c κs =
+    let s = c .before .before .before .before .before .before .before .before .before in
+    rw (c .highest .ensures, c .before .lowest .ensures) (s .pre .0 .meeting (s .args .a) (s .args .w) (s .pre .4) (s .pre .5) (s .pre .6))
 
 cast-more : tie.Need-cast-more
 cast-more c = search needs
@@ -47,11 +57,11 @@ add-result : tie.Need-add-result
 add-result c = record { fits = omega (arith, more c, own c) }
 
 add-result-2 : tie.Need-add-result-2
-add-result-2 c = record { fits = omega (arith, more c, own c, c .before .before .entry-at2 .ensures .1) }
+add-result-2 c = record { fits = omega (arith, more c, own c, among c .before .entry-at2 .ensures .1) }
 
 add-result-3 : tie.Need-add-result-3
 add-result-3 c =
-    record { fits = omega (arith, more c, own c, c .before .before .entry-at2 .ensures .1, c .before .before .before .entry-at .ensures .1) }
+    record { fits = omega (arith, more c, own c, among c .before .entry-at2 .ensures .1, among c .before .before .entry-at .ensures .1) }
 
 returns : tie.Need-returns
 unfolding limitBy
@@ -59,10 +69,10 @@ returns c =
     let s = start c in
     omega (
       arith,
-      c .before .before .before .entry-at .ensures .0,
-      c .before .before .entry-at2 .ensures .0,
-      c .before .pairs-among .ensures,
-      ap (λ n. s .args .q * n) (c .lying-at .ensures .0),
+      among c .before .before .entry-at .ensures .0,
+      among c .before .entry-at2 .ensures .0,
+      among c .pairs-among .ensures,
+      ap (λ n. s .args .q * n) (rw (c .before .highest .ensures, c .before .before .lowest .ensures) at (c .meeting-at .ensures .0)),
     )
 
 pub limit-at-spec : {M : Type 1} → statement M
@@ -73,7 +83,9 @@ limit-at-spec =
     entry-at-requires-2
     pairs-among-requires
     cast-own
-    lying-at-requires
+    lowest-requires
+    highest-requires
+    meeting-at-requires
     cast-more
     mul-more
     add-result
