@@ -88,6 +88,13 @@ class Calls(unittest.TestCase):
         self.refused(3, 0, tipshare.plan, [("A", [5])], 3)
         with self.assertRaises(ValueError):
             tipshare.plan([("A", [0]), ("A", [1])])
+        for wrong in ("R1", ("R1",), ("R1", 3), ("R1", "01"), ("R1", [0.5]), ("R1", [0], "2"), ("R1", [0], 1, 1), None, 7):
+            with self.assertRaisesRegex(TypeError, "^part 1 is "):
+                tipshare.plan([("A", [0]), wrong])
+        with self.assertRaisesRegex(ValueError, "^a tip of line 1 is 64"):
+            tipshare.plan([("A", [0]), ("B", [64])])
+        with self.assertRaisesRegex(ValueError, "^the quantity of line 0 is 256"):
+            tipshare.plan([("A", [0], 256)])
         # 513 parts are one too many.
         self.refused(9, 0, tipshare.plan, [(str(part), [0]) for part in range(513)])
 

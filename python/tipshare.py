@@ -14,6 +14,7 @@ TIPSHARE_LIBRARY names, else the one installed beside this module, else the one 
 
 import collections
 import ctypes
+import operator
 import os
 import pathlib
 
@@ -141,13 +142,11 @@ def job(rack, lines):
     _in_range("the number of lines", len(pairs), 65535)
     is_counted = any(quantity != 1 for _, quantity in pairs)
     file = b"TIP\0" + bytes([2 if is_counted else 1, _in_range("the rack size", rack, 255)]) + len(pairs).to_bytes(2, "big")
-    for tips, quantity in pairs:
-        tips = list(tips)
-        for tip in tips:
-            _in_range("a tip", tip, MOST_TIPS - 1)
-        file += sum(1 << tip for tip in set(tips)).to_bytes(8, "big")
+    for line, (tips, quantity) in enumerate(pairs):
+        tips = {_in_range(f"a tip of line {line}", tip, MOST_TIPS - 1) for tip in tips}
+        file += sum(1 << tip for tip in tips).to_bytes(8, "big")
         if is_counted:
-            file += bytes([_in_range("a quantity", quantity, MOST_QUANTITY)])
+            file += bytes([_in_range(f"the quantity of line {line}", quantity, MOST_QUANTITY)])
     return file
 
 
@@ -251,18 +250,28 @@ def report(file):
     return bytes(out[: _library.tipshare_report(*_given(file), out, len(out))]).decode()
 
 
+def _part(line, part):
+    """The name, the tips and the quantity of a part."""
+    try:
+        name, tips, quantity = part if len(part) == 3 else (*part, 1)
+        return name, [operator.index(tip) for tip in tips], operator.index(quantity)
+    except (TypeError, ValueError):
+        example = "as ('R1', [0, 1]), or ('R1', [0, 1], 10) for ten of it"
+        raise TypeError(f"part {line} is {part!r}; give a name, a list of tips and a quantity, {example}") from None
+
+
 def plan(parts, rack=None, mounted=None):
     """Plans parts by name: each is a name and its tips, and a third value where it is placed more than once.
 
     The rack has the tips up to the highest that a part has, where none is given. What the library refuses raises Refused,
     with the number of the part in the list as its place.
     """
-    parts = [tuple(part) for part in parts]
-    names = [part[0] for part in parts]
+    parts = [_part(line, part) for line, part in enumerate(parts)]
+    names = [name for name, _, _ in parts]
     if len(set(names)) < len(names):
         twice = next(name for at, name in enumerate(names) if name in names[:at])
         raise ValueError(f"{twice!r} stands twice in the list; give each part a name of its own")
-    lines = [(list(part[1]), part[2] if len(part) > 2 else 1) for part in parts]
+    lines = [(tips, quantity) for _, tips, quantity in parts]
     if rack is None:
         rack = max((tip for tips, _ in lines for tip in tips), default=0) + 1
     file = job(rack, lines)

@@ -14,7 +14,7 @@
 //! // A part without a tip is refused, with its line.
 //! let refusal = tipshare::read(&tipshare::job_file(6, &[(0b1, 1), (0, 1)])).unwrap_err();
 //! assert_eq!((refusal.number, refusal.line), (2, 1));
-//! assert_eq!(refusal.words(), "a line has no tip");
+//! assert_eq!(refusal.to_string(), "refused 2: a line has no tip, line 1");
 //! ```
 //!
 //! The crate links `target/staticlib/libtipshare_c.a` of this repository, which `make` proves and builds, or the file that
@@ -58,14 +58,15 @@ pub struct Refusal {
 
 impl fmt::Display for Refusal {
     fn fmt(&self, to: &mut fmt::Formatter) -> fmt::Result {
+        write!(to, "refused {}: {}", self.number, self.words())?;
         match self.number {
             // Of one file no first line passes 2,048 placements.
-            30 if self.line == 0 => write!(to, "refused 30"),
-            2 | 3 | 15 | 25 | 30 => write!(to, "refused {} at line {}", self.number, self.line),
-            12 => write!(to, "refused 12 at part {}", self.line),
-            13 => write!(to, "refused 13 at rule {}", self.line),
-            26 => write!(to, "refused 26 with margin {}", self.margin),
-            _ => write!(to, "refused {}", self.number),
+            30 if self.line == 0 => Ok(()),
+            2 | 3 | 15 | 25 | 30 => write!(to, ", line {}", self.line),
+            12 => write!(to, ", part {}", self.line),
+            13 => write!(to, ", rule {}", self.line),
+            26 => write!(to, ", margin {}", self.margin),
+            _ => Ok(()),
         }
     }
 }

@@ -78,7 +78,7 @@ fn mounted_tip_wins_a_tie() {
         assert_eq!(best(&EXAMPLE, Some(mounted), &mut [], &mut []), Err(refused(16, 0, 0)));
         assert_eq!(quick(&EXAMPLE[..7], Some(mounted), &mut []), Err(refused(6, 0, 0)));
     }
-    assert_eq!(refused(16, 0, 0).to_string(), "refused 16");
+    assert_eq!(refused(16, 0, 0).to_string(), "refused 16: the mounted tip is outside the rack");
 }
 
 #[test]
@@ -104,7 +104,7 @@ fn goals_strike_what_no_plan_with_so_many_pairs_uses() {
     (file[15], file[23]) = (0b010, 0b101);
     assert_eq!(goal(&file, 9, &mut []), Err(refused(25, 1, 0)));
     assert_eq!(goal(&file[..7], 9, &mut []), Err(refused(6, 0, 0)));
-    assert_eq!(refused(34, 0, 0).to_string(), "refused 34");
+    assert_eq!(refused(34, 0, 0).to_string(), "refused 34: no plan has so many pairs");
 }
 
 #[test]
@@ -132,7 +132,7 @@ fn junior_has_two_tips() {
     (many[5], many[7]) = (9, 65);
     assert_eq!(junior(&many, &mut []), Err(refused(24, 0, 0)));
     assert_eq!(plan, [7; 3]);
-    assert_eq!(refused(31, 0, 0).to_string(), "refused 31");
+    assert_eq!(refused(31, 0, 0).to_string(), "refused 31: no two tips serve every line");
 }
 
 #[test]
@@ -159,7 +159,7 @@ fn plans_from_other_software_are_checked() {
     (file[15], file[23]) = (0b010, 0b101);
     assert_eq!(check(&file, &[9, 9], 9, &[9; 9]), Err(refused(25, 1, 0)));
     assert_eq!(check(&file[..7], &[], 9, &[]), Err(refused(6, 0, 0)));
-    assert_eq!(refused(33, 0, 0).to_string(), "refused 33");
+    assert_eq!(refused(33, 0, 0).to_string(), "refused 33: the table does not show that the plan is a best one");
 }
 
 #[test]
@@ -185,8 +185,8 @@ fn two_boards_on_one_panel() {
     other[23] = 0;
     assert_eq!(merge(&EXAMPLE, &other, &mut out), Err(refused(2, 1, 0)));
     assert_eq!(alone(&EXAMPLE[..7], &other, &mut plan), Err(refused(6, 0, 0)));
-    assert_eq!(refused(30, 0, 0).to_string(), "refused 30");
-    assert_eq!(refused(30, 8, 0).to_string(), "refused 30 at line 8");
+    assert_eq!(refused(30, 0, 0).to_string(), "refused 30: the placements pass 2048");
+    assert_eq!(refused(30, 8, 0).to_string(), "refused 30: the placements pass 2048, line 8");
 }
 
 #[test]
@@ -227,14 +227,14 @@ fn refusals_of_quantities_carry_the_line() {
     file[25] = 0;
     assert_eq!(read(&file), Err(refused(15, 1, 0)));
     assert_eq!(report(&file), b"refused 15\n");
-    assert_eq!(refused(15, 1, 0).to_string(), "refused 15 at line 1");
+    assert_eq!(refused(15, 1, 0).to_string(), "refused 15: a line has quantity 0, line 1");
     let mut passing = COUNTED[..8].to_vec();
     (passing[6], passing[7]) = (0, 10);
     for _ in 0..10 {
         passing.extend(b"\x00\x00\x00\x00\x00\x00\x00\x01\xFF");
     }
     assert_eq!(common(&passing), Err(refused(30, 8, 0)));
-    assert_eq!(refused(30, 8, 0).to_string(), "refused 30 at line 8");
+    assert_eq!(refused(30, 8, 0).to_string(), "refused 30: the placements pass 2048, line 8");
 }
 
 #[test]
@@ -249,7 +249,7 @@ fn refusals_carry_line_and_margin() {
     assert_eq!(read(&file), Err(refused(3, 1, 0)));
     assert_eq!(common(&file[..7]), Err(refused(6, 0, 0)));
     assert_eq!(report(&file), b"refused 3\n");
-    assert_eq!(refused(3, 1, 0).to_string(), "refused 3 at line 1");
-    assert_eq!(refused(26, 0, -1).to_string(), "refused 26 with margin -1");
-    assert_eq!(refused(6, 0, 0).to_string(), "refused 6");
+    assert_eq!(refused(3, 1, 0).to_string(), "refused 3: a line has a tip outside the rack, line 1");
+    assert_eq!(refused(26, 0, -1).to_string(), "refused 26: no plan meets the bound, margin -1");
+    assert_eq!(refused(6, 0, 0).to_string(), "refused 6: the file is shorter than 8 bytes");
 }

@@ -51,7 +51,10 @@ fn refusals_carry_part_and_rule() {
     assert_eq!(order(&two, &[(0, 1), (1, 0)], &mut lent), refused(29, 0));
     assert_eq!(lent, [9; 2]);
     let told = |answer: Result<u64, Refusal>| answer.map_err(|refusal| refusal.to_string());
-    assert_eq!(told(refused(12, 1)), Err("refused 12 at part 1".into()));
-    assert_eq!(told(refused(13, 7)), Err("refused 13 at rule 7".into()));
-    assert_eq!(told(refused(29, 0)), Err("refused 29".into()));
+    assert_eq!(
+        told(refused(12, 1)),
+        Err("refused 12: there are over 128 parts, or the positions of a part are not good, part 1".into())
+    );
+    assert_eq!(told(refused(13, 7)), Err("refused 13: a rule does not name two parts, rule 7".into()));
+    assert_eq!(told(refused(29, 0)), Err("refused 29: no order obeys".into()));
 }

@@ -11,7 +11,7 @@ use parts::import::csv::{self, Columns};
 use parts::import::kicad;
 use parts::import::openpnp::{Board, Packages, Parts};
 use parts::import::table::Table;
-use parts::import::{Faults, Placement, Sides};
+use parts::import::{is_foreign, Faults, Placement, Sides};
 use parts::job::{has_mark, Job};
 use parts::list::{Fault, List};
 use parts::mending;
@@ -148,12 +148,12 @@ fn strike<N: FromStr>(
     let mut written = Vec::new();
     for (output, bytes) in [(job, &kept.file[..]), (list, kept.list.as_bytes())] {
         if let Some((out, output)) = output {
-            written.push((out, output.write(bytes).map_err(|error| about(out, error))?));
+            written.push((out, output.write(bytes).map_err(|error| failed(out, error))?));
         }
     }
     // Only when all is written does any file change.
     for (out, written) in written {
-        written.put().map_err(|error| about(out, error))?;
+        written.put().map_err(|error| failed(out, error))?;
     }
     print(kept.text.as_bytes())
 }
@@ -212,8 +212,8 @@ pub fn panel(arguments: &[&str]) -> Result<(), Failure> {
         }
     };
     if let Some((out, output)) = output {
-        let written = output.write(&file).map_err(|error| about(out, error))?;
-        written.put().map_err(|error| about(out, error))?;
+        let written = output.write(&file).map_err(|error| failed(out, error))?;
+        written.put().map_err(|error| failed(out, error))?;
     }
     print((panel.alone + &text).as_bytes())
 }
@@ -223,8 +223,8 @@ pub fn mend(arguments: &[&str]) -> Result<(), Failure> {
     let input = input_of(path)?;
     let (out, output) = output_of(out, &input)?;
     let mended = mending::mend(&input.bytes).map_err(|why| about(path, why))?;
-    let written = output.write(&mended.file).map_err(|error| about(out, error))?;
-    written.put().map_err(|error| about(out, error))?;
+    let written = output.write(&mended.file).map_err(|error| failed(out, error))?;
+    written.put().map_err(|error| failed(out, error))?;
     print(mended.text.as_bytes())
 }
 
@@ -290,7 +290,7 @@ fn output_beside<'a>(path: &'a str, inputs: &[Input]) -> Result<(&'a str, Output
     if path == "-" {
         return Err(Failure::Argument(format!("{path}: this is standard input; name a file to write")));
     }
-    let output = Output::at(path).map_err(|error| about(path, error))?;
+    let output = Output::at(path).map_err(|error| failed(path, error))?;
     if inputs.iter().any(|input| output.is(input)) {
         return Err(about(path, "this is the file that was read; name another one to write"));
     }
@@ -309,9 +309,23 @@ fn about(path: &str, why: impl ToString) -> Failure {
     Failure::Refused(format!("{path}: {}", why.to_string()))
 }
 
+/// Why a file could not be read or written, and what to do.
+fn failed(path: &str, error: io::Error) -> Failure {
+    let why = match error.kind() {
+        io::ErrorKind::NotFound => "there is no such file or folder; correct the name".into(),
+        io::ErrorKind::IsADirectory => "this is a folder; name a file".into(),
+        io::ErrorKind::PermissionDenied => {
+            "that is not allowed here; name another file, or ask for the right to it".into()
+        }
+        io::ErrorKind::StorageFull => "the disk is full; make room on it".into(),
+        _ => error.to_string(),
+    };
+    about(path, why)
+}
+
 /// A file, or standard input for `-`, unless standard output is the same file.
 fn input_of(path: &str) -> Result<Input, Failure> {
-    let input = Input::read(path).map_err(|error| about(path, error))?;
+    let input = Input::read(path).map_err(|error| failed(path, error))?;
     let output = of_standard_output().map_err(lost)?;
     if output.is_some() && output == input.identity {
         return Err(about(path, "this file is standard output too; name another file behind `>`"));
@@ -323,7 +337,10 @@ fn list_of(path: &str, bytes: &[u8]) -> Result<List, Failure> {
     if has_mark(bytes) {
         return Err(about(path, "this is a job file and no parts list; `parts show` turns it into one"));
     }
-    List::read(bytes).map_err(|faults| faulty(path, &faults))
+    List::read(bytes).map_err(|faults| match is_foreign(bytes) {
+        true => about(path, "this is no parts list; `parts import` makes one of it"),
+        false => faulty(path, &faults),
+    })
 }
 
 /// The faults as lines `FILE:LINE: what is wrong; what to do`.

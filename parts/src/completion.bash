@@ -10,6 +10,7 @@ CASES
     elif [[ $is_option && $word != -* ]]; then
         words=
     fi
-    mapfile -t COMPREPLY < <(compgen -W "$words" -- "$word")
+    # No word of a command has a space in it.
+    COMPREPLY=($(compgen -W "$words" -- "$word" || true))
 }
 complete -o default -F _parts parts

@@ -20,7 +20,7 @@ pub fn bash() -> String {
         }
     }
     for command in &COMMANDS {
-        let options = [command.options, &["--help"]].concat().join(" ");
+        let options = [&command.options()[..], &["--help"]].concat().join(" ");
         cases += &format!("    '{} '*) words='{options}' is_option=yes ;;\n", command.name);
     }
     SCRIPT.replace("CASES\n", &cases)

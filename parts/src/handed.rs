@@ -41,8 +41,8 @@ pub enum What {
 impl fmt::Display for What {
     fn fmt(&self, to: &mut fmt::Formatter) -> fmt::Result {
         match self {
-            What::NotText => write!(to, "not UTF-8 text; save the plan as plain text"),
-            What::ControlCharacter => write!(to, "a control character; save the plan as plain text"),
+            What::NotText => write!(to, "not UTF-8 text; save the file as UTF-8 text"),
+            What::ControlCharacter => write!(to, "a control character; save the file as plain text"),
             What::NoPairs => write!(to, "no pairs; begin the plan with `pairs N`, N being its number of pairs"),
             What::PairsWords(line) => write!(to, "unknown words in `{line}`; write `pairs N`, N being a number"),
             What::PairsSize(number) => write!(to, "pairs {number} is out of range; {} is the most", u32::MAX),

@@ -5,7 +5,7 @@ use crate::commands::{self, print, Failure};
 /// A command of the program.
 pub struct Command {
     pub name: &'static str,
-    /// What is typed behind its name.
+    /// What is typed behind its name, with brackets around what may be left out.
     arguments: &'static str,
     /// What it does, in short lines for the page of all commands.
     does: &'static str,
@@ -13,9 +13,16 @@ pub struct Command {
     more: &'static str,
     /// What someone may type.
     example: &'static str,
-    /// The options that its arguments may have.
-    pub options: &'static [&'static str],
     run: fn(&[&str]) -> Result<(), Failure>,
+}
+
+/// One thing that is typed behind the name of a command.
+struct Typed {
+    /// As `FILE`, or an option, as `--tips`.
+    name: &'static str,
+    /// What stands behind an option, as `TABLE`.
+    value: Option<&'static str>,
+    is_needed: bool,
 }
 
 /// The commands, in the order of the page.
@@ -32,7 +39,6 @@ pub const COMMANDS: [Command; 17] = [
                are told, and nothing is printed.\n\
                SIDE is top, bottom or both; it may be left out where the file is of one side.\n",
         example: "parts import kicad board-top.csv --tips tips.txt > board.txt",
-        options: &["--tips", "--side"],
         run: commands::import_kicad,
     },
     Command {
@@ -47,7 +53,6 @@ pub const COMMANDS: [Command; 17] = [
                their size. Fiducials and placements that are not enabled are left out, which the list says.\n\
                SIDE is top, bottom or both; it may be left out where the board is of one side.\n",
         example: "parts import openpnp packages.xml board.board.xml --parts parts.xml > board.txt",
-        options: &["--parts", "--rack", "--side"],
         run: commands::import_openpnp,
     },
     Command {
@@ -56,11 +61,10 @@ pub const COMMANDS: [Command; 17] = [
         does: "print the parts list of any file with columns, as a bill of materials",
         more: "The first row names the columns; they are separated by commas, semicolons or tabs. COLUMNS says which of\n\
                them are read, by name or by number, counted from 1: ref= and package=, and where there are such value=,\n\
-               side= and quantity=. A field may have several references, as R1, R2; each is a placement. A quantity is\n\
-               for rows that name one reference or none.\n\
+               side= and quantity=. A field may have several references, as R1, R2 or R1-R4; each is a placement. A\n\
+               quantity is for rows that name one reference or none.\n\
                TABLE and SIDE are as for `parts import kicad`.\n",
         example: "parts import csv bom.csv --tips tips.txt --columns ref=Designator,package=Footprint > board.txt",
-        options: &["--tips", "--columns", "--side"],
         run: commands::import_csv,
     },
     Command {
@@ -70,7 +74,6 @@ pub const COMMANDS: [Command; 17] = [
         more: "Line i of the job file, counted from 0, is part i of the list. The file is of version 1 where every\n\
                part is placed once, and of version 2 where some quantity is not 1, as in R1 x10 : 0-1.\n",
         example: "parts make board.txt > board.job",
-        options: &[],
         run: commands::make,
     },
     Command {
@@ -79,8 +82,7 @@ pub const COMMANDS: [Command; 17] = [
         does: "print a job file as a parts list",
         more: "A job file has no names: each part is named by its line number, counted from 0.\n\
                A quantity other than 1 stands behind it, as in 0 x10 : 0-1.\n",
-        example: "parts show board.job > board.txt",
-        options: &[],
+        example: "parts show board.job > shown.txt",
         run: commands::show,
     },
     Command {
@@ -90,7 +92,6 @@ pub const COMMANDS: [Command; 17] = [
         more: "The lowest number comes first, and parts with equal numbers stay in their order.\n\
                `parts sort quantity LIST` sorts by how often each part is placed.\n",
         example: "parts sort height board.txt > by-height.txt",
-        options: &[],
         run: commands::sort,
     },
     Command {
@@ -103,7 +104,6 @@ pub const COMMANDS: [Command; 17] = [
                read; from a job file it has line numbers for names.\n\
                JOB and LIST replace files of their names, but never FILE.\n",
         example: "parts keep 3 board.txt --list kept.txt",
-        options: &["--list"],
         run: commands::keep,
     },
     Command {
@@ -118,7 +118,6 @@ pub const COMMANDS: [Command; 17] = [
                more, the last line says which part has a gap.\n\
                JOB and LIST replace files of their names, but never FILE.\n",
         example: "parts goal 12 board.txt --list kept.txt",
-        options: &["--list"],
         run: commands::goal,
     },
     Command {
@@ -135,7 +134,6 @@ pub const COMMANDS: [Command; 17] = [
                The summary counts tip changes for parts placed tip by tip: one less than the tips used. With a T that\n\
                no part uses there is one more, at the start.\n",
         example: "parts plan board.txt --mounted 3",
-        options: &["--mounted"],
         run: commands::plan,
     },
     Command {
@@ -150,7 +148,6 @@ pub const COMMANDS: [Command; 17] = [
                Each part must be on a tip of its own, the pairs must be those of the plan, and the table must show\n\
                that no plan has more. Without a table only the first two are checked, which is said.\n",
         example: "parts check board.txt plan.txt",
-        options: &[],
         run: commands::check,
     },
     Command {
@@ -163,7 +160,6 @@ pub const COMMANDS: [Command; 17] = [
                Parts that both tips can pick are all on the one that gives more pairs, on the lower where that is equal.\n\
                It takes lists of 64 parts and 8 tips at most.\n",
         example: "parts junior board.txt",
-        options: &[],
         run: commands::junior,
     },
     Command {
@@ -178,7 +174,6 @@ pub const COMMANDS: [Command; 17] = [
                and the panel is refused.\n\
                JOB replaces a file of its name, but never a FILE.\n",
         example: "parts panel left.txt right.txt panel.job",
-        options: &[],
         run: commands::panel,
     },
     Command {
@@ -193,7 +188,6 @@ pub const COMMANDS: [Command; 17] = [
                OUT is of the same version, every command takes it, and mending it again changes nothing. OUT replaces\n\
                a file of its name, but never JOB.\n",
         example: "parts mend card.job mended.job && parts plan mended.job",
-        options: &[],
         run: commands::mend,
     },
     Command {
@@ -210,7 +204,6 @@ pub const COMMANDS: [Command; 17] = [
                can be, else the second, and so on; then the same for position 1.\n\
                Where no order obeys, it is told which parts stand in each other's way.\n",
         example: "parts order board.txt",
-        options: &[],
         run: commands::order,
     },
     Command {
@@ -219,7 +212,6 @@ pub const COMMANDS: [Command; 17] = [
         does: "print a drawing of both plans, parts against tips, as SVG",
         more: "Beside the name of each part stand its quantity, where that is not 1, and the comment behind it.\n",
         example: "parts picture board.txt > board.svg",
-        options: &[],
         run: commands::picture,
     },
     Command {
@@ -230,7 +222,6 @@ pub const COMMANDS: [Command; 17] = [
         more: "The page needs no network and prints well; a click on the name of a column sorts by it.\n\
                K is the bound of the keep, the least one where it is left out. What is refused is told on the page.\n",
         example: "parts page board.txt > plan.html",
-        options: &["--keep"],
         run: commands::page,
     },
     Command {
@@ -240,7 +231,6 @@ pub const COMMANDS: [Command; 17] = [
         more: "Files of the current folder are completed as ever.\n\
                For every new shell: parts completion bash > ~/.local/share/bash-completion/completions/parts\n",
         example: "source <(parts completion bash)",
-        options: &[],
         run: commands::completion,
     },
 ];
@@ -265,11 +255,61 @@ impl Command {
         if arguments.iter().any(|word| is_help(word)) {
             return print(self.page().as_bytes());
         }
-        // A word with two dashes is never a file, so that a mistyped option is not taken for one.
-        if arguments.iter().any(|word| word.starts_with("--") && !self.options.contains(word)) {
-            return Err(Failure::Arguments);
+        if let Some(what) = self.wrong_in(arguments) {
+            return Err(Failure::Argument(format!("{what}\n{}", self.usage())));
         }
         (self.run)(arguments)
+    }
+
+    /// What is typed behind its name.
+    fn parsed(&self) -> Vec<Typed> {
+        let mut words = self.arguments.split_whitespace();
+        let mut parsed = Vec::new();
+        while let Some(word) = words.next() {
+            let name = word.trim_matches(['[', ']']);
+            let value = name.starts_with("--").then(|| words.next().unwrap_or_default().trim_end_matches(']'));
+            parsed.push(Typed { name, value, is_needed: !word.starts_with('[') });
+        }
+        parsed
+    }
+
+    /// The options that may be typed behind its name.
+    pub fn options(&self) -> Vec<&'static str> {
+        self.parsed().iter().filter(|typed| typed.value.is_some()).map(|typed| typed.name).collect()
+    }
+
+    /// What is wrong with the number of words or with an option, if anything.
+    fn wrong_in(&self, arguments: &[&str]) -> Option<String> {
+        let (options, files): (Vec<Typed>, Vec<Typed>) =
+            self.parsed().into_iter().partition(|typed| typed.value.is_some());
+        let (mut named, mut given) = (Vec::new(), Vec::new());
+        let mut words = arguments.iter();
+        while let Some(&word) = words.next() {
+            // A word with two dashes is never a file, so that a mistyped option is not taken for one.
+            if !word.starts_with("--") {
+                given.push(word);
+                continue;
+            }
+            let Some(option) = options.iter().find(|option| option.name == word) else {
+                return Some(format!("parts {} has no option {word}", self.name));
+            };
+            if named.contains(&word) {
+                return Some(format!("{word} stands twice; name it once"));
+            }
+            if words.next().is_none_or(|next| next.starts_with("--")) {
+                return Some(format!("{word} needs {} behind it", option.value.unwrap_or_default()));
+            }
+            named.push(word);
+        }
+        if let Some(word) = given.get(files.len()) {
+            return Some(format!("`{word}` is a word too many"));
+        }
+        let missing_file = files.iter().skip(given.len()).find(|file| file.is_needed);
+        let missing_option = || options.iter().find(|option| option.is_needed && !named.contains(&option.name));
+        let missing = missing_file.or_else(missing_option)?;
+        Some(
+            [Some(missing.name), missing.value, Some("is missing")].into_iter().flatten().collect::<Vec<_>>().join(" "),
+        )
     }
 
     fn typed(&self) -> String {

@@ -112,8 +112,8 @@ pub enum What {
 impl fmt::Display for What {
     fn fmt(&self, to: &mut fmt::Formatter) -> fmt::Result {
         match self {
-            What::NotText => write!(to, "not UTF-8 text; save the list as plain text"),
-            What::ControlCharacter => write!(to, "a control character; save the list as plain text"),
+            What::NotText => write!(to, "not UTF-8 text; save the file as UTF-8 text"),
+            What::ControlCharacter => write!(to, "a control character; save the file as plain text"),
             What::NoRack => write!(to, "no rack; begin the list with `rack M`, M being the number of tips, 1 to 64"),
             What::RackWords(line) => {
                 write!(to, "unknown words in `{line}`; write `rack M`, M being the number of tips")
@@ -193,7 +193,7 @@ impl List {
                 faults.push(Fault { line, what });
             }
         }
-        if !reading.has_rack {
+        if !reading.has_rack && faults.is_empty() {
             faults.push(Fault { line: lines.len().max(1), what: What::NoRack });
         }
         // Parts below a rule may be named in it; names that faulty lines have are not missing.
@@ -384,6 +384,10 @@ impl Reading {
 
 /// The lines of a text, without what ends them.
 pub(crate) fn lines_of(bytes: &[u8]) -> Vec<&[u8]> {
+    // UTF-16 has line ends of its own; as one line it is refused once.
+    if bytes.starts_with(b"\xFF\xFE") || bytes.starts_with(b"\xFE\xFF") {
+        return vec![bytes];
+    }
     let bytes = bytes.strip_prefix("\u{FEFF}".as_bytes()).unwrap_or(bytes);
     let bytes = bytes.strip_suffix(b"\n").unwrap_or(bytes);
     if bytes.is_empty() {

@@ -31,6 +31,9 @@ fn run(words: &[&str]) -> Result<(), Failure> {
         ["--version"] => print(concat!("parts ", env!("CARGO_PKG_VERSION"), "\n").as_bytes()),
         ["help", name @ ..] => match Command::of(name) {
             Some((command, [])) => print(command.page().as_bytes()),
+            None if name.len() == 1 && !help::usages_of(name[0]).is_empty() => {
+                print(help::usages_of(name[0]).as_bytes())
+            }
             _ => Err(Failure::Arguments),
         },
         [name, word] if help::is_help(word) && Command::of(words).is_none() && !help::usages_of(name).is_empty() => {

@@ -5,8 +5,10 @@ use crate::picture::escaped;
 use crate::planning::{job_of, Named, Plan, Plans};
 use crate::{counted, tips_in_words};
 
-/// The page with its style and its few lines of script; TITLE and BODY are replaced.
+/// The page with its style and its few lines of script; TITLE, PAPER and BODY are replaced.
 const PAGE: &str = include_str!("page.html");
+/// The widest drawing that is printed upright: its letters are then 7 points high.
+const UPRIGHT: usize = 1100;
 
 impl Named {
     /// The page of the list, with a keep within k, or within the least k that is not refused.
@@ -25,15 +27,17 @@ impl Named {
             body += &refused(&format!("Nothing is kept: {why}."));
         }
         body += &summary(&plans);
-        let drawing = self.drawing(&plans, Some((k, kept.as_ref().ok())));
-        let kept_are = format!(
-            "Kept are the tips of all plans with at most {} off the tip used most.",
-            counted(k.into(), "placement")
-        );
-        body += &format!("<h2>Plans and kept tips</h2>\n<p>{kept_are}</p>\n<div class=\"drawing\">\n{drawing}</div>\n");
+        let (drawing, width) = self.pieces(&plans, k, kept.as_ref().ok());
+        let bound = format!("at most {} off the tip used most", counted(k.into(), "placement"));
+        let kept_are = match kept {
+            Ok(_) => format!("Kept are the tips of all plans with {bound}."),
+            Err(_) => format!("No plan has {bound}, so nothing is kept."),
+        };
+        body += &format!("<h2>Plans and kept tips</h2>\n<p>{kept_are}</p>\n<div class=\"wide\">\n{drawing}</div>\n");
         body += &self.table(&plans, k, kept.as_ref().ok());
+        let paper = if width > UPRIGHT { "size: landscape;" } else { "" };
         // The title has no BODY to be replaced, for it is put in last.
-        Ok(PAGE.replacen("BODY", &body, 1).replacen("TITLE", &title, 1))
+        Ok(PAGE.replacen("PAPER", paper, 1).replacen("BODY", &body, 1).replacen("TITLE", &title, 1))
     }
 
     /// The parts, a row each, with their tips in both plans and those that are kept.
@@ -49,19 +53,19 @@ impl Named {
         };
         let heads: String = heads.iter().map(head).collect();
         let sorts = "<p class=\"screen\">A click on the name of a column sorts by it.</p>";
-        let mut text =
-            format!("<h2>Parts</h2>\n{sorts}\n<table id=\"parts\">\n<thead><tr>{heads}</tr></thead>\n<tbody>\n");
+        let mut text = format!("<h2>Parts</h2>\n{sorts}\n<div class=\"wide\">\n<table id=\"parts\">\n");
+        text += &format!("<thead><tr>{heads}</tr></thead>\n<tbody>\n");
         for (row, line) in plans.job.lines.iter().enumerate() {
             let left = kept.map_or("-".into(), |kept| kept_in_words(line.set, kept.lines[row].set));
             let best = plans.best.as_ref().map_or("-".into(), |best| best.tips[row].to_string());
             let mut cells = cell(&row.to_string(), true) + &cell(&self.label(row), false);
-            cells += &(cell(&line.quantity.to_string(), true) + &cell(&tips_in_words(line.set), false));
-            cells += &format!("<td>{left}</td>");
+            cells += &cell(&line.quantity.to_string(), true);
+            cells += &format!("<td class=\"tips\">{}</td><td class=\"tips\">{left}</td>", tips_in_words(line.set));
             cells += &(cell(&plans.quick.tips[row].to_string(), true) + &cell(&best, true));
             cells += &columns.iter().map(|column| cell(&self.number_in(row, column), true)).collect::<String>();
             text += &format!("<tr>{cells}{}</tr>\n", cell(self.comment(row), false));
         }
-        text + "</tbody>\n</table>\n"
+        text + "</tbody>\n</table>\n</div>\n"
     }
 
     /// The columns that some part has, in the order in which they first stand in the list.

@@ -1,5 +1,7 @@
 //! A drawing of a parts list, parts against tips, with its quick and its best plan, as SVG.
 
+use std::ops::Range;
+
 use crate::counted;
 use crate::job::Job;
 use crate::planning::{Named, Plan, Plans};
@@ -19,6 +21,10 @@ const MARGIN: usize = 24;
 const TOP: usize = 84;
 /// Below the last part.
 const BELOW: usize = 116;
+/// Below the last part of a piece that another follows.
+const BELOW_PIECE: usize = 16;
+/// The most parts of a piece: so many are as high as a printed page.
+const PIECE: usize = 16;
 
 const INK: &str = "#1f2933";
 const GREY: &str = "#66727f";
@@ -110,9 +116,9 @@ fn allowed(x: usize, y: usize) -> String {
     format!(r#"<rect x="{}" y="{}" width="{side}" height="{side}" rx="4" fill="{ALLOWED}"/>"#, x + 4, y + 4)
 }
 
-/// The top of a part's row.
-fn row_top(row: usize) -> usize {
-    TOP + CELL * row
+/// The top of a part's row in a piece with these rows; that of the row behind the last is the bottom.
+fn row_top(rows: &Range<usize>, row: usize) -> usize {
+    TOP + CELL * (row - rows.start)
 }
 
 /// The numbers on the middle of a tip's column.
@@ -144,45 +150,45 @@ fn allowed_in(set: u64, rack: usize, left: usize, y: usize) -> impl Iterator<Ite
     (0..rack).filter(move |tip| set >> tip & 1 == 1).map(move |tip| allowed(left + CELL * tip, y))
 }
 
-/// The line below the last part.
-fn ground(left: usize, job: &Job) -> String {
-    let (right, y) = (left + CELL * job.rack, row_top(job.lines.len()) + 3);
+/// The line below the last row.
+fn ground(left: usize, rack: usize, rows: &Range<usize>) -> String {
+    let (right, y) = (left + CELL * rack, row_top(rows, rows.end) + 3);
     format!(r#"<path d="M{left} {y}H{right}" stroke="{GREY}" stroke-width="1"/>"#)
 }
 
 /// The tips that a keep within k leaves, with a cross on those that it strikes; none where it is refused.
-fn kept_panel(left: usize, job: &Job, k: u16, kept: Option<&Job>) -> Vec<String> {
+fn kept_panel(left: usize, rows: &Range<usize>, job: &Job, k: u16, kept: Option<&Job>) -> Vec<String> {
     let struck_of = |kept: &Job, row: usize| job.lines[row].set & !kept.lines[row].set;
     let struck: Option<u64> =
         kept.map(|kept| (0..job.lines.len()).map(|row| u64::from(struck_of(kept, row).count_ones())).sum());
     let words = struck.map_or("none".into(), |struck| format!("{} struck, k {k}", counted(struck, "tip")));
     let mut drawn = heading(Kind::Kept, left, job, &words);
-    for row in 0..job.lines.len() {
-        let (y, struck) = (row_top(row), kept.map_or(0, |kept| struck_of(kept, row)));
+    for row in rows.clone() {
+        let (y, struck) = (row_top(rows, row), kept.map_or(0, |kept| struck_of(kept, row)));
         drawn.extend(allowed_in(job.lines[row].set & !struck, job.rack, left, y));
         let crosses = (0..job.rack).filter(|tip| struck >> tip & 1 == 1);
         drawn.extend(crosses.map(|tip| Kind::Kept.mark(left + CELL * tip, y)));
     }
-    drawn.push(ground(left, job));
+    drawn.push(ground(left, job.rack, rows));
     drawn
 }
 
-/// One plan, or none: a column for each tip, a row for each part, and the sums below.
-fn panel(kind: Kind, left: usize, plans: &Plans, plan: Option<&Plan>) -> Vec<String> {
+/// One plan, or none: a column for each tip, a row for each part, and below the last of all the sums.
+fn panel(kind: Kind, left: usize, rows: &Range<usize>, plans: &Plans, plan: Option<&Plan>) -> Vec<String> {
     let (rack, lines) = (plans.job.rack, &plans.job.lines);
     let colour = kind.colour();
-    let bottom = row_top(lines.len());
+    let bottom = row_top(rows, rows.end);
     let words = plan.map_or("none".into(), |plan| {
         format!("{} on {}", counted(plan.pairs, "pair"), counted(plan.tips_used(rack) as u64, "tip"))
     });
     let mut drawn = heading(kind, left, &plans.job, &words);
-    for (row, line) in lines.iter().enumerate() {
-        let y = row_top(row);
-        drawn.extend(allowed_in(line.set, rack, left, y));
+    for row in rows.clone() {
+        let y = row_top(rows, row);
+        drawn.extend(allowed_in(lines[row].set, rack, left, y));
         drawn.extend(plan.map(|plan| kind.mark(left + CELL * usize::from(plan.tips[row]), y)));
     }
-    drawn.push(ground(left, &plans.job));
-    let Some(plan) = plan else {
+    drawn.push(ground(left, rack, rows));
+    let Some(plan) = plan.filter(|_| rows.end == lines.len()) else {
         return drawn;
     };
     for tip in 0..rack {
@@ -210,14 +216,29 @@ fn beginning_of(comment: &str) -> String {
 impl Named {
     /// The drawing of the list and both plans.
     pub fn picture(&self) -> Result<String, String> {
-        Ok(self.drawing(&self.plans(None)?, None))
+        let plans = self.plans(None)?;
+        Ok(self.drawing(&plans, None, 0..plans.job.lines.len()).0)
     }
 
-    /// The drawing of the list and both plans and, where it is asked for, of what a keep within k leaves.
-    pub(crate) fn drawing(&self, plans: &Plans, keep: Option<(u16, Option<&Job>)>) -> String {
-        let rows = plans.job.lines.len();
-        let labels: Vec<String> = (0..rows).map(|line| self.label_in(&plans.job, line)).collect();
-        let comments: Vec<String> = (0..rows).map(|line| beginning_of(self.comment(line))).collect();
+    /// The drawing in pieces, each as high as a page, with what a keep within k leaves; and how wide each is.
+    pub(crate) fn pieces(&self, plans: &Plans, k: u16, kept: Option<&Job>) -> (String, usize) {
+        let (count, mut width) = (plans.job.lines.len(), 0);
+        let mut text = String::new();
+        for piece in 0..count.div_ceil(PIECE).max(1) {
+            let rows = piece * PIECE..count.min(piece * PIECE + PIECE);
+            let (drawn, drawn_width) = self.drawing(plans, Some((k, kept)), rows);
+            text += &drawn;
+            width = drawn_width;
+        }
+        (text, width)
+    }
+
+    /// The drawing of these rows of the list and both plans and, where it is asked for, of what a keep within k leaves; and
+    /// its width.
+    fn drawing(&self, plans: &Plans, keep: Option<(u16, Option<&Job>)>, rows: Range<usize>) -> (String, usize) {
+        let count = plans.job.lines.len();
+        let labels: Vec<String> = (0..count).map(|line| self.label_in(&plans.job, line)).collect();
+        let comments: Vec<String> = (0..count).map(|line| beginning_of(self.comment(line))).collect();
         let longest = |words: &mut dyn Iterator<Item = &str>| words.map(|word| word.chars().count()).max().unwrap_or(0);
         let names_width = 14 + 10 * longest(&mut labels.iter().map(String::as_str));
         let comments_width = COMMENTS.max(22 + 8 * longest(&mut comments.iter().map(String::as_str)));
@@ -226,8 +247,9 @@ impl Named {
         let second = first + panel_width + BETWEEN;
         let third = second + panel_width + BETWEEN;
         let width = if keep.is_some() { third } else { second } + panel_width + MARGIN;
-        let bottom = row_top(rows);
-        let height = bottom + BELOW;
+        let bottom = row_top(&rows, rows.end);
+        let is_last = rows.end == count;
+        let height = bottom + if is_last { BELOW } else { BELOW_PIECE };
 
         let size = format!(r#"viewBox="0 0 {width} {height}" width="{width}" height="{height}""#);
         let mut drawn = vec![
@@ -238,21 +260,23 @@ impl Named {
             Text { anchor: "end", colour: GREY, ..PLAIN }.at(first - 16, TOP - 12, "tip"),
         ];
         let small = Text { size: 14, ..PLAIN };
-        for (row, (label, comment)) in labels.iter().zip(&comments).enumerate() {
-            let y = row_top(row) + CELL / 2 + 5;
-            drawn.push(Text { weight: "bold", ..PLAIN }.at(MARGIN, y, label));
-            drawn.push(Text { colour: GREY, ..small }.at(MARGIN + names_width, y, comment));
-            if row > 0 {
-                let (y, right) = (row_top(row), width - MARGIN);
+        for row in rows.clone() {
+            let y = row_top(&rows, row) + CELL / 2 + 5;
+            drawn.push(Text { weight: "bold", ..PLAIN }.at(MARGIN, y, &labels[row]));
+            drawn.push(Text { colour: GREY, ..small }.at(MARGIN + names_width, y, &comments[row]));
+            if row > rows.start {
+                let (y, right) = (row_top(&rows, row), width - MARGIN);
                 drawn.push(format!(r#"<path d="M{MARGIN} {y}H{right}" stroke="{RULE}" stroke-width="0.5"/>"#));
             }
         }
-        let sums = Text { anchor: "end", colour: GREY, ..small };
-        let on_tip = if plans.job.is_single() { "parts on the tip" } else { "placements on the tip" };
-        drawn.push(sums.at(first - 16, bottom + 27, on_tip));
-        drawn.push(sums.at(first - 16, bottom + 50, "pairs"));
-        drawn.extend(panel(Kind::Quick, first, plans, Some(&plans.quick)));
-        drawn.extend(panel(Kind::Best, second, plans, plans.best.as_ref().ok()));
+        if is_last {
+            let sums = Text { anchor: "end", colour: GREY, ..small };
+            let on_tip = if plans.job.is_single() { "parts on the tip" } else { "placements on the tip" };
+            drawn.push(sums.at(first - 16, bottom + 27, on_tip));
+            drawn.push(sums.at(first - 16, bottom + 50, "pairs"));
+        }
+        drawn.extend(panel(Kind::Quick, first, &rows, plans, Some(&plans.quick)));
+        drawn.extend(panel(Kind::Best, second, &rows, plans, plans.best.as_ref().ok()));
         let y = height - 46;
         let mut key = vec![
             (MARGIN - 8, allowed(MARGIN - 8, y), "tip that can pick the part"),
@@ -260,14 +284,14 @@ impl Named {
             (first + 270, Kind::Best.mark(first + 270, y), "its tip in the best plan"),
         ];
         if let Some((k, kept)) = keep {
-            drawn.extend(kept_panel(third, &plans.job, k, kept));
+            drawn.extend(kept_panel(third, &rows, &plans.job, k, kept));
             key.push((first + 510, Kind::Kept.mark(first + 510, y), "struck by keep"));
         }
-        for (x, mark, words) in key {
+        for (x, mark, words) in key.into_iter().filter(|_| is_last) {
             drawn.push(mark);
             drawn.push(small.at(x + CELL + 3, y + CELL / 2 + 5, words));
         }
         drawn.push("</svg>\n".into());
-        drawn.join("\n")
+        (drawn.join("\n"), width)
     }
 }

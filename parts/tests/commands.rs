@@ -110,8 +110,20 @@ fn plans_from_other_software_are_checked() {
     assert_eq!(run(&["check", "-", &plan], &EXAMPLE), refused(why));
     let why = "-: this is LIST and PLAN; name a file for one of them";
     assert_eq!(run(&["check", "-", "-"], b""), wrong_argument(why));
-    let usage = "usage: parts check LIST PLAN\n`parts check --help` says more";
+    let usage = "PLAN is missing\nusage: parts check LIST PLAN\n`parts check --help` says more";
     assert_eq!(run(&["check", &list], b""), wrong_argument(usage));
+}
+
+#[test]
+fn file_to_be_imported_is_told_from_a_list() {
+    let why = "-: this is no parts list; `parts import` makes one of it";
+    for file in ["Ref,Val,Package\nR1,1,P\n", "\na;b;c\n", "<openpnp-board/>", "### Footprint positions - ..\nC1 1\n"] {
+        assert_eq!(run(&["plan", "-"], file.as_bytes()), refused(why), "{file}");
+    }
+    let why = "-:2: no rack; begin the list with `rack M`, M being the number of tips, 1 to 64";
+    assert_eq!(run(&["plan", "-"], b"# a, b, c\nR1 : 0\n"), refused(why));
+    let list = "### Footprint positions, by hand\nrack 1\nR1 : 0\n";
+    assert_eq!(run(&["plan", "-"], list.as_bytes()).2, 0);
 }
 
 #[test]
@@ -127,8 +139,8 @@ fn orders_are_printed() {
     let why = "-: this is a job file and no parts list; `parts show` turns it into one";
     assert_eq!(run(&["order", "-"], &EXAMPLE), refused(why));
     let usage = "usage: parts order LIST\n`parts order --help` says more";
-    assert_eq!(run(&["order"], b""), wrong_argument(usage));
-    assert_eq!(run(&["order", "-", "-"], b""), wrong_argument(usage));
+    assert_eq!(run(&["order"], b""), wrong_argument(&format!("LIST is missing\n{usage}")));
+    assert_eq!(run(&["order", "-", "-"], b""), wrong_argument(&format!("`-` is a word too many\n{usage}")));
 }
 
 /// The list with a quantity, and its job file, which is of version 2.
@@ -222,53 +234,65 @@ fn every_command_has_a_page() {
 
 #[test]
 fn wrong_arguments_print_the_usage_of_their_command() {
-    let cases: [(&[&str], &str); 28] = [
-        (&["page"], "page FILE [--keep K]"),
-        (&["page", "a", "--keep"], "page FILE [--keep K]"),
-        (&["page", "a", "--k", "1"], "page FILE [--keep K]"),
-        (&["order"], "order LIST"),
-        (&["junior", "--side", "top"], "junior FILE"),
-        (&["make"], "make LIST"),
-        (&["make", "a", "b"], "make LIST"),
-        (&["make", "--list", "a"], "make LIST"),
-        (&["show"], "show JOB"),
-        (&["show", "--all"], "show JOB"),
-        (&["sort", "height"], "sort COLUMN LIST"),
-        (&["sort", "height", "a", "b"], "sort COLUMN LIST"),
-        (&["keep", "1"], "keep K FILE [JOB] [--list LIST]"),
-        (&["keep", "1", "a", "b", "c"], "keep K FILE [JOB] [--list LIST]"),
-        (&["keep", "1", "a", "--list"], "keep K FILE [JOB] [--list LIST]"),
-        (&["keep", "1", "a", "--list", "b", "--list", "c"], "keep K FILE [JOB] [--list LIST]"),
-        (&["keep", "1", "a", "--job", "b"], "keep K FILE [JOB] [--list LIST]"),
-        (&["goal", "1"], "goal K FILE [JOB] [--list LIST]"),
-        (&["goal", "1", "a", "b", "c"], "goal K FILE [JOB] [--list LIST]"),
-        (&["junior"], "junior FILE"),
-        (&["junior", "a", "b"], "junior FILE"),
-        (&["plan"], "plan FILE [--mounted T]"),
-        (&["plan", "a", "b"], "plan FILE [--mounted T]"),
-        (&["plan", "a", "--mounted"], "plan FILE [--mounted T]"),
-        (&["plan", "a", "--mounted", "1", "--mounted", "2"], "plan FILE [--mounted T]"),
-        (&["picture", "a", "--mounted", "1"], "picture FILE"),
-        (&["picture"], "picture FILE"),
-        (&["help", "make", "show"], "make LIST"),
+    let cases: [(&[&str], &str, &str); 28] = [
+        (&["page"], "FILE is missing", "page FILE [--keep K]"),
+        (&["page", "a", "--keep"], "--keep needs K behind it", "page FILE [--keep K]"),
+        (&["page", "a", "--k", "1"], "parts page has no option --k", "page FILE [--keep K]"),
+        (&["order"], "LIST is missing", "order LIST"),
+        (&["junior", "--side", "top"], "parts junior has no option --side", "junior FILE"),
+        (&["make"], "LIST is missing", "make LIST"),
+        (&["make", "a", "b"], "`b` is a word too many", "make LIST"),
+        (&["make", "--list", "a"], "parts make has no option --list", "make LIST"),
+        (&["show"], "JOB is missing", "show JOB"),
+        (&["show", "--all"], "parts show has no option --all", "show JOB"),
+        (&["sort", "height"], "LIST is missing", "sort COLUMN LIST"),
+        (&["sort", "height", "a", "b"], "`b` is a word too many", "sort COLUMN LIST"),
+        (&["keep", "1"], "FILE is missing", "keep K FILE [JOB] [--list LIST]"),
+        (&["keep", "1", "a", "b", "c"], "`c` is a word too many", "keep K FILE [JOB] [--list LIST]"),
+        (&["keep", "1", "a", "--list"], "--list needs LIST behind it", "keep K FILE [JOB] [--list LIST]"),
+        (
+            &["keep", "1", "a", "--list", "b", "--list", "c"],
+            "--list stands twice; name it once",
+            "keep K FILE [JOB] [--list LIST]",
+        ),
+        (&["keep", "1", "a", "--job", "b"], "parts keep has no option --job", "keep K FILE [JOB] [--list LIST]"),
+        (&["goal", "1"], "FILE is missing", "goal K FILE [JOB] [--list LIST]"),
+        (&["goal", "1", "a", "b", "c"], "`c` is a word too many", "goal K FILE [JOB] [--list LIST]"),
+        (&["junior"], "FILE is missing", "junior FILE"),
+        (&["junior", "a", "b"], "`b` is a word too many", "junior FILE"),
+        (&["plan"], "FILE is missing", "plan FILE [--mounted T]"),
+        (&["plan", "a", "b"], "`b` is a word too many", "plan FILE [--mounted T]"),
+        (&["plan", "a", "--mounted"], "--mounted needs T behind it", "plan FILE [--mounted T]"),
+        (
+            &["plan", "a", "--mounted", "1", "--mounted", "2"],
+            "--mounted stands twice; name it once",
+            "plan FILE [--mounted T]",
+        ),
+        (&["picture", "a", "--mounted", "1"], "parts picture has no option --mounted", "picture FILE"),
+        (&["picture"], "FILE is missing", "picture FILE"),
+        (&["help", "make", "show"], "", "make LIST"),
     ];
-    for (arguments, usage) in cases {
+    for (arguments, what, usage) in cases {
         let command = usage.split(' ').next().unwrap();
-        let expected = format!("usage: parts {usage}\n`parts {command} --help` says more\n");
+        let what = if what.is_empty() { String::new() } else { format!("{what}\n") };
+        let expected = format!("{what}usage: parts {usage}\n`parts {command} --help` says more\n");
         assert_eq!(run(arguments, b""), (Vec::new(), expected, 2), "{arguments:?}");
     }
     let kicad = "usage: parts import kicad POS --tips TABLE [--side SIDE]\n`parts import kicad --help` says more";
-    for arguments in [
-        &["import", "kicad", "a"][..],
-        &["import", "kicad", "--tips", "a"],
-        &["import", "kicad", "a", "b", "--tips", "c"],
+    for (arguments, what) in [
+        (&["import", "kicad", "a"][..], "--tips TABLE is missing"),
+        (&["import", "kicad", "--tips", "a"], "POS is missing"),
+        (&["import", "kicad", "a", "b", "--tips", "c"], "`b` is a word too many"),
+        (&["import", "kicad", "a", "--tips", "--side"], "--tips needs TABLE behind it"),
+        (&["import", "kicad", "a", "--tip", "c"], "parts import kicad has no option --tip"),
     ] {
-        assert_eq!(run(arguments, b""), wrong_argument(kicad), "{arguments:?}");
+        assert_eq!(run(arguments, b""), wrong_argument(&format!("{what}\n{kicad}")), "{arguments:?}");
     }
     let (page, _, status) = run(&["import", "--help"], b"");
     let page = String::from_utf8(page).unwrap();
     assert_eq!((page.matches("usage: parts import ").count(), status), (3, 0));
-    for arguments in [&["import"][..], &["import", "eagle", "a"], &["help", "import"]] {
+    assert_eq!(run(&["help", "import"], b""), given(page.as_bytes()));
+    for arguments in [&["import"][..], &["import", "eagle", "a"]] {
         assert_eq!(run(arguments, b""), (Vec::new(), page.clone(), 2), "{arguments:?}");
     }
     for arguments in [&["draw", "a"][..], &["help", "draw"], &["draw", "--help"]] {
@@ -473,10 +497,10 @@ fn file_that_cannot_be_written_is_named_and_nothing_is_left() {
     symlink("nowhere", folder.join("dangling")).unwrap();
     let dangling = typed(&folder, "dangling");
     for (out, why) in [
-        (missing.as_str(), "No such file or directory (os error 2)"),
-        (dangling.as_str(), "No such file or directory (os error 2)"),
-        (folder.to_str().unwrap(), "Is a directory (os error 21)"),
-        ("/dev/full", "No space left on device (os error 28)"),
+        (missing.as_str(), "there is no such file or folder; correct the name"),
+        (dangling.as_str(), "there is no such file or folder; correct the name"),
+        (folder.to_str().unwrap(), "this is a folder; name a file"),
+        ("/dev/full", "the disk is full; make room on it"),
     ] {
         let why = refused(&format!("{out}: {why}"));
         assert_eq!(run(&["keep", "1", "-", out], &EXAMPLE), why);

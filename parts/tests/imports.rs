@@ -229,6 +229,46 @@ fn part_without_a_value_is_read_by_its_column() {
 }
 
 #[test]
+fn range_of_references_has_each_of_them() {
+    let columns = Columns::of("ref=1,package=2").unwrap();
+    let references = |field: &str| {
+        let placements = csv::placements_of(format!("R,P\n\"{field}\",P\n").as_bytes(), &columns).map_err(told)?;
+        Ok(placements.into_iter().map(|placement| placement.reference).collect::<Vec<_>>())
+    };
+    let names = |words: &str| Ok(words.split(' ').map(String::from).collect());
+    assert_eq!(references("C1, R1-R4;R9-R11"), names("C1 R1 R2 R3 R4 R9 R10 R11"));
+    assert_eq!(references("R08-R11"), names("R08 R09 R10 R11"));
+    let why = "2: `R1-R99999999999999999999` is more than 2048 references; correct it";
+    assert_eq!(references("R1-R99999999999999999999"), Err(vec![why.to_string()]));
+    // A part of a second board on a panel, a name with a dash, and a range that runs backwards or stands still.
+    for field in ["R1-2", "J-A", "X1-Y2", "R4-R1", "R1-R1", "1-4"] {
+        assert_eq!(references(field), Ok(vec![field.to_string()]));
+    }
+    let counted = Columns::of("ref=1,package=2,quantity=3").unwrap();
+    assert_eq!(csv::placements_of(b"R,P,Q\nR1-R4 R7,P,5\n", &counted).unwrap().len(), 5);
+    let why = "2: 4 references and quantity 1; correct one of them";
+    assert_eq!(csv::placements_of(b"R,P,Q\nR1-R4,P,1\n", &counted).map_err(told), Err(vec![why.to_string()]));
+}
+
+#[test]
+fn list_without_a_placement_says_so() {
+    let head = "Ref,Val,Package,PosX,PosY,Rot,Side\n";
+    let list = |rows: &str, sides| kicad_list(&format!("{head}{rows}"), "rack 1\nskip F\n* : 0\n", sides);
+    let none = "rack 1\n# no placement is left\n";
+    assert_eq!(list("", Sides::Unsaid), Ok(none.into()));
+    assert_eq!(list("A,1,P,0,0,0,top\n", Sides::of(Some("bottom")).unwrap()), Ok(none.into()));
+    let left_out = "rack 1\n# left out: F 1: A\n# no placement is left\n";
+    assert_eq!(list("A,1,F,0,0,0,top\n", Sides::Unsaid), Ok(left_out.into()));
+}
+
+#[test]
+fn row_of_kicad_is_one_placement_whatever_its_reference() {
+    let file = "Ref,Val,Package,PosX,PosY,Rot,Side\n\"A B\",1,P,0,0,0,top\n\"C,D;E\",2,P,0,0,0,top\n";
+    let list = "rack 1\nA_B : 0 # P 1: A B\nC,D;E : 0 # P 2\n";
+    assert_eq!(kicad_list(file, "rack 1\n* : 0\n", Sides::Unsaid), Ok(list.into()));
+}
+
+#[test]
 fn columns_are_found_by_name_or_number_whatever_separates_them() {
     let columns = Columns::of("ref=Designator, package=3 ,value=comment").unwrap();
     for separator in [",", ";", "\t"] {
@@ -247,13 +287,6 @@ fn mistakes_of_rows_have_their_lines() {
     let columns = Columns::of("ref=R,package=P,quantity=Q,side=S").unwrap();
     let text = "R,P,Q,S\nA,,1,T\nA,P,0,T\nA,P,2049,T\n,P,2,left\nA,P,1\n\"A,P,1,T\n\"A\"B,P,1,T\nA B,P,3,T\n";
     let faults = told(csv::placements_of(text.as_bytes(), &columns).unwrap_err());
-    let marks = [
-        "7: a quotation mark is not closed; close it on its line",
-        "8: words behind a closing quotation mark; write two marks for one inside a field",
-    ];
-    assert_eq!(faults, marks);
-    let text: String = text.lines().filter(|line| !line.contains('"')).map(|line| line.to_string() + "\n").collect();
-    let faults = told(csv::placements_of(text.as_bytes(), &columns).unwrap_err());
     assert_eq!(
         faults,
         [
@@ -262,13 +295,21 @@ fn mistakes_of_rows_have_their_lines() {
             "4: `2049` is no quantity; write 1 to 2048, or take the row out",
             "5: `left` is no side; write top or bottom",
             "6: 3 fields; the first row has 4, give each row as many",
-            "7: 2 references and quantity 3; correct one of them",
+            "7: a quotation mark is not closed; close it on its line",
+            "8: words behind a closing quotation mark; write two marks for one inside a field",
+            "9: 2 references and quantity 3; correct one of them",
         ]
     );
+    // Without the names of the columns nothing else can be told.
+    let faults = told(csv::placements_of(b"\"R,P,Q,S\nA,,1,T\n", &columns).unwrap_err());
+    assert_eq!(faults, ["1: a quotation mark is not closed; close it on its line"]);
     let named = |columns: &str| told(csv::placements_of(b"A,B\n", &Columns::of(columns).unwrap()).unwrap_err());
     assert_eq!(named("ref=A,package=C"), ["1: no column `C`; the first row has `A`, `B`"]);
     assert_eq!(named("ref=0,package=B"), ["1: no column `0`; the first row has `A`, `B`"]);
     assert_eq!(named("ref=A,package=3"), ["1: no column `3`; the first row has `A`, `B`"]);
+    let twice = told(csv::placements_of(b"A,B,a\n", &Columns::of("ref=A,package=B").unwrap()).unwrap_err());
+    assert_eq!(twice, ["1: columns 1 and 3 are `A`; name yours by its number"]);
+    assert!(csv::placements_of(b"A,B,a\n", &Columns::of("ref=1,package=B,").unwrap()).is_ok());
     for (columns, why) in [
         ("ref=A", "--columns needs a ref and a package, as ref=Designator,package=Footprint"),
         ("ref=A,package=B,height=C", "--columns has no height; it has ref, package, value, side and quantity"),
@@ -314,6 +355,23 @@ fn openpnp_boards_have_the_tips_of_their_packages() {
 fn openpnp_1_boards_are_read() {
     let board = BOARD.replace("type=\"Placement\"", "type=\"Place\"").replace(" enabled=\"true\"", "");
     assert_eq!(openpnp_list(PACKAGES, &board, Some(PARTS), None), openpnp_list(PACKAGES, BOARD, Some(PARTS), None));
+}
+
+#[test]
+fn what_is_left_out_is_told_of_its_own_side() {
+    // FID1 on the bottom, C2 and all others on the top.
+    let board = BOARD.replacen("side=\"Top\"", "side=\"Bottom\"", 1);
+    let left_out = |word: Option<&str>| {
+        let packages = Packages::read(PACKAGES.as_bytes(), None).unwrap();
+        let parts = Parts::read(PARTS.as_bytes()).unwrap();
+        let sides = Sides::of(word).unwrap();
+        let list = packages.list(Board::read(board.as_bytes()).unwrap(), Some(&parts), sides).map_err(told).unwrap();
+        list.lines().filter_map(|line| line.strip_prefix("# left out: ").map(String::from)).collect::<Vec<_>>()
+    };
+    assert_eq!(left_out(Some("top")), ["C2, not enabled"]);
+    assert_eq!(left_out(Some("bottom")), ["FID1, a fiducial"]);
+    assert_eq!(left_out(Some("both")).len(), 2);
+    assert_eq!(left_out(None).len(), 2);
 }
 
 #[test]

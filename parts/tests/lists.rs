@@ -215,6 +215,10 @@ fn names_stand_once() {
 fn bytes_that_are_no_text_are_named() {
     assert_eq!(only_fault(b"rack 2\nC1 : 0\n\xFF : 1\n"), (3, What::NotText));
     assert_eq!(only_fault(b"rack 2\n# \xFF\n"), (2, What::NotText));
+    // A list in UTF-16 is refused once, and not line by line.
+    let utf_16 =
+        |text: &str| [0xFEFF].into_iter().chain(text.encode_utf16()).flat_map(u16::to_le_bytes).collect::<Vec<u8>>();
+    assert_eq!(only_fault(&utf_16("rack 2\nC1 : 0\n")), (1, What::NotText));
     assert_eq!(only_fault(b"rack 2\nC1 : 0\0\n"), (2, What::ControlCharacter));
     assert_eq!(only_fault(b"rack 2\nC1\x1B[2J : 0\n"), (2, What::ControlCharacter));
     let without_line_feeds = b"rack 2\rC1 : 0\r";
@@ -245,8 +249,8 @@ fn every_wrong_line_is_named() {
 fn every_fault_says_what_to_do() {
     let name = || "x".to_string();
     let all = [
-        (What::NotText, "not UTF-8 text; save the list as plain text"),
-        (What::ControlCharacter, "a control character; save the list as plain text"),
+        (What::NotText, "not UTF-8 text; save the file as UTF-8 text"),
+        (What::ControlCharacter, "a control character; save the file as plain text"),
         (What::NoRack, "no rack; begin the list with `rack M`, M being the number of tips, 1 to 64"),
         (What::RackWords("rack x".into()), "unknown words in `rack x`; write `rack M`, M being the number of tips"),
         (What::RackSize("65".into()), "rack 65 is out of range; a rack has 1 to 64 tips"),

@@ -22,7 +22,8 @@ fn page_has_each_part_with_its_tips() {
     let number = |words: &str| format!("<td class=\"number\">{words}</td>");
     let row = |cells: [&str; 10]| {
         let [no, part, quantity, tips, kept, quick, best, height, pitch, comment] = cells;
-        let first = format!("<tr>{}<td>{part}</td>{}<td>{tips}</td><td>{kept}</td>", number(no), number(quantity));
+        let both = format!("<td class=\"tips\">{tips}</td><td class=\"tips\">{kept}</td>");
+        let first = format!("<tr>{}<td>{part}</td>{}{both}", number(no), number(quantity));
         first + &[quick, best, height, pitch].map(number).concat() + &format!("<td>{comment}</td></tr>\n")
     };
     for cells in [
@@ -78,6 +79,8 @@ fn refusals_stand_on_the_page() {
     let bound = page(LIST, Some(1));
     let why = "Nothing is kept: refused 26: margin -1, no plan is within k 1; the least k is 2.";
     assert_eq!((count(&bound, why), count(&bound, "kept:</tspan> none<")), (1, 1));
+    let none = "<p>No plan has at most 1 placement off the tip used most, so nothing is kept.</p>";
+    assert_eq!((count(&bound, none), count(&bound, "Kept are")), (1, 0));
     assert_eq!(count(&page(LIST, None), "class=\"refused\""), 0);
 }
 
@@ -101,6 +104,21 @@ fn job_files_and_empty_lists_have_pages() {
     let page_of_job = Named { file: named.file, list: None }.page("a <b>", None).unwrap();
     assert_eq!((count(&page_of_job, "<td>line 0</td>"), count(&page_of_job, "<h1>Plan of a &lt;b&gt;</h1>")), (1, 1));
     assert_eq!(count(&page("rack 2\n", None), "<p>0 parts, 0 placements and a rack of 2 tips.</p>"), 1);
+}
+
+#[test]
+fn long_lists_are_drawn_in_pieces_of_a_page() {
+    let list = |rack: usize, parts: usize| format!("rack {rack}\n") + &": 0-1\n".repeat(parts);
+    for (parts, pieces) in [(0, 1), (1, 1), (16, 1), (17, 2), (512, 32)] {
+        let page = page(&list(2, parts), None);
+        let heads = ["quick", "best", "kept"].map(|name| count(&page, &format!(">{name}:</tspan>")));
+        assert_eq!((count(&page, "<svg "), heads), (pieces, [pieces; 3]), "{parts}");
+        // Sums and key stand once, a disc for each part and one in the key.
+        assert_eq!((count(&page, ">parts on the tip</text>"), count(&page, "<circle ")), (1, parts + 1), "{parts}");
+        // Each piece has its own first row.
+        assert_eq!(count(&page, " cy=\"103\" r="), pieces.min(parts), "{parts}");
+    }
+    assert_eq!((count(&page(&list(2, 1), None), "landscape"), count(&page(&list(12, 1), None), "landscape")), (0, 1));
 }
 
 #[test]

@@ -4,8 +4,15 @@ use crate::import::csv::{self, Columns};
 use crate::import::{fault, Faults, Placement, Side};
 use crate::list::{decimal_of, lines_of, text_of};
 
-const COLUMNS: Columns =
-    Columns { reference: "Ref", package: "Package", value: Some("Val"), side: Some("Side"), quantity: None };
+/// A row is one placement, whatever its reference.
+const COLUMNS: Columns = Columns {
+    reference: "Ref",
+    package: "Package",
+    value: Some("Val"),
+    side: Some("Side"),
+    quantity: None,
+    is_several: false,
+};
 
 /// The names of the columns in both forms.
 const NAMES: [&str; 7] = ["Ref", "Val", "Package", "PosX", "PosY", "Rot", "Side"];

@@ -2,7 +2,7 @@
 
 use std::collections::{HashMap, HashSet};
 
-use crate::list::{is_taken, Fault};
+use crate::list::{is_taken, lines_of, Fault};
 use crate::{quantity_in_words, tips_in_words, MOST_LINES, MOST_PLACEMENTS, MOST_QUANTITY};
 
 pub mod csv;
@@ -18,6 +18,16 @@ fn fault(line: usize, what: impl Into<String>) -> Fault<String> {
     Fault { line, what: what.into() }
 }
 
+/// Whether a file looks like one that is imported: XML, a position file of KiCad, or a first row with several columns.
+pub fn is_foreign(bytes: &[u8]) -> bool {
+    let lines = lines_of(bytes);
+    let first = lines.into_iter().find(|line| !line.trim_ascii().is_empty()).unwrap_or_default();
+    let begins = |words: &str| first.starts_with(words.as_bytes());
+    let has_columns =
+        || csv::SEPARATORS.iter().any(|&mark| first.iter().filter(|&&byte| char::from(byte) == mark).count() > 1);
+    begins("<") || begins("### Footprint positions") || begins("### Module positions") || !begins("#") && has_columns()
+}
+
 /// A side of the board.
 #[derive(Clone, Copy, PartialEq, Eq, Debug)]
 pub enum Side {
@@ -31,6 +41,7 @@ impl Side {
         match word.to_ascii_lowercase().as_str() {
             "top" | "t" | "toplayer" | "front" | "f.cu" => Ok(Side::Top),
             "bottom" | "b" | "bottomlayer" | "back" | "b.cu" => Ok(Side::Bottom),
+            "" => Err("no side; write top or bottom".into()),
             _ => Err(format!("`{word}` is no side; write top or bottom")),
         }
     }
@@ -61,6 +72,14 @@ impl Sides {
             Some("bottom") => Ok(Sides::One(Side::Bottom)),
             Some("both") => Ok(Sides::Both),
             Some(word) => Err(format!("a side is top, bottom or both, and not {word}")),
+        }
+    }
+
+    /// Whether something on this side is asked for; what has no side is.
+    fn has(self, side: Option<Side>) -> bool {
+        match (self, side) {
+            (Sides::One(asked), Some(side)) => asked == side,
+            _ => true,
         }
     }
 
@@ -156,6 +175,9 @@ fn list_of<'a>(
     if !strange.is_empty() {
         let strange = placements.iter().filter(|placement| strange.contains(placement.package.as_str()));
         return Err(groups_of(strange, false).iter().map(|group| fault(group.line, unknown(group))).collect());
+    }
+    if parts.is_empty() {
+        text += "# no placement is left\n";
     }
     let mut names = HashSet::new();
     let (mut count, mut total) = (0, 0);

@@ -73,11 +73,13 @@ impl Packages {
             })
             .collect();
         let known = |group: &Group| picked.get(group.value).map_or(Known::Nothing, Known::Picked);
-        list_of(&placements, self.head(&board.left_out), known, |group| self.unknown(group, parts.is_some()))
+        let left_out =
+            board.left_out.iter().filter(|left_out| sides.has(left_out.side)).map(|left_out| &left_out.words[..]);
+        list_of(&placements, self.head(left_out), known, |group| self.unknown(group, parts.is_some()))
     }
 
     /// The rack with the ids of its tips, and what is left out.
-    fn head(&self, left_out: &[String]) -> String {
+    fn head<'a>(&self, left_out: impl Iterator<Item = &'a str>) -> String {
         let mut text = String::new();
         for (tip, id) in self.rack.iter().enumerate().filter(|(_, id)| *id != EMPTY) {
             text += &format!("# tip {tip}: {}\n", on_one_line(id));
@@ -165,7 +167,14 @@ fn height_of(part: &Element) -> Result<Option<f64>, String> {
 #[derive(Clone, PartialEq, Eq, Debug)]
 pub struct Board {
     placements: Vec<Placement>,
-    left_out: Vec<String>,
+    left_out: Vec<LeftOut>,
+}
+
+/// A placement that is not planned, and why.
+#[derive(Clone, PartialEq, Eq, Debug)]
+struct LeftOut {
+    side: Option<Side>,
+    words: String,
 }
 
 impl Board {
@@ -188,24 +197,20 @@ impl Board {
     fn take(&mut self, placement: &Element) -> Result<(), crate::list::Fault<String>> {
         let reference = placement.needed("id")?;
         let enabled = placement.attribute("enabled").unwrap_or("true");
-        match (placement.attribute("type").unwrap_or("Placement"), enabled) {
-            ("Placement" | "Place", "true") => {}
-            ("Placement" | "Place", "false") => {
-                self.left_out.push(format!("{reference}, not enabled"));
-                return Ok(());
-            }
-            ("Fiducial", _) => {
-                self.left_out.push(format!("{reference}, a fiducial"));
-                return Ok(());
-            }
-            ("Ignore", _) => {
-                self.left_out.push(format!("{reference}, ignored in OpenPnP"));
-                return Ok(());
-            }
+        let why = match (placement.attribute("type").unwrap_or("Placement"), enabled) {
+            ("Placement" | "Place", "true") => None,
+            ("Placement" | "Place", "false") => Some("not enabled"),
+            ("Fiducial", _) => Some("a fiducial"),
+            ("Ignore", _) => Some("ignored in OpenPnP"),
             (kind, enabled) => {
                 let what = format!("{reference} has type {kind} and enabled {enabled}; OpenPnP has other words");
                 return Err(fault(placement.line, what));
             }
+        };
+        if let Some(why) = why {
+            let side = placement.attribute("side").and_then(|word| Side::of(word).ok());
+            self.left_out.push(LeftOut { side, words: format!("{reference}, {why}") });
+            return Ok(());
         }
         let part = placement.attribute("part-id").filter(|part| !part.is_empty());
         let part =
