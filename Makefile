@@ -20,6 +20,7 @@ CFLAGS = -std=c11 -Wall -Wextra -Werror -O2
 # The version stands in Cargo.toml; tools/numbers holds the header, the pages and the checklist to it.
 version := $(shell sed -n 's/^version = "\(.*\)"/\1/p' Cargo.toml)
 soname := libtipshare.so.$(firstword $(subst ., ,$(version)))
+proved := target/stamp/tipshare_c
 library := target/staticlib/libtipshare_c.a
 tipshare := target/bin/tipshare
 example := target/example
@@ -32,8 +33,10 @@ sources := crates.txt $(shell find crates \( -path 'crates/try_*' -o -name must-
 all: $(library) $(archive) $(shared) $(tipshare) parts pages
 
 # rt check proves crates side by side, and rt staticlib one after the other.
-$(library): $(sources)
+$(proved): $(sources)
 	rt check tipshare_c
+
+$(library): $(proved)
 	mkdir -p $(@D)
 	rt staticlib tipshare_c > $(@:.a=.report) || { cat $(@:.a=.report); exit 1; }
 	tools/no-axioms $(@:.a=.report)

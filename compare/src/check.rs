@@ -79,6 +79,10 @@ impl<T: Copy> Lent<T> {
     pub(crate) fn inside(&mut self) -> &mut [T] {
         &mut self.cells[self.start..self.start + self.length]
     }
+
+    fn copied(&self) -> Vec<T> {
+        self.cells[self.start..self.start + self.length].to_vec()
+    }
 }
 
 /// What stands in the plan and in the table before a call, as far as they are lent; behind it there is junk. And the file
@@ -212,30 +216,60 @@ fn write_file(to: &mut fmt::Formatter, name: &str, file: &[u8]) -> fmt::Result {
     Ok(())
 }
 
-/// Makes one call in both implementations.
-pub fn compare(library: Caller, file: &[u8], call: &Call, given: Given, junk: u64) -> Result<Outcome, Difference> {
-    let mut of_library = Buffers::new(file, call, given, junk);
-    let mut of_second = of_library.clone();
-    let library = library(call, &mut of_library);
-    let second = call_second(call, &mut of_second);
-    if library != second || of_library != of_second {
-        let mut what = format!("{call:?}, junk {junk}\nreturned: library {library}, second {second}");
+/// One call on buffers of junk, as the second implementation makes it.
+pub struct Expected<'a> {
+    file: &'a [u8],
+    call: &'a Call,
+    given: Given<'a>,
+    junk: u64,
+    before: Buffers,
+    after: Buffers,
+    returned: u64,
+}
+
+impl<'a> Expected<'a> {
+    pub fn of_call(file: &'a [u8], call: &'a Call, given: Given<'a>, junk: u64) -> Expected<'a> {
+        let before = Buffers::new(file, call, given, junk);
+        let mut after = before.clone();
+        let returned = call_second(call, &mut after);
+        Expected { file, call, given, junk, before, after, returned }
+    }
+
+    /// What the caller makes of the same buffers.
+    fn made_by(&self, caller: Caller) -> (u64, Buffers) {
+        let mut lent = self.before.clone();
+        (caller(self.call, &mut lent), lent)
+    }
+
+    fn is_met(&self, (returned, lent): &(u64, Buffers)) -> bool {
+        *returned == self.returned && *lent == self.after
+    }
+
+    pub fn is_met_by(&self, caller: Caller) -> bool {
+        self.is_met(&self.made_by(caller))
+    }
+
+    /// Makes the call in the library too.
+    pub fn compare(&self) -> Result<Outcome, Difference> {
+        let (second, of_second) = (self.returned, &self.after);
+        let made = self.made_by(call_library);
+        if self.is_met(&made) {
+            let (bytes, table, answer) =
+                (of_second.bytes.copied(), of_second.table.copied(), of_second.answer.copied());
+            return Ok(Outcome { returned: second, bytes, table, answer });
+        }
+        let (library, of_library) = made;
+        let mut what = format!("{:?}, junk {}\nreturned: library {library}, second {second}", self.call, self.junk);
         what += &first_difference("file", &of_library.file, &of_second.file);
         what += &first_difference("answer", &of_library.answer, &of_second.answer);
         what += &first_difference("plan or output", &of_library.bytes, &of_second.bytes);
         what += &first_difference("table", &of_library.table, &of_second.table);
         what += &first_difference("second file or report", &of_library.other, &of_second.other);
-        if let Call::Check { .. } = call {
-            what += &format!("\nplan handed over {:?}\ntable handed over {:?}", given.plan, given.table);
+        if let Call::Check { .. } = self.call {
+            what += &format!("\nplan handed over {:?}\ntable handed over {:?}", self.given.plan, self.given.table);
         }
-        return Err(Difference { file: file.to_vec(), other: given.other.to_vec(), what });
+        Err(Difference { file: self.file.to_vec(), other: self.given.other.to_vec(), what })
     }
-    Ok(Outcome {
-        returned: second,
-        bytes: of_second.bytes.inside().to_vec(),
-        table: of_second.table.inside().to_vec(),
-        answer: of_second.answer.inside().to_vec(),
-    })
 }
 
 /// The first place where two buffers differ; below 0 and past the length it lies outside the lent part.

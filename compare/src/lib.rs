@@ -9,4 +9,5 @@ pub mod order_mistakes;
 pub mod orders;
 pub mod random;
 pub mod run;
+pub mod sought;
 pub mod tally;

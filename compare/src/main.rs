@@ -10,6 +10,7 @@ use compare::mistakes::{mistakes, mistakes_of_panels_and_mendings};
 use compare::order_mistakes::order_mistakes;
 use compare::orders::Orders;
 use compare::run::{compare_program, Run};
+use compare::sought::Sought;
 
 const DEFAULT_CASES: u64 = 440_000;
 /// The fixed and the small boards take some 340,000; with fewer there would be no seeded ones.
@@ -163,26 +164,35 @@ type Part = fn(&mut Run) -> Result<(), Difference>;
 
 /// Every mistake put into the library must be found.
 fn find_mistakes(settings: &Settings) -> ExitCode {
-    let (mut tried, mut missed) = (0, 0);
     // Each kind is looked for first where it can be seen.
-    let of_one_board = mistakes().map(|mistake| (mistake, Run::seeded as Part));
-    let others = mistakes_of_panels_and_mendings().map(|mistake| (mistake, Run::panels_and_mendings as Part));
-    for (&(what, caller), part) in of_one_board.chain(others) {
-        let mut run = Run::new(settings.seed, settings.cases, None).with(caller);
-        let found = part(&mut run).is_err();
-        tried += 1;
-        missed += u32::from(!found);
-        println!("{} after {:>6} calls: {what}", if found { "found " } else { "MISSED" }, run.tally.cases);
+    let kinds: [(Vec<_>, Part); 2] = [
+        (mistakes().map(Sought::new).collect(), Run::seeded),
+        (mistakes_of_panels_and_mendings().map(Sought::new).collect(), Run::panels_and_mendings),
+    ];
+    let mut found = Vec::new();
+    for (sought, part) in kinds {
+        let mut run = Run::new(settings.seed, settings.cases, None).seeking(sought);
+        if let Err(difference) = part(&mut run) {
+            return fail(&difference);
+        }
+        found.extend(run.sought.iter().map(|mistake| (mistake.what, mistake.found_after)));
     }
-    for &(what, caller) in order_mistakes() {
-        let mut orders = Orders::new(settings.seed, settings.cases / CALLS_AN_ORDER).with(caller);
-        let found = orders.all().is_err();
-        tried += 1;
-        missed += u32::from(!found);
-        println!("{} after {:>6} calls: {what}", if found { "found " } else { "MISSED" }, orders.tally.calls);
+    let sought = order_mistakes().map(Sought::new).collect();
+    let mut orders = Orders::new(settings.seed, settings.cases / CALLS_AN_ORDER).seeking(sought);
+    if let Err(difference) = orders.all() {
+        println!("{difference}");
+        return ExitCode::FAILURE;
     }
-    println!("{tried} mistakes, {missed} missed");
-    if missed == 0 {
+    found.extend(orders.sought.iter().map(|mistake| (mistake.what, mistake.found_after)));
+    for (what, found_after) in &found {
+        match found_after {
+            Some(calls) => println!("found  after {calls:>6} calls: {what}"),
+            None => println!("MISSED: {what}"),
+        }
+    }
+    let missed = found.iter().filter(|(_, found_after)| found_after.is_none()).count();
+    println!("{} mistakes, {missed} missed", found.len());
+    if missed == 0 && !found.is_empty() {
         ExitCode::SUCCESS
     } else {
         ExitCode::FAILURE

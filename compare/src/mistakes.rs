@@ -11,14 +11,14 @@ use crate::boards::{is_counted, is_unbroken, single};
 use crate::check::{call_library, Buffers, Call, Caller, Lent};
 use crate::damage::{first_to_pass, quantities_in};
 use crate::handed::{keeps, stopping, wrapping, Handed, Rule};
+use crate::sought;
 
 mod goal;
 mod junior;
 mod mending;
 mod panels;
 
-/// What is wrong, and the call that is wrong in this way.
-pub type Mistake = (&'static str, Caller);
+pub type Mistake = sought::Mistake<Caller>;
 
 /// Mistakes of the calls on one board.
 pub fn mistakes() -> impl Iterator<Item = &'static Mistake> {

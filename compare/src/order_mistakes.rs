@@ -8,9 +8,9 @@ use second::interface::{ANSWER_PLACES, PART_PLACES, RULE_PLACES};
 use second::MOST_PARTS;
 
 use crate::orders::{call_library, Buffers, Caller};
+use crate::sought;
 
-/// What is wrong, and the call that is wrong in this way.
-pub type OrderMistake = (&'static str, Caller);
+pub type OrderMistake = sought::Mistake<Caller>;
 
 /// Everything that the comparison of orders is tried with.
 pub fn order_mistakes() -> impl Iterator<Item = &'static OrderMistake> {

@@ -9,6 +9,7 @@ use second::{try_every_order, Part, Placing, Rule, MOST_PARTS};
 
 use crate::check::{first_difference, Lent};
 use crate::random::Random;
+use crate::sought::{all_found, look, Sought};
 
 /// With at most so many parts every order is tried.
 const MOST_PARTS_TRIED: usize = 6;
@@ -157,8 +158,8 @@ impl fmt::Display for Tally {
 
 /// The comparison of orders.
 pub struct Orders {
-    /// What is compared with the second implementation.
-    library: Caller,
+    /// Mistakes that are to show beside it.
+    pub sought: Vec<Sought<Caller>>,
     random: Random,
     least_calls: u64,
     pub tally: Tally,
@@ -166,20 +167,20 @@ pub struct Orders {
 
 impl Orders {
     pub fn new(seed: u64, least_calls: u64) -> Orders {
-        Orders { library: call_library, random: Random::new(seed), least_calls, tally: Tally::default() }
+        Orders { sought: Vec::new(), random: Random::new(seed), least_calls, tally: Tally::default() }
     }
 
-    /// The same run with another caller in the place of the library.
-    pub fn with(self, library: Caller) -> Orders {
-        Orders { library, ..self }
+    /// The same run, in which these mistakes are looked for.
+    pub fn seeking(self, sought: Vec<Sought<Caller>>) -> Orders {
+        Orders { sought, ..self }
     }
 
-    /// Compares the fixed cases, then seeded ones until enough calls are made.
+    /// Compares the fixed cases, then seeded ones until enough calls are made, or each mistake that is looked for has shown.
     pub fn all(&mut self) -> Result<(), Difference> {
         for handed in fixed() {
             self.each_length(&handed)?;
         }
-        while self.tally.calls < self.least_calls {
+        while self.tally.calls < self.least_calls && !all_found(&self.sought) {
             let handed = seeded(&mut self.random);
             self.good(&handed)?;
             if self.random.once_in(3) {
@@ -241,9 +242,9 @@ impl Orders {
     /// One call in both implementations, on buffers of junk.
     fn case(&mut self, handed: &Handed, order: usize, answer: usize) -> Result<(), Difference> {
         let junk = self.random.number();
-        let mut of_library = Buffers::new(handed, order, answer, junk);
-        let mut of_second = of_library.clone();
-        let library = (self.library)(&mut of_library);
+        let before = Buffers::new(handed, order, answer, junk);
+        let (mut of_library, mut of_second) = (before.clone(), before.clone());
+        let library = call_library(&mut of_library);
         let second = call_second(&mut of_second);
         self.tally.calls += 1;
         *self.tally.numbers.entry(second).or_default() += 1;
@@ -256,6 +257,10 @@ impl Orders {
             what += &first_difference("answer", &of_library.answer, &of_second.answer);
             return Err(Difference { handed: handed.clone(), what });
         }
+        look(&mut self.sought, self.tally.calls, |caller| {
+            let mut lent = before.clone();
+            caller(&mut lent) != second || lent != of_second
+        });
         let count = handed.parts.len() / PART_PLACES;
         if second == 0 || second == 29 {
             self.count_decided(handed, second == 0);

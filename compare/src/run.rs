@@ -10,10 +10,11 @@ use second::{number_of_plans, pairs_in, read, try_every_plan, Board, Version};
 use second::{JUNIOR_LINES, JUNIOR_TIPS, MOST_PLACEMENTS};
 
 use crate::boards::{every_board, fixed_boards, is_counted, is_unbroken, seeded_board, seeded_file, single, Size};
-use crate::check::{call_library, compare, Call, Caller, Difference, Given, Outcome};
+use crate::check::{Call, Caller, Difference, Expected, Given, Outcome};
 use crate::damage::{damage, damaged, first_to_pass, quantities_in, KINDS, TOO_MANY_PLACEMENTS};
 use crate::handed::{keeps, stopping, wrapping, Handed, REFUSED_WAYS, WAYS};
 use crate::random::Random;
+use crate::sought::{all_found, look, Sought};
 use crate::tally::{Event, Tally, SHORT_REPORT};
 
 mod goal;
@@ -40,10 +41,10 @@ const EVERY_BOARD_UP_TO: [(usize, &[u8], usize); 8] = [
 const TURNS: usize = 8;
 
 pub struct Run {
-    /// What is compared with the second implementation.
-    library: Caller,
+    /// Mistakes that are to show beside it.
+    pub sought: Vec<Sought<Caller>>,
     random: Random,
-    /// Seeded boards are added until this many cases are done.
+    /// Seeded boards are added until this many cases are done, or each mistake that is looked for has shown.
     least_cases: u64,
     /// Where each file is written before its calls, to find one that ends the program.
     last_file: Option<PathBuf>,
@@ -52,12 +53,16 @@ pub struct Run {
 
 impl Run {
     pub fn new(seed: u64, least_cases: u64, last_file: Option<PathBuf>) -> Run {
-        Run { library: call_library, random: Random::new(seed), least_cases, last_file, tally: Tally::default() }
+        Run { sought: Vec::new(), random: Random::new(seed), least_cases, last_file, tally: Tally::default() }
     }
 
-    /// The same run with another caller in the place of the library.
-    pub fn with(self, library: Caller) -> Run {
-        Run { library, ..self }
+    /// The same run, in which these mistakes are looked for.
+    pub fn seeking(self, sought: Vec<Sought<Caller>>) -> Run {
+        Run { sought, ..self }
+    }
+
+    fn is_over(&self) -> bool {
+        self.tally.cases >= self.least_cases || all_found(&self.sought)
     }
 
     /// Compares until enough cases are done; the fixed boards always are.
@@ -68,7 +73,7 @@ impl Run {
         for (rack, quantities, most_lines) in EVERY_BOARD_UP_TO {
             for lines in 0..=most_lines {
                 every_board(rack, quantities, lines, &mut |board| {
-                    if self.tally.cases < self.least_cases {
+                    if !self.is_over() {
                         self.small_board(&board)?;
                     }
                     Ok(())
@@ -94,7 +99,7 @@ impl Run {
     /// Mendings alone: the fixed ones, then those of seeded boards until enough cases are done.
     pub fn mendings(&mut self) -> Result<(), Difference> {
         self.fixed_mendings()?;
-        while self.tally.cases < self.least_cases {
+        while !self.is_over() {
             let size = self.seeded_size();
             let board = seeded_board(&mut self.random, size);
             let file = seeded_file(&mut self.random, &board);
@@ -128,7 +133,7 @@ impl Run {
     }
 
     fn seeded_boards(&mut self) -> Result<(), Difference> {
-        while self.tally.cases < self.least_cases {
+        while !self.is_over() {
             self.seeded_board()?;
         }
         Ok(())
@@ -424,13 +429,15 @@ impl Run {
     }
 
     fn case_with(&mut self, file: &[u8], call: Call, given: Given) -> Result<Outcome, Difference> {
-        let outcome = compare(self.library, file, &call, given, self.random.number())?;
+        let expected = Expected::of_call(file, &call, given, self.random.number());
+        let outcome = expected.compare()?;
         let number = match call {
             Call::Report { out } if out < REPORT_SPACE => SHORT_REPORT,
             Call::Report { .. } => refusal_in(&outcome.bytes),
             _ => outcome.returned as u32,
         };
         self.tally.count_call(number, call.column());
+        look(&mut self.sought, self.tally.cases, |caller| !expected.is_met_by(caller));
         Ok(outcome)
     }
 

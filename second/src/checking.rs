@@ -2,7 +2,7 @@
 
 use crate::board::{has, Answer, Board, Stage, MOST_TIPS};
 use crate::refusal;
-use crate::sharing::{pairs_in, tips_from_to};
+use crate::sharing::{pairs_in, stretches_from};
 
 /// The first reason why a table does not show that no plan has more pairs than are claimed.
 #[derive(Clone, Copy, PartialEq, Eq, Debug)]
@@ -28,18 +28,7 @@ impl Board {
         }
         let named = self.named_tips();
         for first in 0..m {
-            // The placements that each tip takes in the stretch: those of the lines lying within it that allow the tip.
-            let mut taken = [0; MOST_TIPS];
-            for last in first..m {
-                let stretch = tips_from_to(first, last);
-                // The lines that lie within this stretch, and not within the one that ends before its last tip.
-                for line in self.lines().filter(|line| line.set & !stretch == 0 && has(line.set, last)) {
-                    for tip in first..=last {
-                        if has(line.set, tip) {
-                            taken[tip] += u64::from(line.quantity);
-                        }
-                    }
-                }
+            for (last, taken) in stretches_from(self, first) {
                 let entry = entry_of(first, last);
                 for tip in first..=last {
                     if !has(named, tip) {
@@ -48,7 +37,8 @@ impl Board {
                     // An empty stretch beside the tip counts 0; 64 bits hold every sum.
                     let below = if tip > first { u64::from(entry_of(first, tip - 1)) } else { 0 };
                     let above = if tip < last { u64::from(entry_of(tip + 1, last)) } else { 0 };
-                    let needed = taken[tip] * taken[tip].saturating_sub(1) / 2 + below + above;
+                    let on_tip = taken[tip] * taken[tip].saturating_sub(1) / 2;
+                    let needed = u64::from(on_tip) + below + above;
                     if u64::from(entry) < needed {
                         return Some(TableFault::TooLow { first, last, tip, entry, needed });
                     }

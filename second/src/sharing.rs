@@ -1,6 +1,6 @@
 //! Quick sharing by rounds, and best sharing of runs; on a tie the mounted tip wins, where there is one.
 
-use crate::board::{has, Answer, Board, Line, Stage, MOST_TIPS};
+use crate::board::{has, Answer, Board, Stage, MOST_TIPS};
 use crate::refusal;
 
 /// The number of pairs when placements are on these tips: two different ones on one tip, counted once.
@@ -42,21 +42,29 @@ pub(crate) fn tips_from_to(first: usize, last: usize) -> u64 {
     set
 }
 
-/// The lines lying within the stretch a to b.
-fn lines_within(board: &Board, a: usize, b: usize) -> Vec<Line> {
-    let stretch = tips_from_to(a, b);
-    board.lines().filter(|line| line.set & !stretch == 0).collect()
+/// What each tip takes in a stretch: the placements of the lines lying within it that allow the tip.
+pub(crate) type Taken = [u32; MOST_TIPS];
+
+/// The last tip of each stretch that begins with the first, the shortest stretch first, and what each tip takes in it.
+pub(crate) fn stretches_from(board: &Board, first: usize) -> impl Iterator<Item = (usize, Taken)> + '_ {
+    let mut taken = [0; MOST_TIPS];
+    (first..board.rack).map(move |last| {
+        let stretch = tips_from_to(first, last);
+        // The lines that lie within this stretch, and not within the one that ends before its last tip.
+        for line in board.lines().filter(|line| has(line.set, last) && line.set & !stretch == 0) {
+            for tip in first..=last {
+                if has(line.set, tip) {
+                    taken[tip] += u32::from(line.quantity);
+                }
+            }
+        }
+        (last, taken)
+    })
 }
 
 /// The pairs of a stretch when its tip c is chosen: those on c and the most of the two stretches beside it.
-fn pairs_choosing(within: &[Line], table: &[u32], rack: usize, a: usize, b: usize, c: usize) -> u32 {
-    let mut taken = 0;
-    for line in within {
-        if has(line.set, c) {
-            taken += u32::from(line.quantity);
-        }
-    }
-    let on_tip = if taken == 0 { 0 } else { taken * (taken - 1) / 2 };
+fn pairs_choosing(taken: &Taken, table: &[u32], rack: usize, a: usize, b: usize, c: usize) -> u32 {
+    let on_tip = taken[c] * taken[c].saturating_sub(1) / 2;
     let below = if c > a { table[a * rack + c - 1] } else { 0 };
     let above = if c < b { table[(c + 1) * rack + b] } else { 0 };
     on_tip + below + above
@@ -87,10 +95,10 @@ fn lay_stretch(laying: &Laying, plan: &mut [u8], a: usize, b: usize) {
     if named & stretch == 0 {
         return;
     }
-    let within = lines_within(board, a, b);
+    let taken = stretches_from(board, a).find(|&(last, _)| last == b).expect("a stretch of the rack").1;
     let mut tied = Vec::new();
     for c in a..=b {
-        if has(named, c) && pairs_choosing(&within, table, board.rack, a, b, c) == table[a * board.rack + b] {
+        if has(named, c) && pairs_choosing(&taken, table, board.rack, a, b, c) == table[a * board.rack + b] {
             tied.push(c);
         }
     }
@@ -184,15 +192,13 @@ impl Board {
         for place in 0..m * m {
             table[place] = 0;
         }
-        // Shorter stretches first: a stretch rests on those beside its tip.
-        for width in 1..=m {
-            for a in 0..=m - width {
-                let b = a + width - 1;
-                let within = lines_within(&self, a, b);
+        // A stretch rests on those beside its tip, which begin later or end sooner.
+        for a in (0..m).rev() {
+            for (b, taken) in stretches_from(&self, a) {
                 let mut most = 0;
                 for c in a..=b {
                     if has(named, c) {
-                        most = most.max(pairs_choosing(&within, table, m, a, b, c));
+                        most = most.max(pairs_choosing(&taken, table, m, a, b, c));
                     }
                 }
                 table[a * m + b] = most;

@@ -9,9 +9,8 @@ use Rattle.goals.specs.Goal.{strike}
 use Rattle.line_calls.specs.Goal as Lines
 use Rattle.line_calls.proofs.PairGoal as laws
 use Rattle.board.specs.declared.Board.{Board}
-use Rattle.board.specs.declared.Answer.{Answer}
 use Rattle.board.specs.Board.{linesOf, quantitiesOf, stateRefusal, answer}
-use Rattle.board.specs.Goal.{struckBoard, goalOf, askedBefore, GoalRule}
+use Rattle.board.specs.Goal.{struckBoard, goalOf, GoalRule}
 use Rattle.board.proofs.Sets.{Full, ready}
 use Rattle.board.proofs.Replaced.{withSets, replaced-refused, replaced-lines, replaced-full, replaced-sound}
 

@@ -1,5 +1,4 @@
 -- A goal of no pairs is met by every plan: nothing is refused but what is refused before, and no tip is struck.
-use Prim.Native.Nat.{ℕ}
 use mathlib.Core.Path.{_≡_, refl, sym, ap, ap₂, _∙_}
 use mathlib.Core.List.{_++_}
 use native.Mathlib.Omega.{arith}
@@ -7,8 +6,7 @@ use lib.ListN.{length, drop, take-append-drop}
 use borrow.Author.Tests.{le-ltb}
 use Rattle.model.specs.Interval.{C}
 use Rattle.placements.specs.Repeated.{repeated}
-use Rattle.refusal.specs.declared.Refusal.{Refusal}
-use Rattle.refusal.specs.Refusal.{none, lentBy}
+use Rattle.refusal.specs.Refusal.{none}
 use Rattle.refusal.proofs.Laws.{or-next}
 use Rattle.call_refusals.specs.declared.Stage.the-variants.{Closed}
 use Rattle.goals.specs.Goal.{strike}

@@ -15,7 +15,7 @@ use mir.ValLaws.{toZ-ofZ}
 use lib.ListN.{length, getD}
 use borrow.Author.Tests.{eq-eqb, ne-eqb, eqb-true, eqb-false, lt-ltb, le-ltb, ltb-false}
 use Rattle.model.specs.Count.{All, firstFail}
-use Rattle.model.specs.Choice.{Mounted, bare}
+use Rattle.model.specs.Choice.{Mounted}
 use Rattle.model.specs.Plan.{Domain}
 use Rattle.model.specs.Interval.{named, isRunOf, Misses}
 use Rattle.model.specs.Limits.{mostTips, mostLines, mostPlacements}
@@ -24,7 +24,7 @@ use Rattle.model.proofs.Lists.{all-at}
 use Rattle.model.proofs.Fails.{none-fails, fails-at, fails-first}
 use Rattle.model.proofs.Run.{run-misses, broken-misses}
 use Rattle.refusal.specs.declared.Refusal.{Refusal}
-use Rattle.refusal.specs.Refusal.{refuse, accepts, orElse, when, scan}
+use Rattle.refusal.specs.Refusal.{refuse, accepts, orElse, when}
 use Rattle.refusal.proofs.Laws.{or-first, or-next, or-none, when-none, scan-none, scan-passes, scan-at}
 use Rattle.job.specs.Job.{fileLength, lineNumber}
 use Rattle.job.proofs.Reading.{line-number}
@@ -141,11 +141,6 @@ module _ (earlier : Refusal) where
       by : (t : Bool) → accepts earlier ≡ t → mountedRefusal earlier m mounted ≡ mountedRefusal earlier n mounted
       by true e = rw (same (eqb-true (earlier .number) 0 e)) refl
       by false e = let h = eqb-false (earlier .number) 0 e in sym (mounted-earlier m mounted h) ∙ mounted-earlier n mounted h
-
-  -- without a mounted tip nothing more is refused
-  pub mounted-bare : (m : ℕ) → mountedRefusal earlier m bare ≡ earlier
-  unfolding mountedRefusal
-  mounted-bare m = refl
 
   -- the plan buffer has a byte a line
   pub plan-none : (n room : ℕ) → (planRefusal earlier n room) .number ≡ 0 → (earlier .number ≡ 0) × (n ≤ room)

@@ -110,10 +110,6 @@ pub on-at : (ys : List ℕ) (t : ℕ) → t < mostTips → getD (onTips ys) t 0 
 unfolding onTips
 on-at ys t l = listOf-at (uses ys) mostTips t l
 
-pub length-on : (ys : List ℕ) → length (onTips ys) ≡ mostTips
-unfolding onTips
-length-on ys = length-listOf (uses ys) mostTips
-
 module _ (qs plan : List ℕ) (same : length qs ≡ length plan) (few : total qs ≤ mostPlacements) where
   placed-few : (i : ℕ) → length (placed qs plan i) ≤ mostPlacements
   placed-few i =

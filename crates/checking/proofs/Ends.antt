@@ -7,11 +7,11 @@ use mathlib.Core.Bool.{Bool, true, false, _&&_}
 use mathlib.Core.List.{List}
 use lib.Dec.{leb}
 use borrow.Author.Tests.{le-leb, lt-leb}
-use lib.ListN.{length, getD, take, drop, length-take, length-drop}
-use lib.Seq.{getD-take, getD-drop}
+use lib.ListN.{length, getD}
 use Rattle.model.specs.Limits.{mostTips}
 use Rattle.model.specs.Count.{every}
 use Rattle.model.specs.Plan.{choose2}
+use Rattle.model.proofs.Loops.{part, part-length, part-at}
 use Rattle.model.proofs.Cong.{every-cong}
 use Rattle.spans.specs.Spans.{sumsSize, sumAt, insideBy}
 use Rattle.goals.specs.Check.{entry}
@@ -30,16 +30,6 @@ every-first f (suc n) = ap (λ b. b && f (suc n)) (every-first f n) ∙ and-asso
     and-assoc : (a b c : Bool) → ((a && b) && c) ≡ (a && (b && c))
     and-assoc true b c = refl
     and-assoc false b c = refl
-
--- the part of a list from place s to before e
-abbrev pub part : ℕ → ℕ → List ℕ → List ℕ
-part s e xs = take (e - s) (drop s xs)
-
-part-length : (xs : List ℕ) (s e : ℕ) → e ≤ length xs → length (part s e xs) ≡ e - s
-part-length xs s e h = simp (length-take, length-drop) (omega arith)
-
-part-at : (xs : List ℕ) (s e i k : ℕ) → i < e - s → s + i ≡ k → getD (part s e xs) i 0 ≡ getD xs k 0
-part-at xs s e i k h p = getD-take (e - s) _ i 0 h ∙ getD-drop s xs i 0 ∙ ap (λ j. getD xs j 0) p
 
 -- a difference that may be below zero, added
 shifted : (n s o h : ℕ) → (s + o) % 2 ^ 32 ≡ h → s < 2 ^ 32 → o ≤ n + h → n + h ≤ 4096 → (n + s) % 2 ^ 32 ≡ n + h - o

@@ -12,12 +12,10 @@ use lib.ListN.{length, getD, drop, length-drop, drop-of-length-le}
 use lib.Pow.{pow-mono, pow-pos}
 use lib.Seq.{drop-cons}
 use borrow.Author.Tests.{lt-ltb, le-ltb, ne-eqb}
-use Rattle.model.specs.Choice.{bare, choice}
 use Rattle.model.specs.Count.{largest, lowestAt}
 use Rattle.model.specs.Plan.{has}
 use Rattle.model.specs.Interval.{low}
 use Rattle.model.specs.CommonTip.{setOf, top, W}
-use Rattle.model.specs.Greedy.{busiest}
 use Rattle.model.proofs.Tests.{test, le-or-lt, same-test, and-left, and-right, and-in}
 use Rattle.model.proofs.Largest.{largest-cong, largest-ge, lowest-lt, lowest-attains, lowest-first}
 use Rattle.model.proofs.Sets.{has-some, some-tip, setOf-lt, setOf-cong, has-setOf, has-and, covers-or}
@@ -276,10 +274,6 @@ module _ {lines planes : List ℕ} (c : Counts lines planes) (m : ℕ) where
   pub largest-top : largest (countAt planes) m ≡ top m lines
   unfolding top
   largest-top = largest-cong _ _ m (λ t _. c .counted t)
-
-  pub lowest-busiest : lowestAt (countAt planes) m ≡ busiest bare lines m
-  unfolding busiest choice
-  lowest-busiest = lowest-cong _ _ m (λ t _. c .counted t)
 
   pub tips-W : {n : ℕ} → n ≡ top m lines → busyTips (countAt planes) n m ≡ W m lines
   unfolding W

@@ -1,5 +1,5 @@
 -- Lines of equal set and quantity have the same tips that meet the goal: the placements of the others differ in their order alone.
-use Prim.Native.Nat.{ℕ, _+_, _<_}
+use Prim.Native.Nat.{ℕ, _<_}
 use native.Mathlib.Omega.{arith}
 use mathlib.Core.Path.{_≡_, ap, ap₂}
 use mathlib.Core.Bool.{Bool, _&&_}

@@ -4,7 +4,7 @@ use native.Mathlib.Omega.{arith}
 use mathlib.Core.Path.{_≡_}
 use mathlib.Core.Bool.{Bool, cond}
 use mathlib.Core.List.{List}
-use lib.ListN.{length, getD, take, set, length-set}
+use lib.ListN.{length, take, set, length-set}
 use lib.Seq.{getD-set-same, take-set-le}
 use Rattle.placements.specs.Repeated.{total, weighted}
 use Rattle.placements.proofs.Loops.{total-more, weighted-more}

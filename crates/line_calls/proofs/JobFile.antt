@@ -1,10 +1,10 @@
 -- Writing the file of lines, refused and accepted.
 use Prim.Native.Nat.{ℕ}
-use mathlib.Core.Path.{_≡_, refl, sym, _∙_}
+use mathlib.Core.Path.{_≡_, refl}
 use mathlib.Core.List.{List, _++_}
 use lib.ListN.{length, drop}
 use Rattle.refusal.specs.declared.Refusal.{Refusal}
-use Rattle.refusal.proofs.Laws.{or-first, or-same, refused, accepted, lent-refused, lent-accepted}
+use Rattle.refusal.proofs.Laws.{or-first, refused, accepted, lent-refused, lent-accepted}
 use Rattle.call_refusals.specs.Calls.{writeRefusal}
 use Rattle.job.specs.Job.{fileLength, versionFor, writtenOf}
 use Rattle.line_calls.specs.declared.FileAnswer.{FileAnswer}

@@ -5,7 +5,6 @@ use mathlib.Core.Logic.{_↔_, ⊎-elim}
 use mathlib.Core.Bool.{Bool, true, false, cond, true≢false}
 use mathlib.Core.List.{List, _++_}
 use native.Mathlib.Omega.{arith}
-use lib.Dec.{T}
 use lib.IntN.{ℤ, pos, negsuc}
 use lib.ListN.{length, take, drop, take-append-drop}
 use lib.Signed.{ltZ}
@@ -26,8 +25,8 @@ use Rattle.common_tip.specs.Common.{keptLines}
 use Rattle.common_tip.proofs.Laws.{margin-small}
 use Rattle.common_tip.proofs.Signed.{zero-fits}
 use Rattle.refusal.specs.declared.Refusal.{Refusal}
-use Rattle.refusal.specs.Refusal.{none, accepts, orElse, when, lentBy}
-use Rattle.refusal.proofs.Laws.{or-first, when-taken}
+use Rattle.refusal.specs.Refusal.{accepts, orElse, when, lentBy}
+use Rattle.refusal.proofs.Laws.{when-taken}
 use Rattle.call_refusals.specs.Calls.{isNegative, keepRefusal}
 use Rattle.call_refusals.proofs.Calls.{keep-none}
 use Rattle.line_calls.specs.declared.KeepAnswer.{KeepAnswer}

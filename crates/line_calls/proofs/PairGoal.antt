@@ -9,7 +9,7 @@ use lib.Dec.{T}
 use lib.ListN.{length, take, drop, take-append-drop}
 use borrow.Author.Tests.{eqb-true, eqb-false}
 use Rattle.model.specs.Count.{All}
-use Rattle.model.specs.Interval.{named, isRunOf, Misses}
+use Rattle.model.specs.Interval.{named, isRunOf}
 use Rattle.model.proofs.Lists.{all-map, all-both}
 use Rattle.model.proofs.Run.{run-misses}
 use Rattle.placements.specs.Good.{GoodLines}

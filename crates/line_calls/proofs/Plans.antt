@@ -1,12 +1,10 @@
 -- Quick and best sharing of lines: what they answer and leave, refused and accepted, and the rules of the plans handed out.
-use Prim.Native.Nat.{ℕ, _*_, _≤_}
-use mathlib.Core.Path.{_≡_, refl, sym, ap, _∙_}
+use Prim.Native.Nat.{ℕ, _*_}
+use mathlib.Core.Path.{_≡_, refl, sym, _∙_}
 use mathlib.Core.List.{List, _++_}
-use native.Mathlib.Omega.{arith}
 use lib.Dec.{T}
-use lib.ListN.{length, take, drop}
+use lib.ListN.{length, drop}
 use lib.Seq.{take-at}
-use borrow.Author.Tests.{eq-eqb, ne-eqb}
 use Rattle.model.specs.Plan.{Valid, pairs}
 use Rattle.model.specs.Choice.{Mounted}
 use Rattle.model.specs.Count.{All}
@@ -19,8 +17,7 @@ use Rattle.placements.specs.Good.{GoodLines}
 use Rattle.placements.specs.Plans.{quickPlanQ, bestPlanQ}
 use Rattle.placements.proofs.Plans.{quick-valid-lines, quick-half-placements, best-valid-lines, best-pairs-placements, best-placements}
 use Rattle.refusal.specs.declared.Refusal.{Refusal}
-use Rattle.refusal.specs.Refusal.{told}
-use Rattle.refusal.proofs.Laws.{number-of, number-not, or-same, refused, accepted, lent-refused, lent-accepted}
+use Rattle.refusal.proofs.Laws.{number-of, or-same, refused, accepted, lent-refused, lent-accepted}
 use Rattle.call_refusals.specs.Calls.{planRefusal, bestRefusal}
 use Rattle.call_refusals.proofs.Calls.{best-none}
 use Rattle.line_calls.specs.declared.PlanAnswer.{PlanAnswer}

@@ -2,7 +2,7 @@
 use Prim.Native.Nat.{ℕ, _*_, _-_}
 use mathlib.Core.Bool.{cond}
 use mathlib.Core.List.{List}
-use lib.IntN.{ℤ, pos}
+use lib.IntN.{pos}
 use lib.ListN.{length, take}
 use Rattle.model.specs.Plan.{pairs}
 use Rattle.model.specs.Choice.{Mounted}

@@ -1,23 +1,22 @@
 -- Keep within k: pruning keeps exactly the consistent tips, Theorem 1 of source 000.
 use Prim.Native.Nat.{ℕ, _+_, _^_, _≤_, _<_}
 use native.Mathlib.Omega.{arith}
-use mathlib.Core.Path.{_≡_, refl, _∙_}
+use mathlib.Core.Path.{_≡_, refl}
 use mathlib.Core.Logic.{_↔_, _≢_, ⊎-elim}
 use mathlib.Core.Bool.{Bool, true, false, not, cond}
-use mathlib.Core.List.{List, map, map-id}
+use mathlib.Core.List.{List, map}
 use lib.ListN.{length, getD, set, length-set, length-map}
 use lib.Seq.{getD-set-same}
 use lib.Dec.{T, T-not, not-T, eqb, eqb→eq, eqb-refl}
 use lib.Bits.{bitAnd}
 use store.Seg.{eqb-same}
-use borrow.Author.Tests.{eq-eqb, ne-eqb}
 use Rattle.model.specs.Count.{All, lowestAt}
 use Rattle.model.specs.Plan.{has, occ, uses, Domain}
 use Rattle.model.specs.Choice.{bare}
 use Rattle.model.specs.Greedy.{busiest}
 use Rattle.model.specs.CommonTip.{top, W, covers, narrowed, kept, prune, mostUsed, off, Supported, Exact}
 use Rattle.model.proofs.Tests.{test, true-T, false-T, eqb-T, cond-case, one-le, one-T}
-use Rattle.model.proofs.Lists.{all, map-cong, all-mapped, all-at, all-getD, getD-map, count-pos, count-set}
+use Rattle.model.proofs.Lists.{all, all-mapped, all-at, all-getD, getD-map, count-pos, count-set}
 use Rattle.model.proofs.Largest.{largest-ge, lowest-lt, lowest-attains}
 use Rattle.model.proofs.Sets.{has-some, covers-or, covers-iff, covers-and}
 use Rattle.model.proofs.Occ.{occ-le, top-le, busiest-lt}
@@ -149,13 +148,3 @@ module _ {m : ℕ} {lines : List ℕ} (k : ℕ) (some : 0 < m) (ds : All (Domain
 
         at : (i : ℕ) → i < length lines → getD (map f lines) i 0 ≡ f (getD lines i 0)
         at = getD-map f 0 0 lines
-
--- what pruning gives at margin zero, and at any other margin
-module _ (m : ℕ) (lines : List ℕ) (k : ℕ) where
-  pub prune-level : length lines ≡ top m lines + k → prune m lines k ≡ map (narrowed m (W m lines)) lines
-  unfolding prune kept
-  prune-level e = map-cong (all (λ s. rw (eq-eqb (length lines) (top m lines + k) e)) lines)
-
-  pub prune-else : (length lines ≡ top m lines + k → ⊥) → prune m lines k ≡ lines
-  unfolding prune kept
-  prune-else n = map-cong {h = λ s. s} (all (λ s. rw (ne-eqb (length lines) (top m lines + k) n)) lines) ∙ map-id lines

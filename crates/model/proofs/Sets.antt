@@ -142,19 +142,6 @@ has-setOf f (suc m) (suc t) =
     let g : ℕ → Bool = λ u. f (suc u) in
     rw (setOf-low f m, has-suc, has-low-digit (f 0) (setOf g m) .1, leb·suc-suc) (has-setOf g m t)
 
-module _ (f : ℕ → Bool) (m : ℕ) where
-  -- a tip that passes, where the set is not empty
-  pub setOf-some : (setOf f m ≡ 0 → ⊥) → (t : ℕ) × T (f t) × (t < m)
-  setOf-some n =
-      let (t, h, l) = some-tip {m = m} {s = setOf f m} (record { some = pos-of-ne-zero n; below = setOf-lt f m }) in
-      (t, and-right (ltb t m) (f t) (rw (has-setOf f m t) at h), l)
-
-  -- and none, where it is
-  pub setOf-empty : setOf f m ≡ 0 → (t : ℕ) → t < m → T (f t) → ⊥
-  setOf-empty z t l y =
-      let own : T (has (setOf f m) t) = rw (has-setOf f m t) (and-in (ltb t m) (f t) (lt→ltb t m l) y) in
-      omega (arith, has-some (setOf f m) t own)
-
 -- ---- sets and bits
 
 pub and-digit : (a b t : ℕ) → bitAnd a b / 2 ^ t % 2 ≡ min (a / 2 ^ t % 2) (b / 2 ^ t % 2)

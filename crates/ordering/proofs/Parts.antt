@@ -1,12 +1,9 @@
 -- The placing order is the least that obeys; and which part precedes which by their flags.
-use Prim.Native.Nat.{ℕ, zero, suc, _+_, _≤_, _<_}
-use native.Mathlib.Numerals.{add-one}
-use native.Mathlib.Omega.{arith}
-use mathlib.Core.Path.{_≡_, ap, sym, _∙_}
-use mathlib.Core.Bool.{Bool, true, false, not, _&&_, _||_, or-false, or-assoc}
-use mathlib.Core.List.{List, [], _∷_}
+use Prim.Native.Nat.{ℕ, _≤_, _<_}
+use mathlib.Core.Bool.{Bool, true, false, not, _&&_, _||_}
+use mathlib.Core.List.{List}
 use lib.Dec.{T, ltb, leb, ltb→lt}
-use lib.ListN.{length, take, getD}
+use lib.ListN.{length}
 use Rattle.model.specs.Count.{each}
 use Rattle.model.proofs.Tests.{and-right, and-in}
 use Rattle.model.proofs.Lists.{all-at, each-iff}
@@ -14,7 +11,7 @@ use Rattle.model.proofs.Fails.{none-fails}
 use Rattle.ordering.specs.declared.Part.{Part}
 use Rattle.ordering.specs.declared.Rule.{Rule}
 use Rattle.ordering.specs.Order.{Least}
-use Rattle.ordering.specs.Parts.{noRule, partAt, names, ruled, finePitch, byFlags, windowOk, taskOf, placingOrder}
+use Rattle.ordering.specs.Parts.{partAt, finePitch, byFlags, windowOk, taskOf, placingOrder}
 use Rattle.ordering.specs.Call.{firstBad}
 use Rattle.ordering.proofs.Least.{least-order}
 
@@ -42,18 +39,6 @@ placing-order parts rules w = least-order (taskOf parts rules) (last-below parts
 -- each window is good where the first bad one is past the parts
 pub windows-good : (parts : List Part) → length parts ≤ firstBad parts → T (each (windowOk (length parts)) parts)
 windows-good parts l = each-iff (windowOk (length parts)) parts .1 (none-fails (windowOk (length parts)) parts l)
-
--- one rule more among the first i
-pub ruled-more : (rules : List Rule) (i a b : ℕ) → i < length rules
-    → ruled (take (i + 1) rules) a b ≡ (ruled (take i rules) a b || names (getD rules i noRule) a b)
-unfolding ruled
-ruled-more rules i a b l = rw (add-one, go rules i l)
-  where
-    go : (rs : List Rule) (j : ℕ) → j < length rs
-        → ruled (take (suc j) rs) a b ≡ (ruled (take j rs) a b || names (getD rs j noRule) a b)
-    go [] j k = absurd (omega arith)
-    go (r ∷ rs) zero k = or-false (names r a b)
-    go (r ∷ rs) (suc j) k = ap (λ x. names r a b || x) (go rs j (omega arith)) ∙ sym (or-assoc (names r a b) _ _)
 
 -- a fine part precedes each part that is not fine
 pub fine-first : (x y : Part) → T (finePitch x) → T (not (finePitch y)) → T (byFlags x y)

@@ -10,6 +10,5 @@ pub mod CommonTip
 pub mod Scarce
 pub mod Exact
 pub mod Ones
-pub mod Bound
 pub mod Loops
 pub mod PairSum

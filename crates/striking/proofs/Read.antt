@@ -106,10 +106,6 @@ module _ {names m q : ℕ} {lines xs : List ℕ} (k : RunSums names m q lines xs
     meeting-ge m lines l h a w c e f g p r n,
   ))
 
-  -- fewer more
-  pub with-none : RunSums names m 0 lines xs
-  with-none = record { rack = k .rack; few = omega (arith, k .few); runs = k .runs; summed = k .summed }
-
   -- THE PAIRS BY THE SUMS are those of the lines
   pub pairs-same : (p a w c : ℕ) → a + w ≤ m → a ≤ c → c < a + w → pairsBy names m xs p a w c ≡ choose2 (inside lines a w c + p)
   unfolding pairsBy inside

@@ -2,27 +2,17 @@
 use Prim.Native.Nat.{ℕ, suc, _+_, _*_, _-_, _≤_, _<_, max}
 use native.Mathlib.Omega.{arith}
 use native.Mathlib.Nat.{mul-le-mul}
-use mathlib.Core.Path.{_≡_, ap, _∙_}
+use mathlib.Core.Path.{_≡_, _∙_}
 use mathlib.Core.List.{List}
 use lib.Arith.{digits-lt}
-use lib.ListN.{length, getD, take, drop, length-take, length-drop}
-use lib.Seq.{getD-take, getD-drop}
+use lib.ListN.{length, getD}
 use Rattle.model.specs.Limits.{mostTips}
 use Rattle.model.specs.Count.{largest}
+use Rattle.model.proofs.Loops.{part, part-length, part-at}
 use Rattle.model.proofs.Largest.{largest-cong, largest-first}
 use Rattle.spans.specs.Spans.{sumsWidth, sumsSize, sumAt}
 use Rattle.spans.proofs.Below.{sums-mono}
 use Rattle.table.specs.Cells.{splitOf, splitAt, largestAt, SplitLists, leftOf, splitFrom, cellBy, Cell}
-
--- the part of a list from place s to before e
-abbrev pub part : ℕ → ℕ → List ℕ → List ℕ
-part s e xs = take (e - s) (drop s xs)
-
-part-length : (xs : List ℕ) (s e : ℕ) → e ≤ length xs → length (part s e xs) ≡ e - s
-part-length xs s e h = simp (length-take, length-drop) (omega arith)
-
-part-at : (xs : List ℕ) (s e i k : ℕ) → i < e - s → s + i ≡ k → getD (part s e xs) i 0 ≡ getD xs k 0
-part-at xs s e i k h p = getD-take (e - s) _ i 0 h ∙ getD-drop s xs i 0 ∙ ap (λ j. getD xs j 0) p
 
 module _ {m a b : ℕ} {xs allows column table : List ℕ} (k : Cell m a b xs allows column table) where
   -- the places of row a are in the table, which is not large

@@ -5,12 +5,11 @@ use mathlib.Core.Path.{_≡_, sym, _∙_}
 use mathlib.Core.Logic.{⊎-elim}
 use mathlib.Core.Bool.{true, cond}
 use mathlib.Core.List.{List}
-use lib.Dec.{T}
 use lib.ListN.{length, getD, set}
 use lib.Seq.{getD-set-same, getD-set-other}
 use Rattle.model.specs.Plan.{has}
 use Rattle.model.proofs.Tests.{le-or-lt, true-T, one-le, one-T}
-use Rattle.unplanned.specs.Listed.{Rising, Found}
+use Rattle.unplanned.specs.Listed.{Found}
 
 pub found-none : (tip : ℕ) (list sets places : List ℕ) → Found tip 0 list sets 0 places
 found-none tip list sets places = record {

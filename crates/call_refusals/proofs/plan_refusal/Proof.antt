@@ -1,4 +1,4 @@
-use mathlib.Core.Path.{refl, _∙_}
+use mathlib.Core.Path.{refl}
 use Rattle.refusal.proofs.Laws.{or-first, or-next}
 use Rattle.call_refusals.specs.Calls.{planRefusal}
 use borrow.Author.Needs.{needs}

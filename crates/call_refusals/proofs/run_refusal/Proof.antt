@@ -1,4 +1,3 @@
-use mathlib.Core.Path.{refl, _∙_}
 use Rattle.refusal.specs.Refusal.{scan}
 use borrow.Author.Needs.{needs}
 use Rattle.call_refusals.proofs.run_refusal.Statement.{statement}

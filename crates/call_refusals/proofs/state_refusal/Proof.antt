@@ -1,4 +1,3 @@
-use mathlib.Core.Path.{refl}
 use Rattle.refusal.proofs.Laws.{or-first, or-next}
 use Rattle.call_refusals.specs.State.{stateRefusal}
 use borrow.Author.Needs.{needs}

@@ -1,4 +1,4 @@
-use mathlib.Core.Path.{refl, _∙_}
+use mathlib.Core.Path.{refl}
 use native.Mathlib.Omega.{arith}
 use Rattle.refusal.proofs.Laws.{or-first, or-next}
 use Rattle.job.proofs.Lines.{file-few}

@@ -4,7 +4,7 @@ use lib.ListN.{length}
 use Rattle.head.specs.OnHead.{onHead, chosen as chosenOf}
 use Rattle.unplanned.proofs.InOrder.{all-unplanned}
 use borrow.Author.Needs.{needs}
-use Rattle.greedy.proofs.Round.{toPlan, State, Sizes, Ongoing, Begun, Chosen, start, few-placements, each-empty, none-listed}
+use Rattle.greedy.proofs.Round.{toPlan, Sizes, Ongoing, Begun, Chosen, start, few-placements, each-empty, none-listed}
 use Rattle.greedy.proofs.Round.{still-fit, round-ready, pairs-fit, next, next-fewer, end-left, end-plan, end-pairs}
 use Rattle.greedy.proofs.take_rounds.Statement.{statement}
 use Rattle.greedy.proofs.take_rounds.Tie as tie

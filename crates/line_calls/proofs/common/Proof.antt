@@ -3,7 +3,6 @@ use lib.ListN.{take}
 use lib.Seq.{length-take-le}
 use Rattle.placements.specs.Good.{GoodLines}
 use Rattle.line_calls.proofs.CommonTip.{common-refused, common-accepted}
-use borrow.Author.Needs.{needs}
 use Rattle.line_calls.proofs.common.Statement.{statement}
 use Rattle.line_calls.proofs.common.Tie as tie
 

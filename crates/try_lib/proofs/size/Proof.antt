@@ -1,5 +1,5 @@
 use mathlib.Core.Path.{_≡_}
-use mathlib.Core.Bool.{true, false}
+use mathlib.Core.Bool.{true}
 use lib.IntN.{pos, _-ℤ_}
 use lib.Signed.{ltZ}
 use mir.Syntax.{w32, w64}

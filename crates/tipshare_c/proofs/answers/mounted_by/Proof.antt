@@ -1,4 +1,3 @@
-use borrow.Author.Needs.{needs}
 use borrow.Author.Tests.{eq-eqb, ne-eqb}
 use Rattle.tipshare_c.proofs.answers.mounted_by.Statement.{statement}
 use Rattle.tipshare_c.proofs.answers.mounted_by.Tie as tie
