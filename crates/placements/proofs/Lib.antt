@@ -10,5 +10,6 @@ pub mod CommonTip
 pub mod Scarce
 pub mod Exact
 pub mod Ones
+pub mod Bound
 pub mod Loops
 pub mod PairSum
