@@ -48,19 +48,30 @@ slice-aggregate-greedy-order-2 c = search needs
 slice-aggregate-greedy-order-3 : tie.Need-slice-aggregate-greedy-order-3
 slice-aggregate-greedy-order-3 c = search needs
 
--- the start of the call, and the last positions settled
-abbrev first : tie.After-settle-lasts → tie.After-first-parts
-first c = c .before .before .before .before .before .before .before .before .before .before .before .before .before .before
+-- all parts, before they are put by their last positions; and these positions, before they are settled
+abbrev first : tie.After-ends-high → tie.After-first-parts
+first c = c .before .before .before .before .before .before
+
+abbrev put : tie.After-levels → tie.After-put-parts
+put c = c .before .before .before .before .before .before
+
+-- all parts, and the start of the call, once the last positions are settled
+abbrev first-2 : tie.After-settle-lasts → tie.After-first-parts
+first-2 c = first (put (c .before) .before)
 
 abbrev begun : tie.After-settle-lasts → tie.Start
-begun c = first c .before .before .before .before .before .before
+begun c = first-2 c .before .before .before .before .before .before
 
-abbrev settled : tie.After-greedy-order-arg2 → tie.After-settle-lasts
-settled c = c .before .before .before .before .before .before .before .before .before .before
+-- the last positions settled, once all is known again; and before the order is picked
+abbrev settled : tie.After-levels2 → tie.After-settle-lasts
+settled c = c .before .before .before .before .before
+
+abbrev settled-2 : tie.After-greedy-order-arg2 → tie.After-settle-lasts
+settled-2 c = settled (c .before .before .before .before .before)
 
 greedy-order-requires : tie.Need-greedy-order-requires
 greedy-order-requires c κs =
-    let o = settled c in
+    let o = settled-2 c in
     let s = o .settle-lasts in
     let g = begun o in
     let e : length (s .last .1 .1 .1 .0) ≡ length (g .args .lasts .now) = s .kept .1 .1 .1 .0 in
@@ -74,7 +85,7 @@ greedy-order-requires c κs =
       omega (arith, e, g .pre .1),
       rw e (g .pre .2),
       rw e (s .ensures .1 .0),
-      rw e (first o .first-parts .ensures),
+      rw e (first-2 o .first-parts .ensures),
       rw e (s .ensures .1 .1 .0),
       s .ensures .1 .1 .1,
     )
@@ -88,7 +99,7 @@ same-length-2 c = search needs
 returns : tie.Need-returns
 returns c =
     let g = c .before .before .before in
-    let o = settled (g .before) in
+    let o = settled-2 (g .before) in
     let a = begun o .args in
     let s = o .settle-lasts in
     g .greedy-order .ensures ∙ least-settled (a .firsts .now) (a .lasts .now) (a .low .now) (a .high .now) (s .last .1 .1 .1 .0)

@@ -9,8 +9,16 @@ use Rattle.spans.proofs.Below.{sums-mono, lent}
 use Rattle.striking.proofs.strike.Statement.{statement}
 use Rattle.striking.proofs.strike.Tie as tie
 
+-- the call's start, once the sums' size is known
 abbrev start : tie.After-sums-size → tie.Start
 start c = c .before .before .before .before
+
+-- the lines struck, for a small rack and for any
+abbrev struck : tie.After-struck → tie.After-strike-in
+struck c = c .before .before .before .before .before .before
+
+abbrev struck' : tie.After-struck2 → tie.After-strike-in2
+struck' c = c .before .before .before .before .before .before
 
 -- a small rack: there is room for the sums of all lines, and for those of the others
 module _ (c : tie.After-small-sums2) where
@@ -78,7 +86,7 @@ same-length : tie.Need-same-length
 same-length c = search needs
 
 returns : tie.Need-returns
-returns c = c .before .before .before .before .before .before .before .strike-in .ensures
+returns c = struck (c .before) .strike-in .ensures
 
 most-sums-requires : tie.Need-most-sums-requires
 most-sums-requires c κs = search needs
@@ -122,7 +130,7 @@ same-length-2 : tie.Need-same-length-2
 same-length-2 c = search needs
 
 returns-2 : tie.Need-returns-2
-returns-2 c = c .before .before .before .before .before .before .before .strike-in2 .ensures
+returns-2 c = struck' (c .before) .strike-in2 .ensures
 
 pub strike-spec : {M : Type 1} → statement M
 strike-spec =

@@ -19,13 +19,26 @@ Inv-loop names m lines quantities goal pairs sums inner upper rest₀ outer₀ s
 abbrev μ-loop : tie.MeasureT-loop
 μ-loop names m lines quantities goal pairs sums inner upper rest₀ outer₀ struck₀ i₀ rest outer struck i = length lines - i
 
--- the call's start, from the loop
-abbrev start : tie.At-loop Inv-loop μ-loop → tie.Start Inv-loop μ-loop
-start c = c .before .before .before .before .before .before .before .before .before .before
+-- the call's start, once what is only read is known; once all is known; and from the loop
+abbrev listed : tie.After-shared-slice-known6 Inv-loop μ-loop → tie.Start Inv-loop μ-loop
+listed c = c .before .before .before .before .before .before
 
--- the loop, from the set found
-abbrev looped : tie.After-struck-set Inv-loop μ-loop → tie.In-loop Inv-loop μ-loop
-looped c = c .before .before .before .before
+abbrev begun : tie.After-slice-known3 Inv-loop μ-loop → tie.Start Inv-loop μ-loop
+begun c = listed (c .before .before .before)
+
+abbrev start : tie.At-loop Inv-loop μ-loop → tie.Start Inv-loop μ-loop
+start c = begun (c .before)
+
+-- the loop, before the line's set is sought
+abbrev looped : tie.After-struck-set-arg3 Inv-loop μ-loop → tie.In-loop Inv-loop μ-loop
+looped c = c .before .before .before
+
+-- the set found, once it is to be stored; and the loop from there
+abbrev found : tie.After-slice-known5 Inv-loop μ-loop → tie.After-struck-set Inv-loop μ-loop
+found c = c .before .before .before .before
+
+abbrev at : tie.After-slice-known5 Inv-loop μ-loop → tie.In-loop Inv-loop μ-loop
+at c = looped (found c .before)
 
 -- the tips of each line
 abbrev tips : tie.At-loop Inv-loop μ-loop → ℕ → ℕ
@@ -33,18 +46,15 @@ tips c =
     let args = start c .args in
     goalTips (args .m) (args .quantities .now) (args .lines .now) (args .goal)
 
-abbrev at : tie.After-slice-known5 Inv-loop μ-loop → tie.In-loop Inv-loop μ-loop
-at c = looped (c .before .before .before .before)
-
 loop-holds : tie.Need-loop-holds Inv-loop μ-loop
 unfolding listOf
 loop-holds c =
-    let p = c .before .before .before .before .before .before .before .before .before .pre in
+    let p = begun c .pre in
     (search needs, p .4, refl, p .6, refl)
 
 struck-set-requires : tie.Need-struck-set-requires Inv-loop μ-loop
 struck-set-requires c κs =
-    let b = c .before .before .before in
+    let b = looped c in
     let p = start (b .before) .pre in
     let v = b .before .loop .inv in (
       p .0,
@@ -81,7 +91,7 @@ loop-again c =
       c .before .before .before .rest .given ∙ l .inv .1,
       c .before .outer .given ∙ l .inv .2,
       rw length-set (l .inv .3),
-      filled-more (tips (b .before)) (l .struck) (l .i) _ below (l .inv .4) (c .before .before .before .before .struck-set .ensures),
+      filled-more (tips (b .before)) (l .struck) (l .i) _ below (l .inv .4) (found c .struck-set .ensures),
     )
 
 same-length : tie.Need-same-length Inv-loop μ-loop

@@ -15,15 +15,32 @@ use Rattle.striking.proofs.One.{one-tip}
 use Rattle.striking.proofs.struck_set.Statement.{statement}
 use Rattle.striking.proofs.struck_set.Tie as tie
 
--- the call's start
+-- the call's start, once the lines and their sums are known; and once all the slices are
+abbrev listed : tie.After-shared-slice-known4 → tie.Start
+listed c = c .before .before .before .before
+
+abbrev lent : tie.After-slice-known2 → tie.Start
+lent c = listed (c .before .before .before .before .before)
+
+-- the call's start, from the line's ends, from the equal line found, from the quantity and from the sums of the others
 abbrev start : tie.After-highest → tie.Start
-start c = c .before .before .before .before .before .before .before .before .before .before .before .before
+start c = lent (c .before .before .before)
 
 abbrev found : tie.After-first-same → tie.Start
 found c = start (c .before .before)
 
+abbrev counted : tie.After-shared-slice-known10 → tie.Start
+counted c = found (c .before .before)
+
 abbrev begun : tie.After-sums-without → tie.Start
-begun c = found (c .before .before .before .before)
+begun c = counted (c .before .before)
+
+-- the sums of the others, once they are known; and before the tips are kept
+abbrev summed : tie.After-slice-known3 → tie.After-sums-without
+summed c = c .before .before
+
+abbrev summed-2 : tie.After-kept-tips-arg2 → tie.After-sums-without
+summed-2 c = summed (c .before .before)
 
 -- the quantity of the line, and the placements of all lines and of the others
 module _ (c : tie.Start) where
@@ -55,7 +72,7 @@ known-of c =
 
 mul-line : tie.Need-mul-line
 mul-line c =
-    let p = c .before .before .before .before .before .before .before .before .before .pre in
+    let p = lent c .pre in
     record { fits = omega (arith, p .2, p .0 .good .few-lines) }
 
 shared-slice-read-line : tie.Need-shared-slice-read-line
@@ -80,7 +97,9 @@ first-same-requires c κs =
     (p .2, p .0 .good .same)
 
 mul-result : tie.Need-mul-result
-mul-result c = record { fits = omega (arith, c .if2 .taken, found (c .before) .pre .2, found (c .before) .pre .0 .good .few-lines) }
+mul-result c =
+    let p = found (c .before) .pre in
+    record { fits = omega (arith, c .if2 .taken, p .2, p .0 .good .few-lines) }
 
 shared-slice-read-result : tie.Need-shared-slice-read-result
 shared-slice-read-result c = omega (arith, c .before .if2 .taken, found (c .before .before) .pre .4)
@@ -99,22 +118,22 @@ returns-2 c =
 
 shared-slice-read-quantity : tie.Need-shared-slice-read-quantity
 shared-slice-read-quantity c =
-    let s = found (c .before .before) in
+    let s = counted c in
     omega (arith, s .pre .2, s .pre .0 .good .same)
 
 sums-without-requires : tie.Need-sums-without-requires
 sums-without-requires c κs =
-    let s = found (c .before .before .before) in
+    let s = counted (c .before) in
     (s .pre .0 .good .most, rw (s .pre .1) (removable (s .pre .0) (s .args .i) (s .pre .2)), s .pre .7)
 
 cast-kept-tips : tie.Need-cast-kept-tips
 cast-kept-tips c =
-    let f = c .before .before in
+    let f = summed c in
     record { fits = omega (arith, f .before .before .shared-slice-known10 .given (begun f .args .i)) }
 
 kept-tips-requires : tie.Need-kept-tips-requires
 kept-tips-requires c κs =
-    let f = c .before .before .before .before in
+    let f = summed-2 c in
     let s = begun f in
     ((placed s, rest s, known-of f), s .pre .8, s .pre .9, all-at 0 (s .pre .0 .good .domains) (s .args .i) (s .pre .2))
 
@@ -126,10 +145,11 @@ same-length-2 c = search needs
 
 returns-3 : tie.Need-returns-3
 returns-3 c =
-    let f = c .before .before .before .before .before .before .before in
+    let kept = c .before .before in
+    let f = summed-2 (kept .before) in
     let s = begun f in
     kept-goal (s .pre .0) (s .args .i) (s .pre .2) (all-sums (s .pre .0) (s .pre .1)) (sums-of f) (s .pre .5) (s .pre .6) (s .args .goal) _
-    (c .before .before .kept-tips .ensures (placed s) (rest s) (known-of f))
+    (kept .kept-tips .ensures (placed s) (rest s) (known-of f))
 
 pub struck-set-spec : {M : Type 1} → statement M
 struck-set-spec =

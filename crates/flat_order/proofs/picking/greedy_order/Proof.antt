@@ -29,18 +29,63 @@ abbrev μ-loop : tie.MeasureT-loop
 μ-loop firsts lasts low high ends-low ends-high _ _ n firsts-low firsts-high _ _ _ _ _ _ _ levels order wait-low wait-high waiting begun left v p =
     n - p
 
--- the start of the call, and of a turn
+-- the rows of the rules, once all slices are known; and the start of the call from there
+abbrev rowed : tie.After-slice-known2 Inv-loop μ-loop → tie.After-shared-slice-known4 Inv-loop μ-loop
+rowed c = c .before .before .before .before
+
 abbrev start : tie.After-slice-known2 Inv-loop μ-loop → tie.Start Inv-loop μ-loop
-start c = c .before .before .before .before .before .before .before .before
+start c = rowed c .before .before .before .before
+
+-- the slices known, before the parts are put by their first positions
+abbrev lent : tie.After-firsts-high Inv-loop μ-loop → tie.After-slice-known2 Inv-loop μ-loop
+lent c = c .before .before .before .before
 
 abbrev begins : tie.After-put-parts Inv-loop μ-loop → tie.Start Inv-loop μ-loop
-begins c = start (c .before .before .before .before .before)
+begins c = start (lent (c .before))
 
-abbrev put : tie.After-tight-end Inv-loop μ-loop → tie.After-put-parts Inv-loop μ-loop
-put c = c .before .before .before .before .before .before
+-- the parts put, before the first end is sought and after it
+abbrev put : tie.After-tight-end-arg Inv-loop μ-loop → tie.After-put-parts Inv-loop μ-loop
+put c = c .before .before .before .before .before
 
+abbrev put-2 : tie.After-tight-end Inv-loop μ-loop → tie.After-put-parts Inv-loop μ-loop
+put-2 c = put (c .before)
+
+-- the start of the call, from a turn
 abbrev called : tie.At-loop Inv-loop μ-loop → tie.Start Inv-loop μ-loop
-called t = begins (put (t .before))
+called t = begins (put-2 (t .before))
+
+-- the turn, before its candidates are taken and after it
+abbrev turn : tie.After-meet Inv-loop μ-loop → tie.In-loop Inv-loop μ-loop
+turn c = c .before .before .before .before .before
+
+abbrev turn-2 : tie.After-candidates Inv-loop μ-loop → tie.In-loop Inv-loop μ-loop
+turn-2 c = turn (c .before)
+
+-- the candidates, before the lowest free one is sought
+abbrev offered : tie.After-wait-high Inv-loop μ-loop → tie.After-candidates Inv-loop μ-loop
+offered c = c .before .before
+
+-- the lowest free one sought
+abbrev searched : tie.After-wait-high2 Inv-loop μ-loop → tie.After-lowest-free Inv-loop μ-loop
+searched c = c .before .before
+
+-- the turn in which a part is taken off: from those that still wait, and from the parts that are left
+abbrev chosen : tie.After-remove Inv-loop μ-loop → tie.Else1 Inv-loop μ-loop
+chosen c = c .before .before .before .before
+
+abbrev taken : tie.After-remove2 Inv-loop μ-loop → tie.Else1 Inv-loop μ-loop
+taken c = chosen (c .before .before)
+
+-- the part taken off, and its turn, once the levels are raised
+abbrev cleared : tie.After-raise Inv-loop μ-loop → tie.After-remove2 Inv-loop μ-loop
+cleared c = c .before .before .before
+
+abbrev before-raise : tie.After-raise Inv-loop μ-loop → tie.Else1 Inv-loop μ-loop
+before-raise c = taken (cleared c)
+
+-- the levels raised, before the next end is sought
+abbrev raised : tie.After-tight-end-arg2 Inv-loop μ-loop → tie.After-raise Inv-loop μ-loop
+raised c = c .before .before .before
 
 no-words-requires : tie.Need-no-words-requires Inv-loop μ-loop
 no-words-requires c κs = search needs
@@ -56,7 +101,7 @@ slice-aggregate-put-parts-2 c = search needs
 
 put-parts-requires : tie.Need-put-parts-requires Inv-loop μ-loop
 put-parts-requires c κs =
-    let p = start (c .before .before .before .before) .pre in
+    let p = start (lent c) .pre in
     (p .0 .parts, p .0 .firsts, p .2, c .before .before .before .no-words .ensures, c .before .before .no-words2 .ensures)
 
 no-words-requires-3 : tie.Need-no-words-requires-3 Inv-loop μ-loop
@@ -67,19 +112,19 @@ no-words-requires-4 c κs = search needs
 
 tight-end-requires : tie.Need-tight-end-requires Inv-loop μ-loop
 tight-end-requires c κs =
-    let p = begins (c .before .before .before .before .before) .pre in
+    let p = begins (put c) .pre in
     (omega arith, omega (arith, p .0 .parts, p .6 .size), λ e. absurd (omega arith))
 
 loop-holds : tie.Need-loop-holds Inv-loop μ-loop
 loop-holds c =
-    let s = begins (put c) in
+    let s = begins (put-2 c) in
     let a = s .args in (
       search needs,
       refl,
       placing-none _ _ _ _ _ _ (s .pre .1) (s .pre .4),
       s .pre .6,
       c .tight-end .ensures,
-      put c .put-parts .ensures,
+      put-2 c .put-parts .ensures,
       before-none (a .firsts .now) (length (a .lasts .now)),
       rw (c .before .before .before .no-words3 .ensures, c .before .before .no-words4 .ensures) (held-none (a .all) (a .low .now) (a .high .now)),
     )
@@ -123,7 +168,7 @@ meet-requires c κs = search needs
 
 candidates-requires : tie.Need-candidates-requires Inv-loop μ-loop
 candidates-requires c κs =
-    let t = c .before .before .before .before .before in
+    let t = turn c in
     let ends = called (t .before) .pre .5 in
     (omega (arith, position-in t, few t), omega (arith, within t, few t), ends .lows, ends .highs)
 
@@ -133,23 +178,19 @@ slice-aggregate-lowest-free c = search needs
 slice-aggregate-lowest-free-2 : tie.Need-slice-aggregate-lowest-free-2 Inv-loop μ-loop
 slice-aggregate-lowest-free-2 c = search needs
 
--- the turn of the candidates
-abbrev turn : tie.After-candidates Inv-loop μ-loop → tie.In-loop Inv-loop μ-loop
-turn c = c .before .before .before .before .before .before
-
 lowest-free-requires : tie.Need-lowest-free-requires Inv-loop μ-loop
 lowest-free-requires c κs =
-    let t = turn (c .before .before) .before in
+    let t = turn-2 (offered c) .before in
     let p = called t .pre .0 in
     (p .parts, p .low, p .high, t .loop .inv .7)
 
 -- the part found
 module _ (w : tie.After-wait-high2 Inv-loop μ-loop) where
   abbrev o : tie.After-candidates Inv-loop μ-loop
-  o = w .before .before .before .before .before
+  o = offered (searched w .before)
 
   abbrev i : tie.In-loop Inv-loop μ-loop
-  i = turn o
+  i = turn-2 o
 
   abbrev t : tie.At-loop Inv-loop μ-loop
   t = i .before
@@ -158,11 +199,13 @@ module _ (w : tie.After-wait-high2 Inv-loop μ-loop) where
   s = called t
 
   abbrev x : ℕ
-  x = w .before .before .lowest-free .result .part
+  x = searched w .lowest-free .result .part
 
   -- the parts begun at the position, and the candidates
   abbrev begun : PartSet
-  begun = joined (t .loop .begun) (rowAt (put (t .before) .put-parts .last .1 .1 .0) (put (t .before) .put-parts .last .1 .1 .1 .0) (t .loop .p + 1))
+  begun =
+      let rows = put-2 (t .before) .put-parts .last .1 .1 in
+      joined (t .loop .begun) (rowAt (rows .0) (rows .1 .0) (t .loop .p + 1))
 
   begun-at : (y : ℕ) → hasPart begun y ≡ (ltb y (length (lasts i)) && ltb (getD (s .args .firsts .now) y 0) (t .loop .p + 1))
   begun-at = before-more (s .args .firsts .now) _ _ (length (lasts i)) (t .loop .p) (t .loop .begun) (omega (arith, position-in i, few i))
@@ -183,13 +226,13 @@ module _ (w : tie.After-wait-high2 Inv-loop μ-loop) where
   test = isPick among (t .loop .left) (s .args .low .now) (s .args .high .now)
 
   found : x ≡ lowest test (length (lasts i))
-  found = w .before .before .lowest-free .ensures .0
+  found = searched w .lowest-free .ensures .0
       ∙ ap (λ b. lowest (isPick b (t .loop .left) (s .args .low .now) (s .args .high .now)) (length (lasts i))) among-is
 
   -- the words of the rows fit
   words : (y : ℕ) → (getD (s .args .low .now) y 0 < 2 ^ 64) × (getD (s .args .high .now) y 0 < 2 ^ 64)
   words y =
-      let k = put (t .before) .before .before .before .before .before .before .before .before .before in
+      let k = rowed (lent (put-2 (t .before) .before)) in
       (k .before .shared-slice-known3 .given y .fits, k .shared-slice-known4 .given y .fits)
 
   picked : x ≡ pick (flatTask (s .args .firsts .now) (lasts i) (s .args .low .now) (s .args .high .now)) (t .loop .p) (hasPart (t .loop .left))
@@ -236,9 +279,9 @@ slice-aggregate-row-4 c = search needs
 
 -- those that wait, after the search
 held : (w : tie.After-wait-high2 Inv-loop μ-loop)
-    → (let f = w .before .before .lowest-free in let a = s w .args in
+    → (let f = searched w .lowest-free in let a = s w .args in
     Held (t w .loop .left) (f .result .waiting) (a .low .now) (a .high .now) (f .last .1 .1 .1 .1 .1 .1 .0) (f .last .1 .1 .1 .1 .1 .1 .1 .0))
-held w = w .before .before .lowest-free .ensures .1
+held w = searched w .lowest-free .ensures .1
 
 row-requires-2 : tie.Need-row-requires-2 Inv-loop μ-loop
 row-requires-2 c κs =
@@ -250,14 +293,10 @@ remove-requires : tie.Need-remove-requires Inv-loop μ-loop
 remove-requires c κs = search needs
 
 single-part-requires : tie.Need-single-part-requires Inv-loop μ-loop
-single-part-requires c κs = let d = c .before .before .before .before in omega (arith, part-in d, few (i (d .before)))
+single-part-requires c κs = let d = chosen c in omega (arith, part-in d, few (i (d .before)))
 
 remove-requires-2 : tie.Need-remove-requires-2 Inv-loop μ-loop
 remove-requires-2 c κs = search needs
-
--- the turn in which a part is taken off
-abbrev taken : tie.After-remove2 Inv-loop μ-loop → tie.Else1 Inv-loop μ-loop
-taken c = c .before .before .before .before .before .before
 
 mul-last : tie.Need-mul-last Inv-loop μ-loop
 mul-last c = let d = taken c in record { fits = omega (arith, part-in d, few (i (d .before))) }
@@ -278,9 +317,6 @@ raise-requires c κs =
     (omega (arith, last-in d, few (i w)), k .inv .3 .size, λ v l h. omega (arith, most v (omega arith) (omega (arith, last-in d)), few (i w)))
 
 -- the levels raised
-abbrev before-raise : tie.After-raise Inv-loop μ-loop → tie.Else1 Inv-loop μ-loop
-before-raise c = taken (c .before .before .before)
-
 levelled : (c : tie.After-raise Inv-loop μ-loop)
     → (let w = before-raise c .before in Levels (removed (t w .loop .left) (single (x w))) (lasts (i w)) (t w .loop .p + 1) (c .raise .last .1 .1 .0))
 levelled c =
@@ -291,7 +327,7 @@ levelled c =
 
 tight-end-requires-2 : tie.Need-tight-end-requires-2 Inv-loop μ-loop
 tight-end-requires-2 c κs =
-    let r = c .before .before .before in
+    let r = raised c in
     let d = before-raise r in
     let w = d .before in
     let k = t w .loop in (
@@ -301,12 +337,12 @@ tight-end-requires-2 c κs =
     )
 
 loop-less : tie.Need-loop-less Inv-loop μ-loop
-loop-less c = let w = before-raise (c .before .before .before .before) .before in omega (arith, position-in (i w))
+loop-less c = let w = before-raise (raised (c .before)) .before in omega (arith, position-in (i w))
 
 loop-again : tie.Need-loop-again Inv-loop μ-loop
 loop-again c =
-    let r = c .before .before .before .before in
-    let q = r .before .before .before in
+    let r = raised (c .before) in
+    let q = cleared r in
     let d = before-raise r in
     let w = d .before in
     let k = t w .loop in
@@ -314,7 +350,7 @@ loop-again c =
     let left : q .remove2 .result ≡ removed (k .left) (single (x w)) =
     q .remove2 .ensures ∙ ap (removed (k .left)) (q .before .single-part .ensures) in
     let freed = q .before .before in
-    let f = w .before .before .lowest-free in
+    let f = searched w .lowest-free in
     let still : freed .remove .result
     ≡ removed (f .result .waiting) (rowAt (f .last .1 .1 .1 .1 .1 .1 .0) (f .last .1 .1 .1 .1 .1 .1 .1 .0) (x w)) =
     freed .remove .ensures ∙ ap (removed (f .result .waiting)) (freed .before .row2 .ensures) in (

@@ -19,6 +19,34 @@ Inv-loop n left waiting₀ low high wait-low₀ wait-high₀ rest₀ x₀ waitin
 abbrev μ-loop : tie.MeasureT-loop
 μ-loop n left waiting₀ low high wait-low₀ wait-high₀ rest₀ x₀ waiting wait-low wait-high rest x = n - x
 
+-- the rows of the rules, before the first turn; and the start of the call from there
+abbrev rowed : tie.After-lowest-part Inv-loop μ-loop → tie.After-shared-slice-known2 Inv-loop μ-loop
+rowed c = c .before .before .before .before
+
+abbrev start : tie.After-lowest-part Inv-loop μ-loop → tie.Start Inv-loop μ-loop
+start c = rowed c .before .before
+
+-- the start of the call, from a turn
+abbrev begun : tie.At-loop Inv-loop μ-loop → tie.Start Inv-loop μ-loop
+begun t = start (t .before)
+
+-- the candidate alone, once those that are to precede it are known; and its turn
+abbrev one : tie.After-lowest-part2 Inv-loop μ-loop → tie.After-single-part Inv-loop μ-loop
+one a = a .before .before .before .before
+
+abbrev turn : tie.After-lowest-part2 Inv-loop μ-loop → tie.At-loop Inv-loop μ-loop
+turn a = one a .before .before
+
+-- the turn of a candidate that waits: from the words of the row that it is put in, and from the turn's end
+abbrev waited : tie.After-struct-known Inv-loop μ-loop → tie.Else1 Inv-loop μ-loop
+waited c = c .before .before
+
+abbrev waited-2 : tie.After-struct-known2 Inv-loop μ-loop → tie.Else1 Inv-loop μ-loop
+waited-2 c = waited (c .before .before)
+
+abbrev other : tie.After-lowest-part3 Inv-loop μ-loop → tie.Else1 Inv-loop μ-loop
+other c = waited-2 (c .before .before .before)
+
 remove-requires : tie.Need-remove-requires Inv-loop μ-loop
 remove-requires c κs = search needs
 
@@ -27,18 +55,11 @@ lowest-part-requires c κs = search needs
 
 loop-holds : tie.Need-loop-holds Inv-loop μ-loop
 loop-holds c =
-    let h = c .before .before .before .before .before .before .pre .3 in
+    let h = start c .pre .3 in
     (trying-none _ _ _ _ _ _ (c .lowest-part .ensures), h, h .lows, h .highs)
 
--- the start of the call, and of a turn
-abbrev begun : tie.At-loop Inv-loop μ-loop → tie.Start Inv-loop μ-loop
-begun t = t .before .before .before .before .before .before .before
-
-abbrev turn : tie.After-lowest-part2 Inv-loop μ-loop → tie.At-loop Inv-loop μ-loop
-turn a = a .before .before .before .before .before .before
-
 inside : (a : tie.After-lowest-part2 Inv-loop μ-loop) → turn a .loop .x < begun (turn a) .args .n
-inside a = a .before .before .before .before .before .loop-test .taken
+inside a = one a .before .loop-test .taken
 
 single-part-requires : tie.Need-single-part-requires Inv-loop μ-loop
 single-part-requires c κs = search needs
@@ -60,9 +81,9 @@ blocks : (a : tie.After-lowest-part2 Inv-loop μ-loop)
     → (let t = turn a in let s = begun t .args in
     IsLowest (met (rowAt (s .low .now) (s .high .now) (t .loop .x)) (removed (s .left) (single (t .loop .x)))) (a .lowest-part2 .result))
 blocks a =
-    let r = a .before .before .before in
-    let e = a .before .meet .ensures
-    ∙ ap₂ met (r .row .ensures) (a .before .before .remove2 .ensures ∙ ap (removed (begun (turn a) .args .left)) (r .before .single-part .ensures)) in
+    let others = a .before .before in
+    let without = others .remove2 .ensures ∙ ap (removed (begun (turn a) .args .left)) (one a .single-part .ensures) in
+    let e = a .before .meet .ensures ∙ ap₂ met (others .before .row .ensures) without in
     rw (← e) (a .lowest-part2 .ensures)
 
 -- the search among those that do not wait finds the pick
@@ -86,7 +107,7 @@ returns : tie.Need-returns Inv-loop μ-loop
 returns c =
     let t = turn (c .before) in
     let l = t .loop in
-    let k = t .before .before .before .before .before in
+    let k = rowed (t .before) in
     let a = begun t .args in
     let free = is-free (a .left) (a .low .now) (a .high .now) (l .x) _ (blocks (c .before))
     (k .before .shared-slice-known .given (l .x) .fits) (k .shared-slice-known2 .given (l .x) .fits)
@@ -104,16 +125,16 @@ slice-read-wait-low : tie.Need-slice-read-wait-low Inv-loop μ-loop
 slice-read-wait-low c = omega (arith, found (c .before), turn (c .before .before) .loop .inv .1 .lows)
 
 slice-write-wait-low : tie.Need-slice-write-wait-low Inv-loop μ-loop
-slice-write-wait-low c = let o = c .before .before in omega (arith, found o, turn (o .before) .loop .inv .1 .lows)
+slice-write-wait-low c = let o = waited c in omega (arith, found o, turn (o .before) .loop .inv .1 .lows)
 
 mul-wait-high : tie.Need-mul-wait-high Inv-loop μ-loop
-mul-wait-high c = record { fits = omega (arith, found (c .before .before)) }
+mul-wait-high c = record { fits = omega (arith, found (waited c)) }
 
 slice-read-wait-high : tie.Need-slice-read-wait-high Inv-loop μ-loop
-slice-read-wait-high c = let o = c .before .before .before in omega (arith, found o, turn (o .before) .loop .inv .1 .highs)
+slice-read-wait-high c = let o = waited (c .before) in omega (arith, found o, turn (o .before) .loop .inv .1 .highs)
 
 slice-write-wait-high : tie.Need-slice-write-wait-high Inv-loop μ-loop
-slice-write-wait-high c = let o = c .before .before .before .before in omega (arith, found o, turn (o .before) .loop .inv .1 .highs)
+slice-write-wait-high c = let o = waited-2 c in omega (arith, found o, turn (o .before) .loop .inv .1 .highs)
 
 join-requires : tie.Need-join-requires Inv-loop μ-loop
 join-requires c κs = search needs
@@ -124,17 +145,10 @@ remove-requires-3 c κs = search needs
 lowest-part-requires-3 : tie.Need-lowest-part-requires-3 Inv-loop μ-loop
 lowest-part-requires-3 c κs = search needs
 
--- the turn of a candidate that waits
-abbrev other : tie.After-lowest-part3 Inv-loop μ-loop → tie.Else1 Inv-loop μ-loop
-other c = c .before .before .before .before .before .before .before
-
-abbrev one : (c : tie.After-lowest-part3 Inv-loop μ-loop) → tie.After-single-part Inv-loop μ-loop
-one c = other c .before .before .before .before .before
-
 -- what is known of the candidates that are left
 rest : (c : tie.After-lowest-part3 Inv-loop μ-loop)
     → (let l = turn (other c .before) .loop in IsLowest (removed (l .rest) (single (l .x))) (c .lowest-part3 .result))
-rest c = rw (← one c .single-part .ensures, ← c .before .remove3 .ensures) (c .lowest-part3 .ensures)
+rest c = rw (← one (other c .before) .single-part .ensures, ← c .before .remove3 .ensures) (c .lowest-part3 .ensures)
 
 waits : (c : tie.Else1 Inv-loop μ-loop)
     → (let t = turn (c .before) in let s = begun t .args in
@@ -162,10 +176,10 @@ loop-again c =
     let t = turn (o .before) in
     let l = t .loop in
     let a = begun t .args in (
-      rw (c .before .remove3 .ensures, one c .single-part .ensures)
+      rw (c .before .remove3 .ensures, one (o .before) .single-part .ensures)
           (trying-more (a .n) _ (a .left) (a .low .now) (a .high .now) (l .rest) (l .x) (begun t .pre .0) (inside (o .before)) (l .inv .0) _
           (waits o) (rest c)),
-      rw (c .before .before .join .ensures, one c .single-part .ensures)
+      rw (c .before .before .join .ensures, one (o .before) .single-part .ensures)
           (held-more _ _ _ _ _ _ (l .inv .1) (l .x) _ (found o) (blocks (o .before) .found (o .if1 .left))),
       l .inv .2,
       l .inv .3,

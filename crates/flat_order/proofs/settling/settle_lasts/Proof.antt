@@ -25,9 +25,37 @@ Inv-loop all low high lasts₀ ends-low₀ ends-high₀ levels₀ n left₀ due�
 abbrev μ-loop : tie.MeasureT-loop
 μ-loop all low high lasts₀ ends-low₀ ends-high₀ levels₀ n left₀ due₀ e₀ j₀ lasts ends-low ends-high levels left due e j = n - e + (n - j)
 
+-- the start of the call, before the first turn and from a turn
+abbrev start : tie.After-slice-known4 Inv-loop μ-loop → tie.Start Inv-loop μ-loop
+start c = c .before .before .before .before .before .before
+
+abbrev begun : tie.At-loop Inv-loop μ-loop → tie.Start Inv-loop μ-loop
+begun t = start (t .before)
+
+-- the turn, before the parts that end at its position are read; and once the lowest that is due is known
+abbrev entered : tie.After-row-arg2 Inv-loop μ-loop → tie.In-loop Inv-loop μ-loop
+entered c = c .before .before
+
+abbrev entered-2 : tie.After-lowest-part Inv-loop μ-loop → tie.In-loop Inv-loop μ-loop
+entered-2 a = entered (a .before .before .before .before)
+
+abbrev turn : tie.After-lowest-part Inv-loop μ-loop → tie.At-loop Inv-loop μ-loop
+turn a = entered-2 a .before
+
+-- the lowest part sought, where none is due
+abbrev passed : tie.After-remove Inv-loop μ-loop → tie.After-lowest-part Inv-loop μ-loop
+passed c = c .before .before
+
+-- and where one is: its turn, once it is taken off; and that, at the turn's end
+abbrev chosen : tie.After-remove2 Inv-loop μ-loop → tie.Else1 Inv-loop μ-loop
+chosen c = c .before .before
+
+abbrev taken : tie.After-meet2 Inv-loop μ-loop → tie.After-remove2 Inv-loop μ-loop
+taken c = c .before .before .before
+
 loop-holds : tie.Need-loop-holds Inv-loop μ-loop
 loop-holds c =
-    let s = c .before .before .before .before .before .before in
+    let s = start c in
     let a = s .args in (
       omega arith,
       refl,
@@ -35,13 +63,6 @@ loop-holds c =
       rw (viewed-none (a .lasts .now)) (settling-none _ _ _ _ (s .pre .4)),
       ended-none _ _ _ _ _ (s .pre .5) (s .pre .6),
     )
-
--- the start of the call, and of a turn
-abbrev begun : tie.At-loop Inv-loop μ-loop → tie.Start Inv-loop μ-loop
-begun t = t .before .before .before .before .before .before .before
-
-abbrev turn : tie.After-lowest-part Inv-loop μ-loop → tie.At-loop Inv-loop μ-loop
-turn a = a .before .before .before .before .before .before .before
 
 -- the number of parts, and that of the turn
 parts-in : (t : tie.At-loop Inv-loop μ-loop) → length (begun t .args .lasts .now) ≤ 128
@@ -51,11 +72,11 @@ position-in : (c : tie.In-loop Inv-loop μ-loop) → c .before .loop .e < length
 position-in c = omega arith
 
 add-row : tie.Need-add-row Inv-loop μ-loop
-add-row c = let t = c .before .before in record { fits = omega (arith, position-in t, parts-in (t .before)) }
+add-row c = let t = entered c in record { fits = omega (arith, position-in t, parts-in (t .before)) }
 
 row-requires : tie.Need-row-requires Inv-loop μ-loop
 row-requires c κs =
-    let t = c .before .before in
+    let t = entered c in
     let l = t .before .loop in
     let p = position-in t in
     let n = parts-in (t .before) in
@@ -85,7 +106,7 @@ module _ (a : tie.After-lowest-part Inv-loop μ-loop) where
   here = met (joined (t .loop .due) ends) (t .loop .left)
 
   in-turn : t .loop .e < length lasts₀
-  in-turn = position-in (a .before .before .before .before .before .before)
+  in-turn = position-in (entered-2 a)
 
   here-is : a .before .meet .result ≡ here
   here-is =
@@ -105,30 +126,30 @@ remove-requires : tie.Need-remove-requires Inv-loop μ-loop
 remove-requires c κs = search needs
 
 slice-write-levels : tie.Need-slice-write-levels Inv-loop μ-loop
-slice-write-levels c = let a = c .before .before in omega (arith, in-turn a, parts-in (turn a), turn a .loop .inv .4 .size)
+slice-write-levels c = let a = passed c in omega (arith, in-turn a, parts-in (turn a), turn a .loop .inv .4 .size)
 
 add-e : tie.Need-add-e Inv-loop μ-loop
-add-e c = let a = c .before .before in record { fits = omega (arith, in-turn a, parts-in (turn a)) }
+add-e c = let a = passed c in record { fits = omega (arith, in-turn a, parts-in (turn a)) }
 
 mul-ends-low : tie.Need-mul-ends-low Inv-loop μ-loop
-mul-ends-low c = let a = c .before .before in record { fits = omega (arith, in-turn a, parts-in (turn a)) }
+mul-ends-low c = let a = passed c in record { fits = omega (arith, in-turn a, parts-in (turn a)) }
 
 slice-write-ends-low : tie.Need-slice-write-ends-low Inv-loop μ-loop
-slice-write-ends-low c = let a = c .before .before in omega (arith, in-turn a, parts-in (turn a), turn a .loop .inv .4 .lows)
+slice-write-ends-low c = let a = passed c in omega (arith, in-turn a, parts-in (turn a), turn a .loop .inv .4 .lows)
 
 mul-ends-high : tie.Need-mul-ends-high Inv-loop μ-loop
-mul-ends-high c = let a = c .before .before in record { fits = omega (arith, in-turn a, parts-in (turn a)) }
+mul-ends-high c = let a = passed c in record { fits = omega (arith, in-turn a, parts-in (turn a)) }
 
 slice-write-ends-high : tie.Need-slice-write-ends-high Inv-loop μ-loop
-slice-write-ends-high c = let a = c .before .before in omega (arith, in-turn a, parts-in (turn a), turn a .loop .inv .4 .highs)
+slice-write-ends-high c = let a = passed c in omega (arith, in-turn a, parts-in (turn a), turn a .loop .inv .4 .highs)
 
 loop-less : tie.Need-loop-less Inv-loop μ-loop
-loop-less c = let a = c .before .before in omega (arith, in-turn a)
+loop-less c = let a = passed c in omega (arith, in-turn a)
 
 -- none is due: the next position
 loop-again : tie.Need-loop-again Inv-loop μ-loop
 loop-again c =
-    let a = c .before .before in
+    let a = passed c in
     let t = turn a in
     let k = t .loop in
     let h = c .before .if1 .taken in
@@ -176,7 +197,7 @@ remove-requires-2 c κs = search needs
 
 row-requires-2 : tie.Need-row-requires-2 Inv-loop μ-loop
 row-requires-2 c κs =
-    let o = c .before .before in
+    let o = chosen c in
     let s = begun (turn (o .before)) in
     (omega (arith, part-in o, s .pre .1), omega (arith, part-in o, s .pre .2))
 
@@ -188,17 +209,17 @@ meet-requires-2 c κs = search needs
 
 add-j : tie.Need-add-j Inv-loop μ-loop
 add-j c =
-    let o = c .before .before .before .before .before in
+    let o = chosen (taken c) in
     record { fits = omega (arith, more-left o, parts-in (turn (o .before))) }
 
 loop-less-2 : tie.Need-loop-less-2 Inv-loop μ-loop
-loop-less-2 c = let o = c .before .before .before .before .before in omega (arith, more-left o, turn (o .before) .loop .inv .1)
+loop-less-2 c = let o = chosen (taken c) in omega (arith, more-left o, turn (o .before) .loop .inv .1)
 
 -- one part settled
 loop-again-2 : tie.Need-loop-again-2 Inv-loop μ-loop
 loop-again-2 c =
-    let w = c .before .before .before in
-    let o = w .before .before in
+    let w = taken c in
+    let o = chosen w in
     let a = o .before in
     let t = turn a in
     let k = t .loop in

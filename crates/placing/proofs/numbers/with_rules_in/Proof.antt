@@ -22,6 +22,18 @@ Inv-loop rows numbers n parts low₀ high₀ i₀ low high i = (i ≤ n) × (n �
 abbrev μ-loop : tie.MeasureT-loop
 μ-loop rows numbers n parts low₀ high₀ i₀ low high i = n - i
 
+-- the call's start, from the loop
+abbrev begun : tie.At-loop Inv-loop μ-loop → tie.Start Inv-loop μ-loop
+begun c = c .before .before .before .before .before
+
+-- the loop, once its rule is judged
+abbrev looped : tie.After-is-rule-ok Inv-loop μ-loop → tie.At-loop Inv-loop μ-loop
+looped c = c .before .before .before
+
+-- the rule judged good, once the first of its rows is read
+abbrev judged : tie.After-struct-known Inv-loop μ-loop → tie.Else1 Inv-loop μ-loop
+judged c = c .before .before
+
 at-most-128-requires : tie.Need-at-most-128-requires Inv-loop μ-loop
 at-most-128-requires c κs = search needs
 
@@ -36,15 +48,15 @@ is-rule-ok-requires c κs = search needs
 
 -- the rows as they were given
 abbrev given : tie.After-is-rule-ok Inv-loop μ-loop → Rows
-given c = c .before .before .before .before .before .before .before .before .args .rows
+given c = begun (looped c) .args .rows
 
 -- what is known of the test
 rule-test : (c : tie.After-is-rule-ok Inv-loop μ-loop) → c .is-rule-ok .result ≡ ruleOk (min (given c .parts) 128) (c .before .rule-in .result)
-rule-test c = c .is-rule-ok .ensures ∙ ap (λ n. ruleOk n (c .before .rule-in .result)) (c .before .before .before .loop .inv .2)
+rule-test c = c .is-rule-ok .ensures ∙ ap (λ n. ruleOk n (c .before .rule-in .result)) (looped c .loop .inv .2)
 
 returns : tie.Need-returns Inv-loop μ-loop
 returns c = λ g.
-    let l = c .before .before .before .before .loop in
+    let l = looped (c .before) .loop in
     sym (rules-spoiled _ (given (c .before)) g (l .low) (l .high) (l .i) (omega arith) _ (c .before .before .rule-in .ensures)
     (fails (rule-test (c .before)) (c .if1 .taken)))
     ∙ l .inv .3 g
@@ -66,16 +78,16 @@ array-read-low : tie.Need-array-read-low Inv-loop μ-loop
 array-read-low c = named (c .before) .1
 
 array-write-low : tie.Need-array-write-low Inv-loop μ-loop
-array-write-low c = named (c .before .before) .1
+array-write-low c = named (judged c) .1
 
 mul-high : tie.Need-mul-high Inv-loop μ-loop
-mul-high c = record { fits = omega (arith, named (c .before .before)) }
+mul-high c = record { fits = omega (arith, named (judged c)) }
 
 array-read-high : tie.Need-array-read-high Inv-loop μ-loop
-array-read-high c = named (c .before .before) .1
+array-read-high c = named (judged c) .1
 
 array-write-high : tie.Need-array-write-high Inv-loop μ-loop
-array-write-high c = named (c .before .before .before) .1
+array-write-high c = named (judged (c .before)) .1
 
 add-i : tie.Need-add-i Inv-loop μ-loop
 add-i c = search needs
@@ -85,8 +97,8 @@ loop-less c = search needs
 
 loop-again : tie.Need-loop-again Inv-loop μ-loop
 loop-again c =
-    let d = c .before .before .before in
-    let l = d .before .before .before .before .loop in (
+    let d = judged (c .before) in
+    let l = looped (d .before) .loop in (
       search needs,
       refl,
       l .inv .2,

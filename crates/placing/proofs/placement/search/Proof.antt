@@ -13,6 +13,17 @@ use borrow.Author.Needs.{needs}
 use Rattle.placing.proofs.placement.search.Statement.{statement}
 use Rattle.placing.proofs.placement.search.Tie as tie
 
+-- the windows' ends, once the arrays are lent
+abbrev read : tie.After-lasts → tie.After-lasts-of
+read c = c .before .before .before .before
+
+-- and once all is lent to the search; and the call's start from there
+abbrev read-2 : tie.After-least-order-arg → tie.After-lasts-of
+read-2 c = read (c .before .before .before)
+
+abbrev begun : tie.After-lasts-of → tie.Start
+begun c = c .before .before .before
+
 firsts-of-requires : tie.Need-firsts-of-requires
 firsts-of-requires c κs = search needs
 
@@ -34,9 +45,9 @@ sizes c = (
 )
 
 slice-aggregate-least-order-2 : tie.Need-slice-aggregate-least-order-2
-slice-aggregate-least-order-2 c = sym
-    (length-take-le _ (c .before .before .before .before .lasts-of .result)
-    (omega (arith, c .before .before .before .before .lasts-of .ensures .0)))
+slice-aggregate-least-order-2 c =
+    let l = read c .lasts-of in
+    sym (length-take-le _ (l .result) (omega (arith, l .ensures .0)))
 
 slice-aggregate-least-order-3 : tie.Need-slice-aggregate-least-order-3
 slice-aggregate-least-order-3 c = search needs
@@ -46,11 +57,12 @@ slice-aggregate-least-order-4 c = search needs
 
 least-order-requires : tie.Need-least-order-requires
 least-order-requires c κs =
-    let start = c .before .before .before .before .before .before .before .before .before .before in
+    let ends = read-2 c in
+    let start = begun ends in
     let a = start .args in
     let s = sizes start in
-    let f = c .before .before .before .before .before .before .before .before .firsts-of in
-    let l = c .before .before .before .before .before .before .before .lasts-of in
+    let f = ends .before .firsts-of in
+    let l = ends .lasts-of in
     let n = a .parts .count in
     let e = length-take-le n (l .result) (omega (arith, l .ensures .0)) in
     let q : length (a .order .now) ≡ length (take n (l .result)) = omega (arith, e) in
@@ -68,13 +80,15 @@ same-length c = search needs
 returns : tie.Need-returns
 returns c =
     λ rules r g.
-    let a = c .before .before .before .before .before .before .before .before .before .before .before .before .before .before .args in
-    let f = c .before .before .before .before .before .before .before .before .before .before .before .before .firsts-of in
-    let l = c .before .before .before .before .before .before .before .before .before .before .before .lasts-of in
+    let sought = c .before .before .before in
+    let ends = read-2 (sought .before) in
+    let a = begun ends .args in
+    let f = ends .before .firsts-of in
+    let l = ends .lasts-of in
     let e = listed (partAt (a .parts .parts)) (a .parts .count) in
     let at : (i : ℕ) → i < length (partsOf (a .parts)) → partAt (partsOf (a .parts)) i ≡ partAt (a .parts .parts) i =
     λ i k. listed-at (partAt (a .parts .parts)) (a .parts .count) i noPart (omega (arith, e)) in
-    c .before .before .before .least-order .ensures
+    sought .least-order .ensures
     ∙ flat-order (partsOf (a .parts)) rules (a .parts .count) e (f .result) (l .result) (a .rows .low) (a .rows .high)
     (omega (arith, l .ensures .0))
     (λ i k. f .ensures .1 i (omega (arith, e)) ∙ sym (ap (λ x. x .first) (at i k)))

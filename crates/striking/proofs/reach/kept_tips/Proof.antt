@@ -1,7 +1,8 @@
 use Prim.Native.Nat.{ℕ, _+_, _-_, _≤_, _<_}
 use native.Mathlib.Omega.{arith}
-use mathlib.Core.Path.{_≡_, refl, _∙_}
+use mathlib.Core.Path.{_≡_, refl, sym, subst, _∙_}
 use mathlib.Core.List.{List}
+use lib.Bits.{bitOr}
 use lib.Dec.{T}
 use lib.ListN.{length, length-set}
 use borrow.Author.Needs.{needs}
@@ -27,14 +28,32 @@ Inv-loop names m q set goal pairs sums inner upper outer₀ kept₀ w₀ outer k
 abbrev μ-loop : tie.MeasureT-loop
 μ-loop names m q set goal pairs sums inner upper outer₀ kept₀ w₀ outer kept w = w
 
--- the call's start, from the outer loop
+-- the call's start, once the slices are known; and from the outer loop
+abbrev begun : tie.After-slice-known Inv-loop2 μ-loop2 Inv-loop μ-loop → tie.Start Inv-loop2 μ-loop2 Inv-loop μ-loop
+begun c = c .before .before .before .before .before
+
 abbrev start : tie.At-loop Inv-loop2 μ-loop2 Inv-loop μ-loop → tie.Start Inv-loop2 μ-loop2 Inv-loop μ-loop
-start c = c .before .before .before .before .before .before
+start c = begun (c .before)
 
--- the outer loop, from the first interval found; and the start and the width, from the inner loop
+-- the outer loop, from the first interval found; and from the inner loop
+abbrev entered : tie.After-slice-known2 Inv-loop2 μ-loop2 Inv-loop μ-loop → tie.In-loop Inv-loop2 μ-loop2 Inv-loop μ-loop
+entered c = c .before .before .before .before
+
 abbrev looped : tie.At-loop2 Inv-loop2 μ-loop2 Inv-loop μ-loop → tie.In-loop Inv-loop2 μ-loop2 Inv-loop μ-loop
-looped c = c .before .before .before .before .before
+looped c = entered (c .before)
 
+-- the outside table lent again, before the next interval is sought; and the interval followed
+abbrev lent : tie.After-next-open-arg2 Inv-loop2 μ-loop2 Inv-loop μ-loop → tie.After-outer2 Inv-loop2 μ-loop2 Inv-loop μ-loop
+lent c = c .before .before
+
+abbrev followed : tie.After-next-open-arg2 Inv-loop2 μ-loop2 Inv-loop μ-loop → tie.After-follow Inv-loop2 μ-loop2 Inv-loop μ-loop
+followed c = lent c .before
+
+-- the next interval sought, at the inner loop's end
+abbrev sought : tie.After-slice-known4 Inv-loop2 μ-loop2 Inv-loop μ-loop → tie.After-next-open2 Inv-loop2 μ-loop2 Inv-loop μ-loop
+sought c = c .before .before
+
+-- the start, the width and the place, from the inner loop
 module _ (c : tie.In-loop2 Inv-loop2 μ-loop2 Inv-loop μ-loop) where
   abbrev s : tie.Start Inv-loop2 μ-loop2 Inv-loop μ-loop
   s = start (looped (c .before) .before)
@@ -50,7 +69,7 @@ module _ (c : tie.In-loop2 Inv-loop2 μ-loop2 Inv-loop μ-loop) where
 
 loop-holds : tie.Need-loop-holds Inv-loop2 μ-loop2 Inv-loop μ-loop
 loop-holds c =
-    let b = c .before .before .before .before .before in
+    let b = begun c in
     (search needs, refl, λ lines rest k. follow-first k (b .args .set) (b .args .goal) (b .args .outer .now) (b .pre .1))
 
 next-open-requires : tie.Need-next-open-requires Inv-loop2 μ-loop2 Inv-loop μ-loop
@@ -69,7 +88,7 @@ next-open-requires c κs =
 
 loop2-holds : tie.Need-loop2-holds Inv-loop2 μ-loop2 Inv-loop μ-loop
 loop2-holds c =
-    let l = c .before .before .before .before .before in
+    let l = entered c .before in
     let (ends, (found, past)) = c .before .before .next-open .ensures in
     (ends .1, refl, found, λ lines rest k. past (start l .args .names) (l .loop .kept) lines rest k (l .loop .inv .2 lines rest k))
 
@@ -98,7 +117,7 @@ add-next-open c = search needs
 
 next-open-requires-2 : tie.Need-next-open-requires-2 Inv-loop2 μ-loop2 Inv-loop μ-loop
 next-open-requires-2 c κs =
-    let f = c .before .before .before in
+    let f = followed c in
     let b = f .before .before in
     let t = s b in
     let (lines, rest, k) = t .pre .0 in (
@@ -114,21 +133,25 @@ next-open-requires-2 c κs =
 
 loop2-less : tie.Need-loop2-less Inv-loop2 μ-loop2 Inv-loop μ-loop
 loop2-less c =
-    let b = c .before .before .before .before .before .before .before .before in
-    omega (arith, b .loop2-test .taken, c .before .before .next-open2 .ensures .0 .0)
+    let b = followed (sought c .before) .before .before in
+    omega (arith, b .loop2-test .taken, sought c .next-open2 .ensures .0 .0)
 
 loop2-again : tie.Need-loop2-again Inv-loop2 μ-loop2 Inv-loop μ-loop
 loop2-again c =
-    let f = c .before .before .before .before .before .before .follow in
-    let b = c .before .before .before .before .before .before .before .before in
+    let next = sought c in
+    let f = followed (next .before) in
+    let r = f .follow in
+    let b = f .before .before in
     let v = b .before .loop2 .inv in
     let t = s b in
-    let (ends, (found, past)) = c .before .before .next-open2 .ensures in (
+    let kept = bitOr (b .before .loop2 .kept) (r .result) in
+    let (ends, (found, past)) = next .next-open2 .ensures in (
       ends .1,
-      c .before .outer3 .given ∙ c .before .before .before .before .before .outer2 .given ∙ v .1,
+      c .before .outer3 .given ∙ lent (next .before) .outer2 .given ∙ v .1,
       found,
-      λ lines rest k. past (t .args .names) _ lines rest k (rw (f .ensures .1)
-          (follow-more k (t .args .set) (t .args .goal) (v .3 lines rest k) (some b) (omega arith) (v .2 (omega arith)) (f .ensures .0) refl)),
+      λ lines rest k. past (t .args .names) _ lines rest k
+          (subst (λ o. So k (t .args .set) (t .args .goal) o kept (w b) (a b + 1)) (sym (r .ensures .1))
+          (follow-more k (t .args .set) (t .args .goal) (v .3 lines rest k) (some b) (omega arith) (v .2 (omega arith)) (r .ensures .0) refl)),
     )
 
 sub-w : tie.Need-sub-w Inv-loop2 μ-loop2 Inv-loop μ-loop
