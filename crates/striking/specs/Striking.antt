@@ -28,6 +28,11 @@ struckBy m qs sets K old = cond (accepts (goalRefusal m qs sets K)) (strike m qs
 
 -- ---- for proofs and leaf contracts: no call's contract speaks of these
 
+-- line j has the set and the quantity of line i
+pub record Same (lines qs : List ℕ) (i j : ℕ) : Type 0 where
+  pub set : getD lines j 0 ≡ getD lines i 0
+  pub quantity : getD qs j 0 ≡ getD qs i 0
+
 -- what a line with the tips low to high and quantity q adds at x and y of the sums
 unfoldable pub ownAt : ℕ → ℕ → ℕ → ℕ → ℕ → ℕ
 ownAt l h q x y = cond (ltb l x && ltb h y) q 0

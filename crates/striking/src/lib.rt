@@ -5,8 +5,8 @@ mod reach;
 mod rest;
 
 ghost use mathlib.Core.Path.{_≡_};
-ghost use Prim.Native.Nat.{_*_, _≤_, _<_};
-ghost use lib.ListN.{length, getD, take};
+ghost use Prim.Native.Nat.{ℕ, _*_, _≤_, _<_};
+ghost use lib.ListN.{length, take};
 ghost use Rattle.model.specs.Count.{listOf};
 ghost use Rattle.model.specs.Interval.{C};
 ghost use Rattle.placements.specs.Repeated.{repeated};
@@ -14,7 +14,7 @@ ghost use Rattle.spans.specs.Spans.{sumsSize, sums as sumsOf};
 ghost use Rattle.checking.specs.Checking.{NamedRuns};
 ghost use Rattle.goals.specs.Goal.{goalTips, strike};
 ghost use Rattle.pair_count.specs.PairTable.{PairTable};
-ghost use Rattle.striking.specs.Striking.{goalRefusal, struckBy, InsideAll, OutsideAll};
+ghost use Rattle.striking.specs.Striking.{goalRefusal, struckBy, Same, InsideAll, OutsideAll};
 use refusal::Refusal;
 
 // A place for each interval of the largest rack.
@@ -26,8 +26,8 @@ const SMALL_TABLE: usize = 256;
 // The first line with the set and the quantity of line i, which may be line i itself.
 fn first_same(lines: &[u64], quantities: &[u8], i: usize) -> usize
     requires { ⌜ (i < length (now lines)) × (length (now quantities) ≡ length (now lines)) ⌝ }
-    ensures { λ r. ⌜ (r ≤ i) × (getD (now (lines .entry)) r 0 ≡ getD (now (lines .entry)) i 0)
-        × (getD (now (quantities .entry)) r 0 ≡ getD (now (quantities .entry)) i 0) ⌝ }
+    ensures { λ r. ⌜ (r ≤ i) × Same (now (lines .entry)) (now (quantities .entry)) i r
+        × ((j : ℕ) → j < r → Same (now (lines .entry)) (now (quantities .entry)) i j → ⊥) ⌝ }
 {
     let mut j = 0;
     while j < i {

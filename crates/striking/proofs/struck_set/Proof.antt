@@ -110,11 +110,11 @@ returns-2 c =
     let s = found f in
     let args = s .args in
     let j = f .first-same .result in
-    let (_, set, quantity) = f .first-same .ensures in
+    let (_, same, _) = f .first-same .ensures in
     let tips = goalTips (args .m) (args .quantities .now) (args .lines .now) (args .goal) in
     struck-before tips (args .struck .now) (args .i) j (c .before .if2 .taken) (s .pre .3)
     ∙ same-tips (args .quantities .now) (args .lines .now) (s .pre .0 .good .same) (omega (arith, c .before .if2 .taken, s .pre .2)) (s .pre .2)
-    quantity set (args .m) (args .goal)
+    (same .quantity) (same .set) (args .m) (args .goal)
 
 shared-slice-read-quantity : tie.Need-shared-slice-read-quantity
 shared-slice-read-quantity c =
