@@ -30,9 +30,12 @@ told c = c .before .before .before .before
 abbrev read : tie.Else1 → tie.After-read-lines
 read d = told (d .before)
 
--- the quick plan's buffer, from the arguments of the text
-abbrev quick-buffer : tie.After-write-lines-arg → tie.After-plan-buffer2
-quick-buffer c = c .before .before .before .before .before
+-- the quick plan's buffer, from its part that is lent and from the last argument of the text
+abbrev quick-buffer : tie.After-quick → tie.After-plan-buffer2
+quick-buffer c = c .before .before .before
+
+abbrev quick-buffer-2 : tie.After-write-lines-arg → tie.After-plan-buffer2
+quick-buffer-2 c = quick-buffer (c .before .before)
 
 no-sets-requires : tie.Need-no-sets-requires
 no-sets-requires c κs = search needs
@@ -122,17 +125,17 @@ array-borrow-prefix-quick : tie.Need-array-borrow-prefix-quick
 array-borrow-prefix-quick c = quick-bytes (c .before .before)
 
 slice-aggregate-write-lines-3 : tie.Need-slice-aggregate-write-lines-3
-slice-aggregate-write-lines-3 c = sym (length-take-le _ _ (quick-bytes (c .before .before .before)))
+slice-aggregate-write-lines-3 c = sym (length-take-le _ _ (quick-bytes (quick-buffer c)))
 
 array-share-prefix-best : tie.Need-array-share-prefix-best
-array-share-prefix-best c = best-bytes (c .before .before .before .before)
+array-share-prefix-best c = best-bytes (quick-buffer c .before)
 
 slice-aggregate-write-lines-4 : tie.Need-slice-aggregate-write-lines-4
-slice-aggregate-write-lines-4 c = sym (length-take-le _ _ (best-bytes (c .before .before .before .before .before)))
+slice-aggregate-write-lines-4 c = sym (length-take-le _ _ (best-bytes (quick-buffer (c .before) .before)))
 
 write-lines-requires : tie.Need-write-lines-requires
 write-lines-requires c κs =
-    let room = quick-buffer c in
+    let room = quick-buffer-2 c in
     let d = room .before in
     let best-laid = shared (read d) in
     let s = begun (best-buffer best-laid) in
@@ -148,7 +151,7 @@ same-length-2 c = search needs
 returns-2 : tie.Need-returns-2
 returns-2 c =
     let written = c .before .before .before .before in
-    let d = quick-buffer (written .before) .before in
+    let d = quick-buffer-2 (written .before) .before in
     let (e, (lines, _)) = read d .read-lines .ensures in
     rw (text-accepted _ e (d .if1 .left) (lines (d .if1 .left))) (written .write-lines .ensures)
 
