@@ -49,7 +49,7 @@ slice-aggregate-alone-3 c = search needs
 slice-aggregate-alone-4 : tie.Need-slice-aggregate-alone-4
 slice-aggregate-alone-4 c = search needs
 
--- both files are read, and the first refusal of the two is known: from the arguments of the search
+-- both files are read, and the first refusal of the two is known: from the last argument of the sharing alone
 abbrev both-read : tie.After-alone-arg → tie.After-first-of
 both-read c = c .before .before .before .before .before
 
@@ -63,9 +63,9 @@ read-first c = c .before .before .before .before .before .before
 abbrev read-first-2 : tie.After-first-of → tie.After-read-lines
 read-first-2 of = read-first (read-second of .before)
 
--- the answer of the search, from the plan
-abbrev answered : tie.After-plan → tie.After-alone
-answered c = c .before .before .before
+-- each file shared alone, from the plan
+abbrev shared : tie.After-plan → tie.After-alone
+shared c = c .before .before .before
 
 alone-requires : tie.Need-alone-requires
 alone-requires c κs =
@@ -88,7 +88,7 @@ same-length c = search needs
 
 returns : tie.Need-returns
 returns c =
-    let laid = answered (c .before .before .before .before) in
+    let laid = shared (c .before .before .before .before) in
     let of = both-read (laid .before) in
     let (e, (read, (_, lines))) = read-first-2 of .read-lines .ensures in
     let (f, (second-read, (_, second-lines))) = read-second of .read-lines2 .ensures in
