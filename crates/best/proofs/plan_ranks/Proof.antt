@@ -8,9 +8,17 @@ use borrow.Author.Needs.{needs}
 use Rattle.best.proofs.plan_ranks.Statement.{statement}
 use Rattle.best.proofs.plan_ranks.Tie as tie
 
+-- the call's start, once the slices are known
+abbrev begun : tie.After-slice-known2 → tie.Start
+begun c = c .before .before .before .before
+
+-- and with the plan's arguments
+abbrev begun-2 : tie.After-plan-runs-arg2 → tie.Start
+begun-2 c = begun (c .before .before .before)
+
 returns : tie.Need-returns
 returns c =
-    let s = c .before .before .before .before .before in
+    let s = begun (c .before) in
     nothing (onHead (s .args .mounted)) (s .pre) (c .if1 .taken)
 
 mul-square : tie.Need-mul-square
@@ -19,16 +27,13 @@ mul-square c = search needs
 slice-relend-prefix-plan-runs : tie.Need-slice-relend-prefix-plan-runs
 slice-relend-prefix-plan-runs c = search needs
 
--- there is a tip, and the table has room
-abbrev begun : tie.After-plan-runs-arg2 → tie.Start
-begun c = c .before .before .before .before .before .before .before
-
 slice-aggregate-plan-runs : tie.Need-slice-aggregate-plan-runs
-slice-aggregate-plan-runs c = sym (length-take-le _ _ (begun c .pre .room))
+slice-aggregate-plan-runs c = sym (length-take-le _ _ (begun-2 c .pre .room))
 
+-- there is a tip, and the table has room
 plan-runs-requires : tie.Need-plan-runs-requires
 plan-runs-requires c κs =
-    let p = begun c .pre in
+    let p = begun-2 c .pre in
     (p .runs (pos-of-ne-zero (c .before .before .if1 .left)), p .size, length-take-le _ _ (p .room))
 
 same-length : tie.Need-same-length
@@ -40,7 +45,7 @@ same-length-2 c = search needs
 returns-2 : tie.Need-returns-2
 returns-2 c =
     let laid = c .before .before .before .before in
-    let a = begun (laid .before) .args in
+    let a = begun-2 (laid .before) .args in
     let e = laid .plan-runs .ensures in
     (e .0, rw (e .1) (table-front (a .r) (repeated (a .quantities .now) (a .sets .now)) _))
 

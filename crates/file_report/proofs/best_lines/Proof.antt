@@ -3,8 +3,20 @@ use borrow.Author.Needs.{needs}
 use Rattle.file_report.proofs.best_lines.Statement.{statement}
 use Rattle.file_report.proofs.best_lines.Tie as tie
 
-abbrev begun : tie.After-table → tie.Start
-begun c = c .before .before .before .before .before .before .before .before
+-- the call's start, once the slices are known
+abbrev begun : tie.After-slice-known2 → tie.Start
+begun c = c .before .before .before
+
+-- the refusal told, from the plan's last argument, and the start from there
+abbrev asked : tie.After-table → tie.After-refuse
+asked c = c .before .before .before
+
+abbrev begun-2 : tie.After-table → tie.Start
+begun-2 c = begun (asked c .before .before)
+
+-- the best plan, once it is laid
+abbrev laid : tie.After-plan → tie.After-best
+laid c = c .before .before .before
 
 table-buffer-requires : tie.Need-table-buffer-requires
 table-buffer-requires c κs = search needs
@@ -16,7 +28,7 @@ slice-aggregate-best : tie.Need-slice-aggregate-best
 slice-aggregate-best c = search needs
 
 best-requires : tie.Need-best-requires
-best-requires c κs = given-whole (begun c .pre .0)
+best-requires c κs = given-whole (begun-2 c .pre .0)
 
 same-length : tie.Need-same-length
 same-length c = search needs
@@ -26,11 +38,11 @@ same-length-2 c = search needs
 
 returns : tie.Need-returns
 returns c =
-    let laid = c .before .before .before .before .before .before .before in
-    let asked = laid .before .before .before .before in
-    let (good, size) = begun (laid .before) .pre in
-    let (answer, (plan, _)) = laid .best .ensures in
-    best-is good (asked .refuse .ensures) _ size (asked .before .table-buffer .ensures) answer plan
+    let best = laid (c .before .before .before .before) in
+    let a = asked (best .before) in
+    let (good, size) = begun-2 (best .before) .pre in
+    let (answer, (plan, _)) = best .best .ensures in
+    best-is good (a .refuse .ensures) _ size (a .before .table-buffer .ensures) answer plan
 
 pub best-lines-spec : {M : Type 1} → statement M
 best-lines-spec =

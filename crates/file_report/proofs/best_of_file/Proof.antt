@@ -11,6 +11,20 @@ use borrow.Author.Needs.{needs}
 use Rattle.file_report.proofs.best_of_file.Statement.{statement}
 use Rattle.file_report.proofs.best_of_file.Tie as tie
 
+-- the call's start, once the slices are known
+abbrev entered : tie.After-slice-known3 → tie.Start
+entered c = c .before .before .before .before
+
+-- the lines read, from where the refusal is known and from where there is none
+abbrev told : tie.After-struct-known → tie.After-read-lines
+told c = c .before .before .before .before .before .before
+
+abbrev read : tie.Else1 → tie.After-read-lines
+read d = told (d .before)
+
+abbrev begun : tie.Else1 → tie.Start
+begun d = entered (read d .before .before .before)
+
 read-lines-requires : tie.Need-read-lines-requires
 read-lines-requires c κs = search needs
 
@@ -21,15 +35,9 @@ same-length-2 : tie.Need-same-length-2
 same-length-2 c = search needs
 
 returns : tie.Need-returns
-returns c = λ z. absurd (number-not (c .before .before .before .before .before .before .before .read-lines .ensures .0) (c .if1 .taken) z)
+returns c = λ z. absurd (number-not (told (c .before) .read-lines .ensures .0) (c .if1 .taken) z)
 
 -- nothing is refused: the sets and the quantities hold good lines
-abbrev read : tie.Else1 → tie.After-read-lines
-read d = d .before .before .before .before .before .before .before
-
-abbrev begun : tie.Else1 → tie.Start
-begun d = read d .before .before .before .before .before .before .before
-
 given : (d : tie.Else1)
     → let r = read d .read-lines in
     Given (r .result .refusal) (r .result .rack) (r .result .count) (r .last .1 .1 .0) (r .last .1 .0)

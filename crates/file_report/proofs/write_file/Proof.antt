@@ -12,6 +12,31 @@ use borrow.Author.Needs.{needs}
 use Rattle.file_report.proofs.write_file.Statement.{statement}
 use Rattle.file_report.proofs.write_file.Tie as tie
 
+-- the call's start, from the best plan's buffer
+abbrev begun : tie.After-plan-buffer → tie.Start
+begun c = c .before .before .before .before .before
+
+abbrev best-buffer : tie.After-best-of-file → tie.After-plan-buffer
+best-buffer c = c .before .before .before .before
+
+-- best sharing of the file, before its lines were read again
+abbrev shared : tie.After-read-lines → tie.After-best-of-file
+shared r = r .before .before .before .before .before .before
+
+-- the lines read, from where the refusal is known and from where there is none
+abbrev told : tie.After-struct-known → tie.After-read-lines
+told c = c .before .before .before .before
+
+abbrev read : tie.Else1 → tie.After-read-lines
+read d = told (d .before)
+
+-- the quick plan's buffer, from its part that is lent and from the last argument of the text
+abbrev quick-buffer : tie.After-quick → tie.After-plan-buffer2
+quick-buffer c = c .before .before .before
+
+abbrev quick-buffer-2 : tie.After-write-lines-arg → tie.After-plan-buffer2
+quick-buffer-2 c = quick-buffer (c .before .before)
+
 no-sets-requires : tie.Need-no-sets-requires
 no-sets-requires c κs = search needs
 
@@ -52,16 +77,12 @@ returns : tie.Need-returns
 returns c =
     let written = c .before .before in
     let refused = written .before .before in
-    let read = refused .before .before .before .before .before in
-    rw (text-refused _ (read .read-lines .ensures .0) (refused .if1 .taken)) (written .write-refused .ensures)
+    rw (text-refused _ (told (refused .before) .read-lines .ensures .0) (refused .if1 .taken)) (written .write-refused .ensures)
 
 plan-buffer-requires-2 : tie.Need-plan-buffer-requires-2
 plan-buffer-requires-2 c κs = search needs
 
 -- nothing is refused: the sets and the quantities hold good lines
-abbrev read : tie.Else1 → tie.After-read-lines
-read d = d .before .before .before .before .before
-
 given : (d : tie.Else1)
     → let r = read d .read-lines in
     Given (r .result .refusal) (r .result .rack) (r .result .count) (r .last .1 .1 .0) (r .last .1 .0)
@@ -78,17 +99,13 @@ size d = length-take-le _ _ (given d .room (d .if1 .left))
 few : (d : tie.Else1) → read d .read-lines .result .count ≤ mostLines
 few d = omega (arith, size d, good d .few-lines)
 
--- best sharing of the file, before its lines were read again
-abbrev shared : tie.After-read-lines → tie.After-best-of-file
-shared r = r .before .before .before .before .before .before
-
 quick-bytes : (c : tie.After-plan-buffer2) → read (c .before) .read-lines .result .count ≤ length (c .plan-buffer2 .result)
 quick-bytes c = omega (arith, few (c .before), c .plan-buffer2 .ensures)
 
 best-bytes : (d : tie.Else1) → read d .read-lines .result .count ≤ length (shared (read d) .best-of-file .last .1 .1 .1 .0)
 best-bytes d =
     let laid = shared (read d) in
-    omega (arith, few d, laid .best-of-file .kept .1 .1 .1 .0, laid .before .before .before .before .plan-buffer .ensures)
+    omega (arith, few d, laid .best-of-file .kept .1 .1 .1 .0, best-buffer laid .plan-buffer .ensures)
 
 array-borrow-prefix-sets : tie.Need-array-borrow-prefix-sets
 array-borrow-prefix-sets c = let d = c .before in given d .room (d .if1 .left)
@@ -108,24 +125,25 @@ array-borrow-prefix-quick : tie.Need-array-borrow-prefix-quick
 array-borrow-prefix-quick c = quick-bytes (c .before .before)
 
 slice-aggregate-write-lines-3 : tie.Need-slice-aggregate-write-lines-3
-slice-aggregate-write-lines-3 c = sym (length-take-le _ _ (quick-bytes (c .before .before .before)))
+slice-aggregate-write-lines-3 c = sym (length-take-le _ _ (quick-bytes (quick-buffer c)))
 
 array-share-prefix-best : tie.Need-array-share-prefix-best
-array-share-prefix-best c = best-bytes (c .before .before .before .before)
+array-share-prefix-best c = best-bytes (quick-buffer c .before)
 
 slice-aggregate-write-lines-4 : tie.Need-slice-aggregate-write-lines-4
-slice-aggregate-write-lines-4 c = sym (length-take-le _ _ (best-bytes (c .before .before .before .before .before)))
+slice-aggregate-write-lines-4 c = sym (length-take-le _ _ (best-bytes (quick-buffer (c .before) .before)))
 
 write-lines-requires : tie.Need-write-lines-requires
 write-lines-requires c κs =
-    let laid = c .before .before .before .before .before in
-    let d = laid .before in
-    let s = read d .before .before .before .before .before .before .before .before .before .before .before .before .before .before .before in
+    let room = quick-buffer-2 c in
+    let d = room .before in
+    let best-laid = shared (read d) in
+    let s = begun (best-buffer best-laid) in
     let (e, (lines, _)) = read d .read-lines .ensures in
-    let quick = length-take-le _ _ (quick-bytes laid) in
+    let quick = length-take-le _ _ (quick-bytes room) in
     let best = length-take-le _ _ (best-bytes d) in
-    let told = shared (read d) .best-of-file .ensures (number-of e (d .if1 .left)) in
-    ((good d, s .pre), ((quick ∙ sym (size d), best ∙ sym (size d)), told-lines (lines (d .if1 .left)) _ told))
+    let answer = best-laid .best-of-file .ensures (number-of e (d .if1 .left)) in
+    ((good d, s .pre), ((quick ∙ sym (size d), best ∙ sym (size d)), told-lines (lines (d .if1 .left)) _ answer))
 
 same-length-2 : tie.Need-same-length-2
 same-length-2 c = search needs
@@ -133,7 +151,7 @@ same-length-2 c = search needs
 returns-2 : tie.Need-returns-2
 returns-2 c =
     let written = c .before .before .before .before in
-    let d = written .before .before .before .before .before .before .before in
+    let d = quick-buffer-2 (written .before) .before in
     let (e, (lines, _)) = read d .read-lines .ensures in
     rw (text-accepted _ e (d .if1 .left) (lines (d .if1 .left))) (written .write-lines .ensures)
 

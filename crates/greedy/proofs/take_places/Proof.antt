@@ -18,8 +18,11 @@ abbrev μ-loop : tie.MeasureT-loop
 μ-loop tip n places list quantities left₀ plan₀ sets₀ taken₀ k₀ left plan sets taken k = n - k
 
 -- the places that the answers speak of: the call, a turn, and the line that is taken
+abbrev entered : tie.After-slice-known Inv-loop μ-loop → tie.Start Inv-loop μ-loop
+entered c = c .before .before .before .before
+
 abbrev called : tie.At-loop Inv-loop μ-loop → tie.Start Inv-loop μ-loop
-called c = c .before .before .before .before .before .before .before .before
+called c = entered (c .before .before .before .before)
 
 abbrev looped : tie.After-wide Inv-loop μ-loop → tie.At-loop Inv-loop μ-loop
 looped c = c .before .before .before

@@ -22,8 +22,11 @@ abbrev μ-loop : tie.MeasureT-loop
 abbrev listed : tie.After-slice-known8 Inv-loop μ-loop → tie.After-list-all Inv-loop μ-loop
 listed c = c .before .before
 
+abbrev entered : tie.After-slice-known4 Inv-loop μ-loop → tie.Start Inv-loop μ-loop
+entered c = c .before .before .before .before .before
+
 abbrev begins : tie.After-list-all-arg Inv-loop μ-loop → tie.Start Inv-loop μ-loop
-begins c = c .before .before .before .before .before .before .before .before .before .before
+begins c = entered (c .before .before .before .before .before)
 
 abbrev called : tie.At-loop Inv-loop μ-loop → tie.Start Inv-loop μ-loop
 called c = begins (listed (c .before) .before)
@@ -34,11 +37,21 @@ looped c = c .before .before
 abbrev counted : tie.After-choose Inv-loop μ-loop → tie.After-busiest-tips Inv-loop μ-loop
 counted c = c .before .before .before
 
-abbrev paired : tie.After-take-lines-arg7 Inv-loop μ-loop → tie.After-pairs-among Inv-loop μ-loop
-paired c = c .before .before .before .before .before .before .before
+abbrev paired : tie.After-take-lines-arg3 Inv-loop μ-loop → tie.After-pairs-among Inv-loop μ-loop
+paired c = c .before .before .before
 
-abbrev done : tie.After-slice-known15 Inv-loop μ-loop → tie.After-take-lines Inv-loop μ-loop
-done c = c .before .before .before .before .before .before .before .before .before .before .before .before .before .before
+abbrev paired-2 : tie.After-take-lines-arg7 Inv-loop μ-loop → tie.After-pairs-among Inv-loop μ-loop
+paired-2 c = paired (c .before .before .before .before)
+
+-- the lines taken: once the sets are back, the lines left, and the counts
+abbrev done : tie.After-slice-known11 Inv-loop μ-loop → tie.After-take-lines Inv-loop μ-loop
+done c = c .before .before .before .before .before .before
+
+abbrev done-2 : tie.After-slice-known13 Inv-loop μ-loop → tie.After-take-lines Inv-loop μ-loop
+done-2 c = done (c .before .before .before .before)
+
+abbrev done-3 : tie.After-slice-known15 Inv-loop μ-loop → tie.After-take-lines Inv-loop μ-loop
+done-3 c = done-2 (c .before .before .before .before)
 
 begun : (c : tie.After-busiest-tips Inv-loop μ-loop)
     → let s = called (looped c) .args in
@@ -129,7 +142,7 @@ add-shared c = record { fits = omega (arith, pairs-fit (chosen (c .before)) (c .
 
 take-lines-requires : tie.Need-take-lines-requires Inv-loop μ-loop
 take-lines-requires c κs =
-    let t = paired c .before in
+    let t = paired-2 c .before in
     let l = looped (counted t) in
     round-ready (chosen t) (l .loop .inv .0) (l .loop .inv .1)
     (still-fit (called l .pre .0 .fit) (record { list-size = search needs; places-size = refl; sets-size = refl; taken-size = refl }))
@@ -148,14 +161,14 @@ same-length-11 c = search needs
 
 same-length-12 : tie.Need-same-length-12 Inv-loop μ-loop
 same-length-12 c =
-    let t = done (c .before) in
-    let p = paired (t .before) in
+    let t = done-3 (c .before) in
+    let p = paired-2 (t .before) in
     next (chosen (p .before)) (p .pairs-among .ensures) (t .take-lines .ensures .done) .size
 
 same-length-13 : tie.Need-same-length-13 Inv-loop μ-loop
 same-length-13 c =
-    let t = done (c .before) in
-    let p = paired (t .before) in
+    let t = done-3 (c .before) in
+    let p = paired-2 (t .before) in
     let l = looped (counted (p .before)) in
     let state = next (chosen (p .before)) (p .pairs-among .ensures) (t .take-lines .ensures .done) in
     state .plan-size ∙ state .size ∙ sym (called l .pre .0 .shareable .size)
@@ -165,8 +178,8 @@ same-length-14 c = search needs
 
 returns-2 : tie.Need-returns-2 Inv-loop μ-loop
 returns-2 c =
-    let t = done (c .before) in
-    let p = paired (t .before) in
+    let t = done-3 (c .before) in
+    let p = paired-2 (t .before) in
     let r = t .take-lines .ensures in
     let state = next (chosen (p .before)) (p .pairs-among .ensures) (r .done) in
     let empty = none-listed _ (r .unplanned) (c .if2 .taken) in
@@ -174,14 +187,14 @@ returns-2 c =
 
 loop-less : tie.Need-loop-less Inv-loop μ-loop
 loop-less c =
-    let t = done (c .before) in
-    let p = paired (t .before) in
+    let t = done-3 (c .before) in
+    let p = paired-2 (t .before) in
     next-fewer (chosen (p .before)) (p .pairs-among .ensures) (t .take-lines .ensures .done)
 
 loop-again : tie.Need-loop-again Inv-loop μ-loop
 loop-again c =
-    let t = done (c .before) in
-    let p = paired (t .before) in
+    let t = done-3 (c .before) in
+    let p = paired-2 (t .before) in
     let r = t .take-lines .ensures in (
       record {
         state = next (chosen (p .before)) (p .pairs-among .ensures) (r .done);

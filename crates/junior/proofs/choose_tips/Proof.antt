@@ -37,10 +37,26 @@ Inv-loop m pairs lines quantities all best₀ u₀ best u = (u ≤ m) × Sought 
 abbrev μ-loop : tie.MeasureT-loop
 μ-loop m pairs lines quantities all best₀ u₀ best u = m - u
 
+-- the call's start, once the slices are known
+abbrev begun : tie.After-shared-slice-known3 Inv-loop2 μ-loop2 Inv-tips μ-tips Inv-loop μ-loop
+    → tie.Start Inv-loop2 μ-loop2 Inv-tips μ-tips Inv-loop μ-loop
+begun c = c .before .before .before
+
+-- the loop over the lower tip, from that over the higher; and this one, from the loop over lines
+abbrev lower : tie.At-tips Inv-loop2 μ-loop2 Inv-tips μ-tips Inv-loop μ-loop → tie.At-loop Inv-loop2 μ-loop2 Inv-tips μ-tips Inv-loop μ-loop
+lower c = c .before .before
+
+abbrev higher : tie.At-loop2 Inv-loop2 μ-loop2 Inv-tips μ-tips Inv-loop μ-loop → tie.At-tips Inv-loop2 μ-loop2 Inv-tips μ-tips Inv-loop μ-loop
+higher c = c .before .before
+
+-- the turn of a line, from its first count
+abbrev turn : tie.After-placed Inv-loop2 μ-loop2 Inv-tips μ-tips Inv-loop μ-loop → tie.In-loop2 Inv-loop2 μ-loop2 Inv-tips μ-tips Inv-loop μ-loop
+turn c = c .before .before .before .before .before
+
 -- what is known at the head of the loop over lines
 module _ (l : tie.At-loop2 Inv-loop2 μ-loop2 Inv-tips μ-tips Inv-loop μ-loop) where
   abbrev s : tie.Start Inv-loop2 μ-loop2 Inv-tips μ-tips Inv-loop μ-loop
-  s = l .before .before .before .before .before .before .before .before
+  s = begun (lower (higher l) .before)
 
   abbrev m : ℕ
   m = s .args .m
@@ -52,7 +68,7 @@ module _ (l : tie.At-loop2 Inv-loop2 μ-loop2 Inv-tips μ-tips Inv-loop μ-loop)
   qs = s .args .quantities .now
 
   abbrev u : ℕ
-  u = l .before .before .before .before .loop .u
+  u = lower (higher l) .loop .u
 
   abbrev v : ℕ
   v = l .loop2 .v
@@ -69,8 +85,10 @@ module _ (l : tie.At-loop2 Inv-loop2 μ-loop2 Inv-tips μ-tips Inv-loop μ-loop)
   ordered : u ≤ v
   ordered = omega arith
 
-  sought : Sought m qs lines (u * m + v) (l .before .before .tips .best)
-  sought = subst (λ x. Sought m qs lines (u * m + x) (l .before .before .tips .best)) (sym (l .loop2 .inv .1)) (l .before .before .tips .inv .2)
+  sought : Sought m qs lines (u * m + v) (higher l .tips .best)
+  sought =
+      let t = higher l .tips in
+      subst (λ x. Sought m qs lines (u * m + x) (t .best)) (sym (l .loop2 .inv .1)) (t .inv .2)
 
   -- no more placements are counted than there are
   counts : (l .loop2 .with-u ≤ s .args .all) × (l .loop2 .with-v ≤ s .args .all) × (s .args .all ≤ mostPlacements)
@@ -85,7 +103,7 @@ module _ (l : tie.At-loop2 Inv-loop2 μ-loop2 Inv-tips μ-tips Inv-loop μ-loop)
 
 loop-holds : tie.Need-loop-holds Inv-loop2 μ-loop2 Inv-tips μ-tips Inv-loop μ-loop
 loop-holds c =
-    let s = c .before .before .before in
+    let s = begun c in
     let e : 0 * s .args .m ≡ 0 = omega arith in
     (search needs, rw e (sought-none (s .pre .0 .some)))
 
@@ -116,8 +134,9 @@ tips-less c = search needs
 
 tips-again : tie.Need-tips-again Inv-loop2 μ-loop2 Inv-tips μ-tips Inv-loop μ-loop
 tips-again c =
-    let l = c .before .before .before .before in
-    let gone = given-up (good l) (u l) (v l) (i l) (inside l) (c .before .before .before .loop2-test .taken) (l .loop2 .inv .2)
+    let r = c .before .before .before in
+    let l = r .before in
+    let gone = given-up (good l) (u l) (v l) (i l) (inside l) (r .loop2-test .taken) (l .loop2 .inv .2)
     (fails (c .before .has-one .ensures) (c .if1 .taken)) in
     (omega arith, search needs, rw (sym (next l)) (sought-stays (sought l) (omega (arith, gone))))
 
@@ -130,7 +149,7 @@ placed-requires c κs = search needs
 
 add-with-u : tie.Need-add-with-u Inv-loop2 μ-loop2 Inv-tips μ-tips Inv-loop μ-loop
 add-with-u c =
-    let r = c .before .before .before .before .before in
+    let r = turn c in
     let l = r .before in
     record { fits = omega (arith, counted-more (good l) (u l) (v l) (i l) (r .loop2-test .taken) (u l) (l .loop2 .inv .3) (c .placed .ensures) .1) }
 
@@ -143,7 +162,7 @@ placed-requires-2 c κs = search needs
 
 add-with-v : tie.Need-add-with-v Inv-loop2 μ-loop2 Inv-tips μ-tips Inv-loop μ-loop
 add-with-v c =
-    let r = c .before .before .before .before .before .before .before in
+    let r = turn (c .before .before) in
     let l = r .before in
     record { fits = omega (arith, counted-more (good l) (u l) (v l) (i l) (r .loop2-test .taken) (v l) (l .loop2 .inv .4) (c .placed2 .ensures) .1) }
 
@@ -156,7 +175,7 @@ loop2-less c = search needs
 loop2-again : tie.Need-loop2-again Inv-loop2 μ-loop2 Inv-tips μ-tips Inv-loop μ-loop
 loop2-again c =
     let p = c .before .before in
-    let r = p .before .before .before .before .before in
+    let r = turn p in
     let l = r .before in
     let here = r .loop2-test .taken in
     let one = passes (p .before .before .before .has-one .ensures) (p .before .before .if1 .left) in (
@@ -216,15 +235,16 @@ loop-less c = search needs
 loop-again : tie.Need-loop-again Inv-loop2 μ-loop2 Inv-tips μ-tips Inv-loop μ-loop
 loop-again c =
     let t = c .before .tips in
-    let u = c .before .before .before .loop .u in
-    let m = c .before .before .before .before .before .before .before .args .m in
+    let l = lower (c .before) in
+    let u = l .loop .u in
+    let m = begun (l .before) .args .m in
     let last : t .v ≡ m = omega arith in
     let e : u * m + t .v ≡ (u + 1) * m = omega (arith, ap (λ x. u * m + x) last) in
     (search needs, rw e at (t .inv .2))
 
 returns : tie.Need-returns Inv-loop2 μ-loop2 Inv-tips μ-tips Inv-loop μ-loop
 returns c =
-    let s = c .before .before .before .before .before in
+    let s = begun (c .before .before) in
     let e : c .before .loop .u ≡ s .args .m = omega arith in
     sought-all (s .pre .0 .some) (rw e at (c .before .loop .inv .1))
 

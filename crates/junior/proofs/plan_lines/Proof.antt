@@ -20,14 +20,17 @@ slice-aggregate-choose-tips c = search needs
 choose-tips-requires : tie.Need-choose-tips-requires
 choose-tips-requires c κs = search needs
 
--- the call's start, from where the tips are chosen
-abbrev begun : tie.After-choose-tips → tie.Start
-begun t = t .before .before .before .before .before .before .before
+-- the call's start, once the slices are known and from where the tips are chosen
+abbrev begun : tie.After-slice-known → tie.Start
+begun c = c .before .before .before
+
+abbrev begun-2 : tie.After-choose-tips → tie.Start
+begun-2 t = begun (t .before .before .before .before)
 
 returns : tie.Need-returns
 returns c =
     let t = c .before .before in
-    let a = begun t .args in
+    let a = begun-2 t .args in
     let told = t .choose-tips .ensures in (
       answer-none (a .m) (a .quantities .now) (a .lines .now) told (c .if1 .taken),
       plan-none (a .m) (a .quantities .now) (a .lines .now) told (c .if1 .taken) (a .plan .now),
@@ -37,7 +40,7 @@ lay-tips-requires : tie.Need-lay-tips-requires
 lay-tips-requires c κs =
     let e = c .before in
     let t = e .before .before in
-    let s = begun t in
+    let s = begun-2 t in
     let (u, v) = tips-inside (s .args .m) (s .args .quantities .now) (s .args .lines .now) (t .choose-tips .ensures) (s .pre .0) (e .if1 .left) in
     (omega (arith, s .pre .0 .most), omega (arith, s .pre .0 .most), search needs)
 
@@ -52,7 +55,7 @@ returns-2 c =
     let l = c .before .before .before in
     let e = l .before .before in
     let t = e .before .before in
-    let s = begun t in
+    let s = begun-2 t in
     let a = s .args in
     let told = t .choose-tips .ensures in (
       answer-some (a .m) (a .quantities .now) (a .lines .now) told (s .pre .0) (e .if1 .left),

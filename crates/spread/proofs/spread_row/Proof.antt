@@ -17,15 +17,24 @@ Inv-loop set m r a first table₀ row end₀ b₀ table end b = (b ≤ m) × (en
 abbrev μ-loop : tie.MeasureT-loop
 μ-loop set m r a first table₀ row end₀ b₀ table end b = b
 
+-- the call's start, from the loop; and the loop, from the end of a turn
+abbrev begun : tie.At-loop Inv-loop μ-loop → tie.Start Inv-loop μ-loop
+begun c = c .before .before
+
+abbrev looped : tie.After-one Inv-loop μ-loop → tie.At-loop Inv-loop μ-loop
+looped c = c .before .before .before .before .before
+
 -- the place written is in the table, and tables are small
 known : (c : tie.In-loop Inv-loop μ-loop) →
-    let a = c .before .before .before .args in
-    (a .a * a .m + (c .before .loop .b - 1) < length (c .before .loop .table)) × (length (c .before .loop .table) ≤ 4096)
+    let a = begun (c .before) .args in
+    let at = c .before .loop in
+    (a .a * a .m + (at .b - 1) < length (at .table)) × (length (at .table) ≤ 4096)
 known c =
-    let s = c .before .before .before in
-    let room = place (s .args .m) (s .args .a) (c .before .loop .b) (s .pre .inside) (omega arith) (c .before .loop .inv .0) in (
-      omega (arith, room, s .pre .size, c .before .loop .inv .2 .size),
-      omega (arith, square-few (s .pre .rack), s .pre .size, c .before .loop .inv .2 .size),
+    let s = begun (c .before) in
+    let at = c .before .loop in
+    let room = place (s .args .m) (s .args .a) (at .b) (s .pre .inside) (omega arith) (at .inv .0) in (
+      omega (arith, room, s .pre .size, at .inv .2 .size),
+      omega (arith, square-few (s .pre .rack), s .pre .size, at .inv .2 .size),
     )
 
 mul-row : tie.Need-mul-row Inv-loop μ-loop
@@ -43,11 +52,12 @@ sub-b : tie.Need-sub-b Inv-loop μ-loop
 sub-b c = search needs
 
 cell-at-requires : tie.Need-cell-at-requires Inv-loop μ-loop
-cell-at-requires c κs = λ l.
-    let s = c .before .before .before .before in
-    let at = c .before .before .loop in
+cell-at-requires c κs = λ inside.
+    let l = c .before .before in
+    let s = begun l in
+    let at = l .loop in
     let room = read-room (has (s .args .set)) (s .args .m) (s .args .a) (at .b) (s .pre .inside) (omega arith) (at .inv .0) in
-    omega (arith, (rw (← (s .pre .below), ← (s .pre .named), ← (at .inv .1)) at room) l, at .inv .2 .size, s .pre .size)
+    omega (arith, (rw (← (s .pre .below), ← (s .pre .named), ← (at .inv .1)) at room) inside, at .inv .2 .size, s .pre .size)
 
 add-table : tie.Need-add-table Inv-loop μ-loop
 add-table c = omega (arith, known (c .before .before))
@@ -66,12 +76,12 @@ one-requires c κs = search needs
 
 -- the rank of the place written, from that of the next
 ended : (c : tie.After-one Inv-loop μ-loop) →
-    let a = c .before .before .before .before .before .before .before .args in
-    let at = c .before .before .before .before .before .loop in
+    let a = begun (looped c) .args in
+    let at = looped c .loop in
     at .end ≡ rank (has (a .set)) (at .b - 1) + c .one .result
 ended c =
-    let a = c .before .before .before .before .before .before .before .args in
-    let at = c .before .before .before .before .before .loop in
+    let a = begun (looped c) .args in
+    let at = looped c .loop in
     omega (
       arith,
       at .inv .1,
@@ -88,16 +98,17 @@ loop-less c = search needs
 
 loop-again : tie.Need-loop-again Inv-loop μ-loop
 loop-again c =
-    let s = c .before .before .before .before .before .before .before in
+    let l = looped c in
+    let s = begun l in
     let g = s .args in
-    let at = c .before .before .before .before .before .loop in
+    let at = l .loop in
     let some : 0 < at .b = omega arith in
     let read = c .before .before .cell-at .ensures in
     let is = row-read (g .set) (g .m) (g .r) (g .a) (s .pre .named) (g .table .now) (at .b) some (at .inv .0) (at .inv .2) in (
       omega arith,
       omega (arith, ended c),
       row-more (g .set) (g .m) (g .r) (g .a) (s .pre .named) (g .table .now) (at .b) some (at .inv .0) (at .inv .2) (s .pre .inside) (s .pre .size)
-          (read ∙ rw (s .pre .below, at .inv .1) is),
+          (read ∙ (rw (← (s .pre .below), ← (at .inv .1)) at is)),
     )
 
 same-length : tie.Need-same-length Inv-loop μ-loop

@@ -16,6 +16,13 @@ Inv-loop set m r table₀ first₀ a₀ table first a = (a ≤ m) × (first ≡ 
 abbrev μ-loop : tie.MeasureT-loop
 μ-loop set m r table₀ first₀ a₀ table first a = a
 
+-- the call's start, from the loop; and the loop, from a row's rank
+abbrev begun : tie.At-loop Inv-loop μ-loop → tie.Start Inv-loop μ-loop
+begun c = c .before .before
+
+abbrev looped : tie.After-one Inv-loop μ-loop → tie.At-loop Inv-loop μ-loop
+looped c = c .before .before .before
+
 loop-holds : tie.Need-loop-holds Inv-loop μ-loop
 loop-holds c =
     let g = c .before .args in
@@ -33,12 +40,12 @@ one-requires c κs = search needs
 
 -- the rank of the row's tip, from that of the next
 ranked : (c : tie.After-one Inv-loop μ-loop) →
-    let a = c .before .before .before .before .before .args in
-    let at = c .before .before .before .loop in
+    let a = begun (looped c) .args in
+    let at = looped c .loop in
     at .first ≡ rank (has (a .set)) (at .a - 1) + c .one .result
 ranked c =
-    let a = c .before .before .before .before .before .args in
-    let at = c .before .before .before .loop in
+    let a = begun (looped c) .args in
+    let at = looped c .loop in
     omega (
       arith,
       at .inv .1,
@@ -52,8 +59,9 @@ sub-first c = omega (arith, ranked c)
 
 spread-next-requires : tie.Need-spread-next-requires Inv-loop μ-loop
 spread-next-requires c κs =
-    let s = c .before .before .before .before .before .before in
-    let at = c .before .before .before .before .loop in
+    let l = looped (c .before) in
+    let s = begun l in
+    let at = l .loop in
     record {
       rack = s .pre .0;
       inside = omega arith;
@@ -67,12 +75,15 @@ loop-less c = search needs
 
 loop-again : tie.Need-loop-again Inv-loop μ-loop
 loop-again c =
-    let g = c .before .before .before .before .before .before .before .before .before .args in
-    let at = c .before .before .before .before .before .before .before .loop in
+    let row = c .before .before in
+    let tip = row .before .before in
+    let l = looped tip in
+    let g = begun l .args in
+    let at = l .loop in
     let e : at .a ≡ at .a - 1 + 1 = omega arith in (
       omega arith,
-      omega (arith, ranked (c .before .before .before .before)),
-      c .before .before .spread-next .ensures (g .table .now) (rw (← e) (at .inv .2)),
+      omega (arith, ranked tip),
+      row .spread-next .ensures (g .table .now) (rw (← e) (at .inv .2)),
     )
 
 same-length : tie.Need-same-length Inv-loop μ-loop
@@ -80,8 +91,9 @@ same-length c = c .before .loop .inv .2 .size
 
 returns : tie.Need-returns Inv-loop μ-loop
 returns c =
-    let g = c .before .before .before .args in
-    let p = c .before .before .before .pre in
+    let s = begun (c .before) in
+    let g = s .args in
+    let p = s .pre in
     let e : c .before .loop .a ≡ 0 = omega arith in
     rows-all (g .set) (g .m) (g .r) (p .1) (g .table .now) (p .2) (rw e at (c .before .loop .inv .2))
 

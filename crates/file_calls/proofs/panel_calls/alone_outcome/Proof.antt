@@ -49,17 +49,28 @@ slice-aggregate-alone-3 c = search needs
 slice-aggregate-alone-4 : tie.Need-slice-aggregate-alone-4
 slice-aggregate-alone-4 c = search needs
 
--- both files are read
-abbrev read-first : tie.After-first-of → tie.After-read-lines
-read-first of = of .before .before .before .before .before .before .before .before .before .before
+-- both files are read, and the first refusal of the two is known: from the last argument of the sharing alone
+abbrev both-read : tie.After-alone-arg → tie.After-first-of
+both-read c = c .before .before .before .before .before
 
+-- either file read, the first one from the second one's arguments and from there
 abbrev read-second : tie.After-first-of → tie.After-read-lines2
 read-second of = of .before .before .before
 
+abbrev read-first : tie.After-other-quantities → tie.After-read-lines
+read-first c = c .before .before .before .before .before .before
+
+abbrev read-first-2 : tie.After-first-of → tie.After-read-lines
+read-first-2 of = read-first (read-second of .before)
+
+-- each file shared alone, from the plan
+abbrev shared : tie.After-plan → tie.After-alone
+shared c = c .before .before .before
+
 alone-requires : tie.Need-alone-requires
 alone-requires c κs =
-    let of = c .before .before .before .before .before in
-    let (e, (read, (_, lines))) = read-first of .read-lines .ensures in
+    let of = both-read c in
+    let (e, (read, (_, lines))) = read-first-2 of .read-lines .ensures in
     let (f, (second-read, (_, second-lines))) = read-second of .read-lines2 .ensures in
     let g = of .first-of .ensures in (
       given-first _ _ e f g lines second-lines (λ z. same-lines (read z)) (λ z. same-lines (second-read z)),
@@ -77,9 +88,9 @@ same-length c = search needs
 
 returns : tie.Need-returns
 returns c =
-    let laid = c .before .before .before .before .before .before .before in
-    let of = laid .before .before .before .before .before .before in
-    let (e, (read, (_, lines))) = read-first of .read-lines .ensures in
+    let laid = shared (c .before .before .before .before) in
+    let of = both-read (laid .before) in
+    let (e, (read, (_, lines))) = read-first-2 of .read-lines .ensures in
     let (f, (second-read, (_, second-lines))) = read-second of .read-lines2 .ensures in
     let (answer, (plan, rule)) = laid .alone .ensures in
     alone-in _ _ e f (of .first-of .ensures) lines second-lines (λ z. same-lines (read z)) (λ z. same-lines (second-read z)) _ answer plan rule

@@ -20,14 +20,25 @@ Inv-loop file report₀ version rack count total₀ at₀ i₀ report total at i
 abbrev μ-loop : tie.MeasureT-loop
 μ-loop file report₀ version rack count total₀ at₀ i₀ report total at i = count - i
 
+-- the call's start, once the slices are known
+abbrev known : tie.After-slice-known Inv-loop μ-loop → tie.Start Inv-loop μ-loop
+known c = c .before .before
+
+-- the version, and the call's start, from the loop
+abbrev versioned : tie.At-loop Inv-loop μ-loop → tie.After-version-in Inv-loop μ-loop
+versioned c = c .before .before .before
+
+abbrev begun : tie.At-loop Inv-loop μ-loop → tie.Start Inv-loop μ-loop
+begun c = known (versioned c .before)
+
 version-in-requires : tie.Need-version-in-requires Inv-loop μ-loop
-version-in-requires c κs = start-long _ (c .before .before .pre .0)
+version-in-requires c κs = start-long _ (known c .pre .0)
 
 rack-in-requires : tie.Need-rack-in-requires Inv-loop μ-loop
-rack-in-requires c κs = start-long _ (c .before .before .before .pre .0)
+rack-in-requires c κs = start-long _ (known (c .before) .pre .0)
 
 read-count-requires : tie.Need-read-count-requires Inv-loop μ-loop
-read-count-requires c κs = start-long _ (c .before .before .before .before .pre .0)
+read-count-requires c κs = start-long _ (known (c .before .before) .pre .0)
 
 loop-holds : tie.Need-loop-holds Inv-loop μ-loop
 unfolding changes bytesOfChanges
@@ -35,21 +46,20 @@ loop-holds c = (pass-start _ _ _ (c .before .rack-in .ensures) (c .read-count .e
 
 set-in-requires : tie.Need-set-in-requires Inv-loop μ-loop
 set-in-requires c κs =
-    let versioned = c .before .before .before .before in
-    (versioned .before .before .before .pre .0, versioned .version-in .ensures, omega (arith, c .before .loop .inv .0 .countIs))
+    let at = c .before in
+    (begun at .pre .0, versioned at .version-in .ensures, omega (arith, at .loop .inv .0 .countIs))
 
 quantity-in-requires : tie.Need-quantity-in-requires Inv-loop μ-loop
 quantity-in-requires c κs =
     let at = c .before .before in
-    let versioned = at .before .before .before in
-    (versioned .before .before .before .pre .0, versioned .version-in .ensures, omega (arith, at .loop .inv .0 .countIs))
+    (begun at .pre .0, versioned at .version-in .ensures, omega (arith, at .loop .inv .0 .countIs))
 
--- the arguments, and the loop's values, at a line that was read
-abbrev entry : tie.After-quantity-in Inv-loop μ-loop → tie.Start Inv-loop μ-loop
-entry c = c .before .before .before .before .before .before .before .before .before
-
+-- the loop's values, and the arguments, at a line that was read
 abbrev turn : tie.After-quantity-in Inv-loop μ-loop → tie.At-loop Inv-loop μ-loop
 turn c = c .before .before .before
+
+abbrev entry : tie.After-quantity-in Inv-loop μ-loop → tie.Start Inv-loop μ-loop
+entry c = begun (turn c)
 
 -- one line more
 next : (c : tie.After-quantity-in Inv-loop μ-loop) →
@@ -84,9 +94,11 @@ loop-less c = omega arith
 
 loop-again : tie.Need-loop-again Inv-loop μ-loop
 loop-again c =
-    let put = c .before .before .put-codes in
-    let new = c .before .before .before .before .mend-line in
-    let b = c .before .before .before .before .before in
+    let written = c .before .before in
+    let put = written .put-codes in
+    let mended = written .before .before in
+    let new = mended .mend-line in
+    let b = mended .before in
     let at = turn b .loop in
     let set = b .before .set-in in
     let quantity = b .quantity-in in
@@ -101,7 +113,7 @@ same-length c = c .before .loop .inv .1 .same
 
 returns : tie.Need-returns Inv-loop μ-loop
 returns c =
-    let file = c .before .before .before .before .before .before .before .args .file .now in
+    let file = begun (c .before) .args .file .now in
     let at = c .before .loop in
     rw (pass-end file _ _ (at .i) (at .total) (at .inv .0) (c .loop-test .left)) at (at .inv .1 .put)
 

@@ -21,14 +21,25 @@ Inv-loop file out₀ version rack count total₀ at₀ i₀ out total at i =
 abbrev μ-loop : tie.MeasureT-loop
 μ-loop file out₀ version rack count total₀ at₀ i₀ out total at i = count - i
 
+-- the call's start, once the slices are known
+abbrev known : tie.After-slice-known Inv-loop μ-loop → tie.Start Inv-loop μ-loop
+known c = c .before .before
+
+-- the version, and the call's start, from the loop
+abbrev versioned : tie.At-loop Inv-loop μ-loop → tie.After-version-in Inv-loop μ-loop
+versioned c = c .before .before .before
+
+abbrev begun : tie.At-loop Inv-loop μ-loop → tie.Start Inv-loop μ-loop
+begun c = known (versioned c .before)
+
 version-in-requires : tie.Need-version-in-requires Inv-loop μ-loop
-version-in-requires c κs = start-long _ (c .before .before .pre .0)
+version-in-requires c κs = start-long _ (known c .pre .0)
 
 rack-in-requires : tie.Need-rack-in-requires Inv-loop μ-loop
-rack-in-requires c κs = start-long _ (c .before .before .before .pre .0)
+rack-in-requires c κs = start-long _ (known (c .before) .pre .0)
 
 read-count-requires : tie.Need-read-count-requires Inv-loop μ-loop
-read-count-requires c κs = start-long _ (c .before .before .before .before .pre .0)
+read-count-requires c κs = start-long _ (known (c .before .before) .pre .0)
 
 loop-holds : tie.Need-loop-holds Inv-loop μ-loop
 unfolding kept bytesOfLines
@@ -37,22 +48,22 @@ loop-holds c = (pass-start _ _ _ (c .before .rack-in .ensures) (c .read-count .e
 set-in-requires : tie.Need-set-in-requires Inv-loop μ-loop
 set-in-requires c κs =
     let at = c .before in
-    (at .before .before .before .before .before .before .pre .0, at .loop .inv .1, omega (arith, at .loop .inv .0 .countIs))
+    (begun at .pre .0, at .loop .inv .1, omega (arith, at .loop .inv .0 .countIs))
 
 quantity-in-requires : tie.Need-quantity-in-requires Inv-loop μ-loop
 quantity-in-requires c κs =
     let at = c .before .before in
-    (at .before .before .before .before .before .before .pre .0, at .loop .inv .1, omega (arith, at .loop .inv .0 .countIs))
+    (begun at .pre .0, at .loop .inv .1, omega (arith, at .loop .inv .0 .countIs))
 
--- the arguments, and the loop's values, at a line that was read
-abbrev entry : tie.After-quantity-in Inv-loop μ-loop → tie.Start Inv-loop μ-loop
-entry c = c .before .before .before .before .before .before .before .before .before
-
+-- the loop's values, and the arguments, at a line that was read
 abbrev turn : tie.After-quantity-in Inv-loop μ-loop → tie.At-loop Inv-loop μ-loop
 turn c = c .before .before .before
 
+abbrev entry : tie.After-quantity-in Inv-loop μ-loop → tie.Start Inv-loop μ-loop
+entry c = begun (turn c)
+
 abbrev version : tie.After-quantity-in Inv-loop μ-loop → ℕ
-version c = turn c .before .before .before .version-in .result
+version c = versioned (turn c) .version-in .result
 
 -- one line more
 next : (c : tie.After-quantity-in Inv-loop μ-loop) →
@@ -94,8 +105,9 @@ loop-less c = omega arith
 
 loop-again : tie.Need-loop-again Inv-loop μ-loop
 loop-again c =
-    let put = c .before .before .before .put-kept in
-    let b = c .before .before .before .before .before in
+    let written = c .before .before .before in
+    let put = written .put-kept in
+    let b = written .before .before in
     let at = turn b .loop in
     let set = b .before .set-in in
     let quantity = b .quantity-in in
@@ -111,7 +123,7 @@ same-length c = c .before .loop .inv .2 .same
 
 returns : tie.Need-returns Inv-loop μ-loop
 returns c =
-    let file = c .before .before .before .before .before .before .before .args .file .now in
+    let file = begun (c .before) .args .file .now in
     let at = c .before .loop in
     rw (at .inv .1, pass-end file _ _ (at .i) (at .total) (at .inv .0) (c .loop-test .left)) at (at .inv .2 .put)
 
