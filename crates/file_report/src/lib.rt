@@ -1,5 +1,6 @@
 // The whole of what the program tipshare prints for a file, written into a buffer.
 ghost use mathlib.Core.Path.{_≡_};
+ghost use mathlib.Core.Bool.{false};
 ghost use Prim.Native.Nat.{_≤_, min};
 ghost use lib.ListN.{length};
 ghost use Rattle.model.specs.Limits.{mostLines};
@@ -60,10 +61,11 @@ fn best_lines(rack: usize, lines: &mut [u64], quantities: &[u8], plan: &mut [u8]
     }
 }
 
-// Best sharing of the lines of a file, which are read for it, and used up. Of a refused file nothing is told.
+// Best sharing of the lines of a file, which are read for it, and used up. Of a refused file no runs and no pairs are told.
 fn best_of_file(file: &[u8], sets: &mut [u64], quantities: &mut [u8], plan: &mut [u8]) -> Best
     requires { ⌜ (length (now sets) ≡ mostLines) × (length (now quantities) ≡ mostLines) × (length (now plan) ≡ mostLines) ⌝ }
-    ensures { λ r. ⌜ (readRefusal (now (file .entry)) .number ≡ 0 → BestOfFile (now (file .entry)) (r .runs) (r .pairs) (now (plan .exit))) ⌝ }
+    ensures told { λ r. ⌜ (readRefusal (now (file .entry)) .number ≡ 0 → BestOfFile (now (file .entry)) (r .runs) (r .pairs) (now (plan .exit))) ⌝ }
+    ensures none { λ r. ⌜ ((readRefusal (now (file .entry)) .number ≡ 0 → ⊥) → (r .runs ≡ false) × (r .pairs ≡ 0)) ⌝ }
 {
     let read = reading::read_lines(file, sets, quantities);
     let refusal = read.refusal;

@@ -1,11 +1,11 @@
 use Prim.Native.Nat.{_≤_}
-use mathlib.Core.Path.{_≡_, sym, _∙_}
+use mathlib.Core.Path.{_≡_, refl, sym, _∙_}
 use native.Mathlib.Omega.{arith}
 use lib.ListN.{length, take}
 use lib.Seq.{length-take-le}
 use Rattle.placements.specs.Good.{GoodLines}
 use Rattle.refusal.specs.Refusal.{Given}
-use Rattle.refusal.proofs.Laws.{number-not}
+use Rattle.refusal.proofs.Laws.{number-of, number-not}
 use Rattle.file_report.proofs.Texts.{told-file}
 use borrow.Author.Needs.{needs}
 use Rattle.file_report.proofs.best_of_file.Statement.{statement}
@@ -35,7 +35,7 @@ same-length-2 : tie.Need-same-length-2
 same-length-2 c = search needs
 
 returns : tie.Need-returns
-returns c = λ z. absurd (number-not (told (c .before) .read-lines .ensures .0) (c .if1 .taken) z)
+returns c = (λ z. absurd (number-not (told (c .before) .read-lines .ensures .0) (c .if1 .taken) z), λ _. (refl, refl))
 
 -- nothing is refused: the sets and the quantities hold good lines
 given : (d : tie.Else1)
@@ -85,11 +85,13 @@ same-length-5 : tie.Need-same-length-5
 same-length-5 c = search needs
 
 returns-2 : tie.Need-returns-2
-returns-2 c = λ _.
+returns-2 c =
     let laid = c .before .before .before .before in
     let d = laid .before .before .before .before in
-    let (_, (lines, _)) = read d .read-lines .ensures in
-    told-file (lines (d .if1 .left)) _ _ (laid .best-lines .kept .1 .1 .1 .0 ∙ length-take-le _ _ (bytes d)) (laid .best-lines .ensures)
+    let (e, (lines, _)) = read d .read-lines .ensures in (
+      λ _. told-file (lines (d .if1 .left)) _ _ (laid .best-lines .kept .1 .1 .1 .0 ∙ length-take-le _ _ (bytes d)) (laid .best-lines .ensures),
+      λ n. absurd (n (number-of e (d .if1 .left))),
+    )
 
 pub best-of-file-spec : {M : Type 1} → statement M
 best-of-file-spec =

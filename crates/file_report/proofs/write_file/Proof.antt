@@ -142,7 +142,7 @@ write-lines-requires c κs =
     let (e, (lines, _)) = read d .read-lines .ensures in
     let quick = length-take-le _ _ (quick-bytes room) in
     let best = length-take-le _ _ (best-bytes d) in
-    let answer = best-laid .best-of-file .ensures (number-of e (d .if1 .left)) in
+    let answer = best-laid .best-of-file .ensures .0 (number-of e (d .if1 .left)) in
     ((good d, s .pre), ((quick ∙ sym (size d), best ∙ sym (size d)), told-lines (lines (d .if1 .left)) _ answer))
 
 same-length-2 : tie.Need-same-length-2
