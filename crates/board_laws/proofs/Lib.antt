@@ -4,3 +4,7 @@ pub mod Mounted
 pub mod Checked
 pub mod GoalOfNone
 pub mod PanelCalls
+pub mod AsBoard
+pub mod GoalAsBoard
+pub mod PanelAsBoard
+pub mod JuniorAsBoard

@@ -1,26 +1,18 @@
--- The Junior on the lines that were read gives what it gives for the file, and this is what the board's call gives.
+-- The Junior on the lines that were read gives what it gives for the file.
 use Prim.Native.Nat.{ℕ}
 use mathlib.Core.Path.{_≡_, sym, ap, _∙_}
 use mathlib.Core.List.{List}
 use lib.ListN.{length}
 use Rattle.placements.specs.Good.{GoodLines}
 use Rattle.refusal.specs.declared.Refusal.{Refusal}
-use Rattle.refusal.specs.Refusal.{none}
 use Rattle.refusal.proofs.Laws.{number-of}
 use Rattle.job.specs.Job.{rackIn, setsIn, quantitiesIn, readRefusal}
 use Rattle.line_calls.specs.declared.JuniorAnswer.{JuniorAnswer}
 use Rattle.line_calls.specs.Junior as Lines
 use Rattle.line_calls.proofs.Refused.{junior-same, junior-buffer-same}
 use Rattle.line_calls.proofs.JuniorPlan.{junior-rule}
-use Rattle.board.specs.declared.Board.{Board}
-use Rattle.board.specs.declared.Junior.{Junior}
-use Rattle.board.specs.Board.{answer}
-use Rattle.board.specs.JobFile.{readOf}
-use Rattle.board.specs.Junior.{juniorOf, juniorBuffer}
-use Rattle.file_calls.specs.declared.Outcome.{Outcome}
 use Rattle.file_calls.specs.Junior.{juniorOutcome, juniorIn, juniorPlanIn, JuniorRuleOf}
 use Rattle.file_calls.proofs.ReadLines.{AsRead, of-file}
-use Rattle.file_calls.proofs.AsBoard.{on-board}
 
 module _ (file : List ℕ) {d : Refusal} (e : d ≡ readRefusal file) {m : ℕ} {qs lines : List ℕ} (same : d .number ≡ 0 → AsRead file m qs lines) where
   pub junior-in : (d .number ≡ 0 → GoodLines m qs lines) → (plan : List ℕ) {a : JuniorAnswer} {last : List ℕ}
@@ -35,17 +27,3 @@ module _ (file : List ℕ) {d : Refusal} (e : d ≡ readRefusal file) {m : ℕ} 
       λ z. let f = number-of (sym e) z in let (a, b, c) = same f in rw (a, b, c) at (good f) in
       let rule = junior-rule (readRefusal file) (rackIn file) (quantitiesIn file) (setsIn file) plan lines-good in
       (ap juniorOutcome told, (left, rw (told, left) rule))
-
--- the answer of the board's call, as an outcome
-abbrev pub ofJunior : Junior → Outcome
-ofJunior a = record { refusal = record { number = a .number; place = a .place }; first = a .pairs; second = a .u; third = a .v }
-
--- a file that reading accepts: the call answers what the board's call answers on the board that reading gives
-module _ (file : List ℕ) (b : Board) (given : readOf file ≡ answer b none) where
-  pub junior-as-board : (room : ℕ) → juniorIn file room ≡ ofJunior (juniorOf b room)
-  unfolding juniorIn juniorOf
-  junior-as-board room = on-board file b given (λ r m q l. juniorOutcome (Lines.juniorOf r m q l room))
-
-  pub junior-plan-as-board : (plan : List ℕ) → juniorPlanIn file plan ≡ juniorBuffer b plan
-  unfolding juniorPlanIn juniorBuffer
-  junior-plan-as-board plan = on-board file b given (λ r m q l. Lines.juniorBuffer r m q l plan)

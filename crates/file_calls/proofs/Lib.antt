@@ -3,8 +3,5 @@ pub mod ReadLines
 pub mod WrittenFile
 pub mod KeptFile
 pub mod GoalFile
-pub mod AsBoard
-pub mod GoalAsBoard
 pub mod TwoFiles
-pub mod PanelAsBoard
 pub mod JuniorIn

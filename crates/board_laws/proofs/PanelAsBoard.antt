@@ -22,9 +22,9 @@ use Rattle.board.specs.Panel.{mergeRefusal, panelOf, merged, mergeOf, aloneOf, 
 use Rattle.board.proofs.Sets.{Full}
 use Rattle.board.proofs.PanelRule.{merge-rule, merge-free, panel-state}
 use Rattle.job.specs.Job.{rackIn, setsIn, quantitiesIn, readRefusal}
 use Rattle.file_calls.specs.declared.Outcome.{Outcome}
 use Rattle.file_calls.specs.Panel.{fileOutcome, mergeIn, mergeFileIn, aloneOutcome, aloneIn, alonePlanIn}
-use Rattle.file_calls.proofs.AsBoard.{on-board, full as full-of}
+use Rattle.board_laws.proofs.AsBoard.{on-board, full as full-of}
 
 abbrev pub ofAlone : Alone → Outcome
 ofAlone a =

@@ -24,9 +24,9 @@ use Rattle.board.specs.Goal.{struckBoard, goalOf}
 use Rattle.board.specs.JobFile.{readOf, writeOf, writeBuffer}
 use Rattle.board.proofs.Sets.{state-free}
 use Rattle.board.proofs.GoalRule.{struck-lines, struck-full, goal-rule}
 use Rattle.file_calls.specs.declared.Outcome.{Outcome}
 use Rattle.file_calls.specs.Goal.{fileOutcome, goalIn, goalFileIn}
-use Rattle.file_calls.proofs.AsBoard.{ofAnswer, on-board, full}
+use Rattle.board_laws.proofs.AsBoard.{ofAnswer, on-board, full}
 
 abbrev pub ofFile : Written → Outcome
 ofFile w = record { refusal = record { number = w .number; place = w .place }; first = w .bytes; second = 0; third = 0 }
