@@ -1,6 +1,4 @@
--- `placing::order_parts` meets its contract: a walk of its MIR, by hand. The rows by the flags are made, the rules are added, and the parts, the
--- rows and
--- the order buffer go to `place`. All that the proof knows of the three is that they meet their contracts. Assumes nothing.
+-- A walk of its MIR by hand: the rows by the flags, the rules, then `place`; of the three only the contracts are known.
 use mathlib.Core.Path.{_≡_, refl}
 use Prim.Native.Nat.{ℕ, _≤_}
 use mathlib.Core.List.{List, [], _∷_}
