@@ -1,4 +1,6 @@
 // Best sharing over slices, on the board renumbered: its placements are summed, its table filled and its plan laid; then both are made the board's.
+#![tactic(auto)]
+
 ghost use Rattle.std.specs.Prelude.{◌≡◌, ◌*◌, ◌≤◌, length, take};
 ghost use Rattle.model.specs.Interval.{C, table as table_of};
 ghost use Rattle.model.specs.Renumber.{names as names_of};

@@ -1,4 +1,6 @@
 // The refusals of the calls: the board's state in one decision, and for each call one that goes on from an earlier refusal.
+#![tactic(auto)]
+
 ghost use Rattle.std.specs.Prelude.{◌≡◌, ◌≤◌, length, take};
 ghost use Rattle.model.specs.Limits.{most_tips, most_lines, most_placements};
 ghost use Rattle.placements.specs.Repeated.{total};
@@ -14,7 +16,7 @@ mod junior_call;
 
 pub use junior_call::junior_refusal;
 
-#[derive(Drop)]
+#[derive(Clone, Copy)]
 pub enum Stage {
     Open,
     Closed,

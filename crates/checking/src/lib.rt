@@ -1,4 +1,6 @@
 // A plan, a claimed pair count and a table from other software, checked for lines that are runs of the named tips.
+#![tactic(auto)]
+
 mod claimed;
 mod tabled;
 

@@ -1,4 +1,6 @@
 // The common tip of lines and their pruning, counted in placements: the occurrences of all tips are counted in one pass.
+#![tactic(auto)]
+
 ghost use Rattle.std.specs.Prelude.{◌≡◌, ◌-◌, ◌≤◌, length};
 ghost use mathlib.Core.List.{map, zip_with};
 ghost use Rattle.model.specs.Count.{All};
@@ -10,7 +12,7 @@ ghost use Rattle.counts.specs.Counts.{Countable};
 ghost use Rattle.common_tip.specs.Common.{margin_by, least_count, narrow_by, kept_by, kept_lines};
 
 // The most placements that allow one tip, how many do not allow it, and the set W of the tips that as many allow.
-#[derive(Drop)]
+#[derive(Clone, Copy)]
 pub struct Common {
     pub top: usize,
     pub off: usize,
@@ -50,7 +52,7 @@ fn least_count(n: usize, k: u16) -> usize
 }
 
 // The margin, the number of placements, and the set V of the tips in some line that all but at most k of the placements allow.
-#[derive(Drop)]
+#[derive(Clone, Copy)]
 struct Bound {
     margin: i32,
     n: usize,

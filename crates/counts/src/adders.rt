@@ -4,7 +4,7 @@ ghost use Rattle.counts.specs.Counts.{plane_count, AddsThree};
 ghost use Rattle.counts.specs.Sums.{AddsEight, Raisable, Raised, NoTip, Empty, Fits, Added, AddedTo, Doublable, Doubled, Joinable, Joined};
 
 // The two binary digits of a small count of each tip.
-#[derive(Drop)]
+#[derive(Clone, Copy)]
 struct Sum {
     ones: u64,
     twos: u64,
@@ -22,7 +22,7 @@ fn add_three(a: u64, b: u64, c: u64) -> Sum
 }
 
 // The four lowest planes of a count.
-#[derive(Drop)]
+#[derive(Clone, Copy)]
 struct Low {
     ones: u64,
     twos: u64,

@@ -6,7 +6,7 @@ ghost use Rattle.counts.specs.Sums.{Empty, Fits, Added, AddedTo, Whole};
 ghost use Rattle.counts.specs.Picked.{pick_by, picked, Between};
 
 // A number that is not above any quantity, and one that is not below any.
-#[derive(Drop)]
+#[derive(Clone, Copy)]
 pub struct Bounds {
     pub low: u8,
     pub high: u8,

@@ -1,4 +1,6 @@
 // What each call gives for a job file in memory: the lines are read once, and the calls work on them after the refusal of reading.
+#![tactic(auto)]
+
 ghost use Rattle.std.specs.Prelude.{◌≡◌, length};
 ghost use Rattle.head.specs.OnHead.{on_head};
 ghost use Rattle.file_calls.specs.Calls.{twos_complement, plan_outcome, keep_outcome};
@@ -19,7 +21,7 @@ pub use junior_call::junior_outcome;
 pub use panel_calls::{alone_outcome, merge_outcome};
 
 // A call's refusal, and up to three counts.
-#[derive(Drop)]
+#[derive(Clone, Copy)]
 pub struct Outcome {
     pub refusal: Refusal,
     pub first: u64,

@@ -1,4 +1,6 @@
 // The whole of what the program tipshare prints for a file, written into a buffer.
+#![tactic(auto)]
+
 ghost use Rattle.std.specs.Prelude.{◌≡◌, false, ◌≤◌, min, length};
 ghost use Rattle.model.specs.Limits.{most_lines};
 ghost use Rattle.placements.specs.Good.{GoodLines};
@@ -30,7 +32,7 @@ fn table_buffer() -> [u32; 4096]
 }
 
 // Whether each line is a run of the named tips, and the pairs of best sharing where it is so.
-#[derive(Drop)]
+#[derive(Clone, Copy)]
 struct Best {
     runs: bool,
     pairs: u32,

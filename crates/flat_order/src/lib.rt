@@ -1,4 +1,6 @@
 // The least order over flat arrays: the first and last position of each part, and the row of those that are to precede it.
+#![tactic(auto)]
+
 ghost use Rattle.std.specs.Prelude.{◌≡◌, cond, length};
 ghost use Rattle.std.proofs.Math.Option.{some, none};
 ghost use Rattle.ordering.specs.Least.{least_order};
@@ -14,7 +16,7 @@ use crate::positions::{first_parts, no_words, put_parts};
 use crate::settling::settle_lasts;
 
 // A set of parts: part x is bit x of `low`, and from 64 on bit x - 64 of `high`.
-#[derive(Drop)]
+#[derive(Clone, Copy)]
 pub struct PartSet {
     pub low: u64,
     pub high: u64,

@@ -11,7 +11,7 @@ use crate::positions::{no_words, put_parts, row};
 use crate::sets::{join, lowest_part, meet, remove, single_part};
 
 // The part found, and the parts that wait for another.
-#[derive(Drop)]
+#[derive(Clone, Copy)]
 struct Pick {
     part: usize,
     waiting: PartSet,

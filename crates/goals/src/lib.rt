@@ -1,1 +1,2 @@
 // Pair goals and checked plans: definitions and laws are in specs/ and proofs/.
+#![tactic(auto)]

@@ -1,4 +1,6 @@
 // Quick sharing over slices, in rounds: each takes the tip that most placements left allow.
+#![tactic(auto)]
+
 ghost use Rattle.std.specs.Prelude.{◌≡◌, ◌≤◌, length};
 ghost use Rattle.model.specs.Limits.{most_lines};
 ghost use Rattle.placements.specs.Repeated.{repeated};

@@ -1,11 +1,13 @@
 // The tip on the head at the start, and the choice that it wins.
+#![tactic(auto)]
+
 ghost use Rattle.std.specs.Prelude.{◌≡◌, cond};
 ghost use Rattle.model.specs.Plan.{has};
 ghost use Rattle.model.specs.Interval.{low};
 ghost use Rattle.head.specs.OnHead.{on_head, chosen};
 
 // What is on the head at the start.
-#[derive(Drop)]
+#[derive(Clone, Copy)]
 pub enum Mounted {
     Nothing,
     Tip(usize),

@@ -1,4 +1,6 @@
 // The job file over slices: the numbers in its header, its length by its version, and the refusals by its header and by a line.
+#![tactic(auto)]
+
 ghost use Rattle.std.specs.Prelude.{◌≡◌, ◌+◌, ◌<◌, ◌≤◌, ◌^◌, length};
 ghost use Rattle.job.specs.Job.{number_at, header_length, line_length, file_length, mark_in, version_in, rack_in, count_in};
 ghost use Rattle.job.specs.Job.{version_ok, start_number, size_number, header_number, line_number};

@@ -1,4 +1,6 @@
 // The lines of a job file, each with its set and its quantity, read from its bytes, and whether they are good.
+#![tactic(auto)]
+
 ghost use Rattle.std.specs.Prelude.{◌≡◌, cond, ◌&&◌, ◌+◌, ◌*◌, ◌<◌, ◌≤◌, ◌^◌, eqb, leb, length, replicate};
 ghost use Rattle.model.specs.Count.{first_fail};
 ghost use Rattle.model.specs.Plan.{is_empty, in_rack};
@@ -154,7 +156,7 @@ pub fn good_lines(file: &[u8]) -> bool
 }
 
 // The union of the sets read so far, and the number of empty ones.
-#[derive(Drop)]
+#[derive(Clone, Copy)]
 struct Tested {
     union: u64,
     zeros: u64,

@@ -1,4 +1,6 @@
 // A job file written to a buffer, in the shorter version that can hold its quantities.
+#![tactic(auto)]
+
 ghost use Rattle.std.specs.Prelude.{◌≡◌, cond, ◌++◌, ◌+◌, ◌≤◌, eqb, length, take, drop, set};
 ghost use Rattle.job.specs.Job.{header_length, set_length, counted, line_length, file_length, bytes_of, paired, header_of, bytes_of_lines};
 ghost use Rattle.job.specs.Job.{version_for, written_of};

@@ -1,4 +1,6 @@
 // The Junior with two holders over slices: the search for its one tip or two, and its plan.
+#![tactic(auto)]
+
 ghost use Rattle.std.specs.Prelude.{◌≡◌, cond, ◌||◌, ◌≤◌, ◌<◌, length};
 ghost use Rattle.model.specs.Limits.{most_tips, most_placements};
 ghost use Rattle.model.specs.Plan.{has};
@@ -9,7 +11,7 @@ ghost use Rattle.holders.specs.Holders.{gathered, side_pairs, score_by};
 ghost use Rattle.junior.specs.Found.{tips_of, found_of, plan_of};
 
 // The score is one more than the plan's pairs, and 0 where no tips serve every line; `first` says that the lines that have both go to u.
-#[derive(Drop)]
+#[derive(Clone, Copy)]
 struct Tips {
     score: u32,
     u: usize,
@@ -18,7 +20,7 @@ struct Tips {
 }
 
 // Whether some tips serve every line, and then the plan's pairs and its tips u and v.
-#[derive(Drop)]
+#[derive(Clone, Copy)]
 pub struct Found {
     pub served: bool,
     pub pairs: u32,

@@ -1,4 +1,6 @@
 // The plan of best sharing: each interval's tip is found once, then each line's tip is looked up once.
+#![tactic(auto)]
+
 ghost use Rattle.std.specs.Prelude.{◌≡◌, ℕ, ◌+◌, ◌*◌, ◌≤◌, ◌<◌, List, map, T, length, replicate};
 ghost use Rattle.model.specs.Limits.{most_tips};
 ghost use Rattle.model.specs.Count.{All};

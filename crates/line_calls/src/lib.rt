@@ -1,4 +1,6 @@
 // Each call on lines, after an earlier refusal: the board passes that of its state, a call on a file that of reading.
+#![tactic(auto)]
+
 ghost use Rattle.std.specs.Prelude.{◌≡◌, length, take};
 ghost use Rattle.line_calls.specs.Lines.{common_of, keep_of, sets_kept, quick_of, quick_buffer};
 ghost use Rattle.line_calls.specs.Lines.{best_of, best_buffer, best_table, check_of, write_of, write_buffer};
@@ -17,7 +19,7 @@ pub use goal_call::goal;
 pub use junior_call::junior;
 
 // The most placements that allow one tip, the least number of placements off the common tip, and the set W of the tips that reach top.
-#[derive(Drop)]
+#[derive(Clone, Copy)]
 pub struct CommonAnswer {
     pub refusal: Refusal,
     pub top: usize,
@@ -26,21 +28,21 @@ pub struct CommonAnswer {
 }
 
 // The margin is top - n + k, of n placements.
-#[derive(Drop)]
+#[derive(Clone, Copy)]
 pub struct KeepAnswer {
     pub refusal: Refusal,
     pub margin: i32,
 }
 
 // The number of pairs of placements on one tip in the plan that is handed out.
-#[derive(Drop)]
+#[derive(Clone, Copy)]
 pub struct PlanAnswer {
     pub refusal: Refusal,
     pub pairs: u32,
 }
 
 // The plan's pairs, and the tips u and v that it is on.
-#[derive(Drop)]
+#[derive(Clone, Copy)]
 pub struct JuniorAnswer {
     pub refusal: Refusal,
     pub pairs: u32,
@@ -49,7 +51,7 @@ pub struct JuniorAnswer {
 }
 
 // The bytes of the job file that is written.
-#[derive(Drop)]
+#[derive(Clone, Copy)]
 pub struct FileAnswer {
     pub refusal: Refusal,
     pub bytes: usize,

@@ -1,4 +1,6 @@
 // Mending a job file over slices: a first pass counts what is kept and what is reported, a second writes both. A good file is copied.
+#![tactic(auto)]
+
 mod line;
 mod measure;
 mod read;
@@ -11,7 +13,7 @@ ghost use Rattle.mend.specs.Call.{refused_by, mend_of, out_after, report_after, 
 use refusal::Refusal;
 
 // The refusal, and the bytes written of the mended file and of the report.
-#[derive(Drop)]
+#[derive(Clone, Copy)]
 pub struct Mended {
     pub refusal: Refusal,
     pub bytes: usize,

@@ -127,7 +127,7 @@ fn code_count(rack: usize, total: usize, set: u64, quantity: u8) -> usize
 }
 
 // Whether the line is kept, 1 or 0, the number of its changes, and the running total after it.
-#[derive(Drop)]
+#[derive(Clone, Copy)]
 pub struct Step {
     pub kept: usize,
     pub changes: usize,

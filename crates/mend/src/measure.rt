@@ -8,7 +8,7 @@ ghost use Rattle.mend.specs.Mend.{line_changes};
 use crate::{line, read};
 
 // The lines kept, and the changes of the lines.
-#[derive(Drop)]
+#[derive(Clone, Copy)]
 pub struct Sizes {
     pub kept: usize,
     pub changes: usize,

@@ -1,4 +1,6 @@
 // The pairs among the placements on one tip, read from a table: no code computes them.
+#![tactic(auto)]
+
 ghost use Rattle.std.specs.Prelude.{◌≡◌, ◌≤◌};
 ghost use Rattle.model.specs.Limits.{most_placements};
 ghost use Rattle.model.specs.Plan.{choose2};

@@ -1,4 +1,6 @@
 // Two boards on one panel: the lines of the second put behind those of the first, and each board planned alone by the quick rule.
+#![tactic(auto)]
+
 ghost use Rattle.std.specs.Prelude.{◌≡◌};
 ghost use Rattle.panel.specs.Panel.{first_of};
 
@@ -11,7 +13,7 @@ pub use alone_lines::alone;
 pub use merge_lines::merge;
 
 // The pairs of placements on one tip in each of the two plans.
-#[derive(Drop)]
+#[derive(Clone, Copy)]
 pub struct AloneAnswer {
     pub refusal: Refusal,
     pub first_pairs: u32,

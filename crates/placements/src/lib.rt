@@ -1,4 +1,6 @@
 // The rules of tip sharing where a line stands for several placements: definitions and laws are in specs/ and proofs/, and the total in code.
+#![tactic(auto)]
+
 ghost use Rattle.std.specs.Prelude.{◌≡◌, ◌≤◌};
 ghost use Rattle.model.specs.Limits.{most_placements};
 ghost use Rattle.placements.specs.Repeated.{total};

@@ -11,7 +11,7 @@ use flat_order::sets::{join, single_part};
 use ordering::Part;
 
 // The fine-pitch parts, and those that are not tall.
-#[derive(Drop)]
+#[derive(Clone, Copy)]
 pub struct Kinds {
     pub fine: PartSet,
     pub short: PartSet,

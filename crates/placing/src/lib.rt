@@ -1,4 +1,6 @@
 // The least placing order, without a search: the last positions are settled, then each position takes the lowest part that fits.
+#![tactic(auto)]
+
 ghost use Rattle.std.specs.Prelude.{◌≡◌, length};
 ghost use Rattle.placing.specs.Rows.{with_rules};
 ghost use Rattle.placing.specs.Given.{parts_of};
@@ -17,7 +19,7 @@ use ordering::{Part, Rule};
 use refusal::Refusal;
 
 // The parts are the first `count`.
-#[derive(Drop)]
+#[derive(Clone, Copy)]
 pub struct Parts {
     pub count: usize,
     pub parts: [Part; 128],
@@ -25,7 +27,7 @@ pub struct Parts {
 
 // Which parts are to be placed earlier than each part: bit a of the row of part b, in two words.
 // `good` until a rule is bad; `bad` is then the place of that rule.
-#[derive(Drop)]
+#[derive(Clone, Copy)]
 pub struct Rows {
     pub parts: usize,
     pub good: bool,

@@ -1,4 +1,6 @@
 // The named tips of lines, the first line that misses one of them, and lines renumbered: each tip replaced by its rank among the named tips.
+#![tactic(auto)]
+
 ghost use Rattle.std.specs.Prelude.{◌≡◌, cond, map, ◌≤◌, length};
 ghost use Rattle.model.specs.Count.{first_fail, All};
 ghost use Rattle.model.specs.Limits.{most_tips};

@@ -1,4 +1,6 @@
 // From a board renumbered back to the board: its table spread over the places of all tips, and the tips of its plan named.
+#![tactic(auto)]
+
 ghost use Rattle.std.specs.Prelude.{◌≡◌, List, map, ℕ, ◌+◌, ◌-◌, ◌*◌, ◌≤◌, ◌<◌, length, get_or};
 ghost use Rattle.model.specs.Count.{All};
 ghost use Rattle.model.specs.Limits.{most_tips};

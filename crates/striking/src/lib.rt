@@ -1,4 +1,6 @@
 // The kept set of each line for a goal of K pairs, by the inside table of all lines and the outside table of the other lines.
+#![tactic(auto)]
+
 mod inside;
 mod outside;
 mod reach;

@@ -1,4 +1,6 @@
 // The table of best sharing: the most pairs of each interval of tips, from the lines summed by lowest and highest tip, one for each placement.
+#![tactic(auto)]
+
 ghost use Rattle.std.specs.Prelude.{◌≡◌, ℕ, ◌+◌, ◌*◌, ◌-◌, ◌^◌, ◌≤◌, ◌<◌, max, length, List};
 ghost use Rattle.model.specs.Interval.{table as table_of};
 ghost use Rattle.pair_count.specs.PairTable.{PairTable};

@@ -23,7 +23,7 @@ const MOST_TIMES: usize = 1000;
 pub(crate) const NOT_GIVEN: u64 = 18446744073709551615;
 
 // The board, the one that is held beside it, and the bytes of a job file.
-#[derive(Drop)]
+#[derive(Clone, Copy)]
 pub(crate) struct State {
     pub(crate) board: Board,
     pub(crate) held: Board,
@@ -31,7 +31,7 @@ pub(crate) struct State {
 }
 
 // The numbers of a line.
-#[derive(Drop)]
+#[derive(Clone, Copy)]
 pub(crate) struct Numbers {
     pub(crate) a: u64,
     pub(crate) b: u64,

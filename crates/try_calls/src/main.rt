@@ -1,4 +1,6 @@
 // Runs a script of calls, and prints the script with what each call answers. Its first lines say what each word means.
+#![tactic(auto)]
+
 mod calls;
 mod record;
 mod shown;
@@ -16,7 +18,7 @@ use try_lib::{junk_file, sum, text, wide};
 
 // A line of the script as far as it is read: its word and its numbers, the one of them that is read and its base, the one that runs and from where.
 // Where none runs, the last one does, from 0 to 0.
-#[derive(Drop)]
+#[derive(Clone, Copy)]
 struct Line {
     parts: [u64; 7],
     at: usize,

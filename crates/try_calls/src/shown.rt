@@ -39,7 +39,7 @@ pub(crate) fn say(letters: u64, x: u64) {
 
 // Of the values of a list: how many are not blank, how many of those stand behind the first `written`, their sum, and the
 // sum of such sums.
-#[derive(Drop)]
+#[derive(Clone, Copy)]
 pub(crate) struct Tally {
     written: usize,
     changed: u64,

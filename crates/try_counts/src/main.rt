@@ -1,11 +1,13 @@
 // Source document 002's counts: of all assignments of n variables to the values 0 to n, how many are within each bound of the variable cost.
 // Each assignment is tried twice: its variables are counted, and it is a board of single tips on which common tip and keep are called.
+#![tactic(auto)]
+
 ghost use Rattle.std.specs.Prelude.{◌≤◌};
 
 use try_lib::{closed_board, digits, off, one_if, show, sum, with_tips};
 
 // How many assignments are within the bound, have boards whose common tip has at most `bound` lines off it, and have boards that keep accepts for it.
-#[derive(Drop)]
+#[derive(Clone, Copy)]
 struct Counts {
     within: u64,
     common: u64,

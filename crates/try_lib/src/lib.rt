@@ -1,4 +1,6 @@
 // What the test programs share: printing, counting, boards of up to eight lines, and buffers filled with junk.
+#![tactic(auto)]
+
 ghost use Rattle.std.specs.Prelude.{◌≤◌};
 
 use board::{Board, Stage};

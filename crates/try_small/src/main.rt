@@ -1,6 +1,8 @@
 // Small boards solved by trying every plan by lines, counted in placements, compared with what common tip, keep, quick and best sharing answer.
 // A tally is the boards and those made wrong, and for common tip, keep, quick and best the calls, for keep and best the
 // refusals, and the facts that do not hold.
+#![tactic(auto)]
+
 mod plans;
 
 ghost use Rattle.std.specs.Prelude.{◌≤◌};

@@ -4,7 +4,7 @@ ghost use Rattle.std.specs.Prelude.{◌≤◌};
 use try_lib::{digits, larger, off, one_if, only, placements, sum, uses, with_tips};
 
 // The first n lines over the rack, each with its quantity; every plan, valid or not, is a number below `plans`, with the lines' tips as its digits.
-#[derive(Drop)]
+#[derive(Clone, Copy)]
 pub struct Small {
     pub rack: u64,
     pub n: usize,

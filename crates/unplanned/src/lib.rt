@@ -1,5 +1,7 @@
 // The lines without a tip yet, in a list: those that have a tip are found and taken off the list without a branch, which
 // would often be mispredicted.
+#![tactic(auto)]
+
 ghost use Rattle.std.specs.Prelude.{◌≡◌, cond, ◌^◌, ◌≤◌, ◌<◌, length};
 ghost use Rattle.model.specs.Limits.{most_tips};
 ghost use Rattle.model.specs.Plan.{has};

@@ -14,62 +14,62 @@ use borrow.Author.Rules.{rules}
 use Rattle.call_refusals.proofs.add_refusal.Statement.{statement}
 use Rattle.call_refusals.proofs.add_refusal.Tie as tie
 
-returns : tie.Need-returns
+returns : tie.Need-returns-then-earlier-ne0
 unfolding add_refusal
-returns c = or_first refl _ c.if1.true
+returns c = or_first refl _ c.if-earlier-ne0.true
 
 refuse-requires : tie.Need-refuse-requires
 refuse-requires c κs = search rules
 
-returns-2 : tie.Need-returns-2
-returns-2 c = c.refuse.ensures ∙ add_full _ c.before.before.if1.false _ _ _ _ _ c.before.if2.true
+returns-2 : tie.Need-returns-then-count-eq-MOST_LINES
+returns-2 c = c.refuse.ensures ∙ add_full _ c.before.before.if-earlier-ne0.false _ _ _ _ _ c.before.if-count-eq-MOST_LINES.true
 
-line-number-requires : tie.Need-line-number-requires
+line-number-requires : tie.Need-line_number-number-requires
 line-number-requires c κs = search rules
 
-refuse-requires-2 : tie.Need-refuse-requires-2
+refuse-requires-2 : tie.Need-refuse-requires-then-number-ne0
 refuse-requires-2 c κs = search rules
 
-returns-3 : tie.Need-returns-3
+returns-3 : tie.Need-returns-then-number-ne0
 returns-3 c =
     let bad = c.before in
     let numbered = bad.before in
     let room = numbered.before in
-    let e = numbered.line-number.ensures in
-    c.refuse2.ensures
+    let e = numbered.line_number-number.ensures in
+    c.refuse-then-number-ne0.ensures
     ∙ ap refuse e
-    ∙ add-line _ room.before.if1.false _ _ _ _ _ room.if2.false (λ z. bad.if3.true (e ∙ z))
+    ∙ add-line _ room.before.if-earlier-ne0.false _ _ _ _ _ room.if-count-eq-MOST_LINES.false (λ z. bad.if-number-ne0.true (e ∙ z))
 
 -- nothing is refused before the total: the lines are as many as the count, and their placements few
-lines : (d : tie.Else3) →
+lines : (d : tie.Else-number-ne0) →
     let a = d.before.before.before.before.before.before.args in
     (a.count ≤ length a.quantities.now) × (total (take a.count a.quantities.now) ≤ most_placements)
-lines d = let free = d.before.before.before in free.before.before.before.requires free.if1.false
+lines d = let free = d.before.before.before in free.before.before.before.requires free.if-earlier-ne0.false
 
-slice-aggregate-total : tie.Need-slice-aggregate-total
+slice-aggregate-total : tie.Need-slice_bounds-total-end
 slice-aggregate-total c = sym (length-take-le _ _ (lines c.before).0)
 
-total-requires : tie.Need-total-requires
+total-requires : tie.Need-total-placements-requires
 total-requires c κs = (lines c.before).1
 
-add-refuse-when : tie.Need-overflow-add-refuse-when
-add-refuse-when c = omega (arith, c.total.ensures, (lines c.before.before).1)
+add-refuse-when : tie.Need-overflow_add-placements
+add-refuse-when c = omega (arith, c.total-placements.ensures, (lines c.before.before).1)
 
-refuse-when-requires : tie.Need-refuse-when-requires
+refuse-when-requires : tie.Need-refuse_when-requires
 refuse-when-requires c κs = search rules
 
-returns-4 : tie.Need-returns-4
+returns-4 : tie.Need-returns
 returns-4 c =
     let good = c.before.before.before in
     let numbered = good.before in
     let room = numbered.before in
     let a = room.before.before.before.before.args in
-    c.refuse-when.ensures
-    ∙ ap (λ t. when (ltb most_placements (t + a.quantity)) 30) c.before.total.ensures
+    c.refuse_when.ensures
+    ∙ ap (λ t. when (ltb most_placements (t + a.quantity)) 30) c.before.total-placements.ensures
     ∙ add_over _ room.before.if1.false _ _ _ _ _ room.if2.false (sym numbered.line-number.ensures ∙ good.if3.false)
 
-pub add-refusal-spec : {M : Type 1} → statement M
-add-refusal-spec =
+pub add_refusal_spec : {M : Type 1} → statement M
+add_refusal_spec =
     tie.close
     (tie.spec
     returns

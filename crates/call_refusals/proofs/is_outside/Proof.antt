@@ -2,17 +2,17 @@ use borrow.Author.Rules.{rules}
 use Rattle.call_refusals.proofs.is_outside.Statement.{statement}
 use Rattle.call_refusals.proofs.is_outside.Tie as tie
 
-enum_told : tie.Need-enum-told
+enum_told : tie.Need-enum_told-1
 enum_told c = search rules
 
-enum-known-mounted : tie.Need-enum-known-mounted
+enum-known-mounted : tie.Need-enum_known-mounted
 enum-known-mounted c = search rules
 
-returns : tie.Need-returns
+returns : tie.Need-returns-in-Nothing
 returns c = search rules
 
-returns-2 : tie.Need-returns-2
-returns-2 c = rw c.before.mounted.given.1
+returns-2 : tie.Need-returns-in-Tip
+returns-2 c = rw c.in-Tip.is
 
-pub is-outside-spec : {M : Type 1} → statement M
-is-outside-spec = tie.close (tie.spec enum_told enum-known-mounted returns returns-2)
+pub is_outside_spec : {M : Type 1} → statement M
+is_outside_spec = tie.close (tie.spec enum_told enum-known-mounted returns returns-2)

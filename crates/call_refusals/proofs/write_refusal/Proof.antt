@@ -7,21 +7,21 @@ use borrow.Author.Rules.{rules}
 use Rattle.call_refusals.proofs.write_refusal.Statement.{statement}
 use Rattle.call_refusals.proofs.write_refusal.Tie as tie
 
-returns : tie.Need-returns
+returns : tie.Need-returns-then-earlier-ne0
 unfolding write_refusal
-returns c = or_first refl _ c.if1.true
+returns c = or_first refl _ c.if-earlier-ne0.true
 
-file-length-requires : tie.Need-file-length-requires
+file-length-requires : tie.Need-file_length-requires
 file-length-requires c κs =
     let s = c.before.before in
-    omega (arith, file_few s.args.version s.args.count (s.requires c.if1.false))
+    omega (arith, file_few s.args.version s.args.count (s.requires c.if-earlier-ne0.false))
 
-refuse-when-requires : tie.Need-refuse-when-requires
+refuse-when-requires : tie.Need-refuse_when-requires
 refuse-when-requires c κs = search rules
 
-returns-2 : tie.Need-returns-2
+returns-2 : tie.Need-returns
 unfolding write_refusal
-returns-2 c = or_next refl _ c.before.before.if1.false (rw (← c.before.file-length.ensures) c.refuse-when.ensures)
+returns-2 c = or_next refl _ c.before.before.if-earlier-ne0.false (rw (← c.before.file_length.ensures) c.refuse_when.ensures)
 
-pub write-refusal-spec : {M : Type 1} → statement M
-write-refusal-spec = tie.close (tie.spec returns file-length-requires refuse-when-requires returns-2)
+pub write_refusal_spec : {M : Type 1} → statement M
+write_refusal_spec = tie.close (tie.spec returns file-length-requires refuse-when-requires returns-2)

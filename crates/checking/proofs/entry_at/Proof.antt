@@ -8,42 +8,42 @@ use Rattle.checking.proofs.entry_at.Tie as tie
 place : (c : tie.Start) → 0 < c.args.w → c.args.a * c.args.m + (c.args.a + (c.args.w - 1)) < c.args.m * c.args.m
 place c some = place_lt c.args.m c.args.a c.args.w some (omega arith)
 
-returns : tie.Need-returns
+returns : tie.Need-returns-then-w-eq0
 unfolding entry
-returns c = rw c.if1.true (refl, omega arith)
+returns c = rw c.if-w-eq0.true (refl, omega arith)
 
-mul-result : tie.Need-overflow-mul-result
+mul-result : tie.Need-overflow_mul-result
 mul-result c = record { fits = omega (arith, place c.before (omega arith)) }
 
-sub-result : tie.Need-overflow-sub-result
+sub-result : tie.Need-overflow_sub-result
 sub-result c = search rules
 
-add-result : tie.Need-overflow-add-result
+add-result : tie.Need-overflow_add-result
 add-result c = search rules
 
-add-result-2 : tie.Need-overflow-add-result-2
+add-result-2 : tie.Need-overflow_add-result-2
 add-result-2 c = record { fits = omega (arith, place c.before (omega arith)) }
 
-mul-result-2 : tie.Need-overflow-mul-result-2
+mul-result-2 : tie.Need-offset_bounds-table-a
 mul-result-2 c = record { fits = omega (arith, place c.before (omega arith)) }
 
-shared-slice-read-result : tie.Need-shared-slice-read-result
+shared-slice-read-result : tie.Need-bounds-table-a
 shared-slice-read-result c = omega (arith, place c.before.before (omega arith))
 
-cast-result : tie.Need-overflow-cast-result
+cast-result : tie.Need-overflow_cast-result
 cast-result c =
     let args = c.before.before.args in
-    record { fits = omega (arith, c.shared-slice-known.given (args.a * args.m + (args.a + (args.w - 1)))) }
+    record { fits = omega (arith, c.shared_slice_known-1.given (args.a * args.m + (args.a + (args.w - 1)))) }
 
-returns-2 : tie.Need-returns-2
+returns-2 : tie.Need-returns
 returns-2 c =
     let args = c.before.before.args in (
       sym (entry_some args.m args.table.now args.a args.w (omega arith)),
-      omega (arith, c.shared-slice-known.given (args.a * args.m + (args.a + (args.w - 1)))),
+      omega (arith, c.shared_slice_known-1.given (args.a * args.m + (args.a + (args.w - 1)))),
     )
 
-pub entry-at-spec : {M : Type 1} → statement M
-entry-at-spec =
+pub entry_at_spec : {M : Type 1} → statement M
+entry_at_spec =
     tie.close
     (tie.spec
     returns

@@ -5,28 +5,28 @@ use Rattle.checking.proofs.sums_fit.Statement.{statement}
 use Rattle.checking.proofs.sums_fit.Tie as tie
 
 -- the sums made, from the table's test; and the call's start from there
-abbrev summed : tie.After-table-fits-arg → tie.After-sum-spans
+abbrev summed : tie.After-table-fits-arg → tie.After-sum_spans
 summed c = c.before.before.before
 
-abbrev start : tie.After-sum-spans → tie.Start
+abbrev start : tie.After-sum_spans → tie.Start
 start c = c.before.before.before.before.before.before.before
 
-sum-spans-requires : tie.Need-sum-spans-requires
+sum-spans-requires : tie.Need-sum_spans-requires
 sum-spans-requires c κs = search rules
 
-table-fits-requires : tie.Need-table-fits-requires
+table-fits-requires : tie.Need-table_fits-requires
 table-fits-requires c κs =
     let s = start (summed c) in
-    (rw (summed c).sum-spans.ensures (ready s.pre.0 s.args.table.now s.pre.1), s.pre.2)
+    (rw (summed c).sum-spans.ensures (ready s.requires.0 s.args.table.now s.requires.1), s.requires.2)
 
-same_length : tie.Need-same-length
+same_length : tie.Need-shape_of-sums
 same_length c = search rules
 
 returns : tie.Need-returns
 unfolding table_ok
 returns c =
     let s = start (summed c.before) in
-    c.table-fits.ensures ∙ rw ((summed c.before).sum-spans.ensures, bounds_same s.pre.0 s.args.table.now)
+    c.table_fits.ensures ∙ rw ((summed c.before).sum-spans.ensures, bounds_same s.requires.0 s.args.table.now)
 
-pub sums-fit-spec : {M : Type 1} → statement M
-sums-fit-spec = tie.close (tie.spec sum-spans-requires table-fits-requires same_length returns)
+pub sums_fit_spec : {M : Type 1} → statement M
+sums_fit_spec = tie.close (tie.spec sum-spans-requires table-fits-requires same_length returns)

@@ -16,23 +16,23 @@ below c =
     let a = c.args in
     ap₂ lt_z (sym (to_z-of_z w32 a.margin c.ranges.margin)) (sym (to_z_pos w32 a.quantity (omega (arith, c.ranges.quantity.fits))))
 
-cast-if1 : tie.Need-overflow-cast-if1
+cast-if1 : tie.Need-overflow_cast-quantity
 cast-if1 c = search rules
 
 narrow-requires : tie.Need-narrow-requires
 narrow-requires c κs = search rules
 
-returns : tie.Need-returns
+returns : tie.Need-returns-then-margin-quantity
 unfolding kept_by
 returns c =
-    let t = below c.before.before ∙ c.before.if1.true in
+    let t = below c.before.before ∙ c.before.if-margin-quantity.true in
     rw t c.narrow.ensures
 
-returns-2 : tie.Need-returns-2
+returns-2 : tie.Need-returns
 unfolding kept_by
 returns-2 c =
-    let t = below c.before ∙ c.if1.false in
+    let t = below c.before ∙ c.if-margin-quantity.false in
     rw t
 
-pub kept-spec : {M : Type 1} → statement M
-kept-spec = tie.close (tie.spec cast-if1 narrow-requires returns returns-2)
+pub kept_spec : {M : Type 1} → statement M
+kept_spec = tie.close (tie.spec cast-if1 narrow-requires returns returns-2)

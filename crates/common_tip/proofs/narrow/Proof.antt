@@ -3,13 +3,13 @@ use Rattle.common_tip.specs.Common.{narrow_by}
 use Rattle.common_tip.proofs.narrow.Statement.{statement}
 use Rattle.common_tip.proofs.narrow.Tie as tie
 
-returns : tie.Need-returns
+returns : tie.Need-returns-then-set-v
 unfolding narrow_by
-returns c = simp (eq-eqb _ _ c.if1.true)
+returns c = simp (eq-eqb _ _ c.if-set-v.true)
 
-returns-2 : tie.Need-returns-2
+returns-2 : tie.Need-returns-else-set-v
 unfolding narrow_by
-returns-2 c = simp (ne_eqb _ _ c.if1.false)
+returns-2 c = simp (ne_eqb _ _ c.if-set-v.false)
 
-pub narrow-spec : {M : Type 1} → statement M
-narrow-spec = tie.close (tie.spec returns returns-2)
+pub narrow_spec : {M : Type 1} → statement M
+narrow_spec = tie.close (tie.spec returns returns-2)

@@ -8,54 +8,54 @@ use borrow.Author.Rules.{rules}
 use Rattle.common_tip.proofs.narrow_all.Statement.{statement}
 use Rattle.common_tip.proofs.narrow_all.Tie as tie
 
-abbrev invariant-loop : tie.invariant-loop
+abbrev invariant-loop : tie.invariant-loop-i
 invariant-loop v lines₀ i₀ lines i = (i ≤ length lines₀) × (length lines ≡ length lines₀) × (lines ≡ mapped (narrow_by v) i lines₀)
 
-abbrev decreases-loop : tie.decreases-loop
+abbrev decreases-loop : tie.decreases-loop-i
 decreases-loop v lines₀ i₀ lines i = length lines₀ - i
 
-loop-holds : tie.Need-loop-init invariant-loop decreases-loop
+loop-holds : tie.Need-loop-i-init invariant-loop decreases-loop
 loop-holds c = search rules
 
-mul-narrow : tie.Need-overflow-mul-narrow invariant-loop decreases-loop
+mul-narrow : tie.Need-offset_bounds-lines-i invariant-loop decreases-loop
 mul-narrow c = search rules
 
-slice-read-narrow : tie.Need-slice-read-narrow invariant-loop decreases-loop
+slice-read-narrow : tie.Need-bounds-lines-i invariant-loop decreases-loop
 slice-read-narrow c = search rules
 
 narrow-requires : tie.Need-narrow-requires invariant-loop decreases-loop
 narrow-requires c κs = search rules
 
-mul-lines : tie.Need-overflow-mul-lines invariant-loop decreases-loop
+mul-lines : tie.Need-offset_bounds-lines-i-in-loop-i invariant-loop decreases-loop
 mul-lines c = search rules
 
-slice-write-lines : tie.Need-slice-write-lines invariant-loop decreases-loop
+slice-write-lines : tie.Need-bounds-lines-i-in-loop-i invariant-loop decreases-loop
 slice-write-lines c = search rules
 
-add-i : tie.Need-overflow-add-i invariant-loop decreases-loop
+add-i : tie.Need-overflow_add-i invariant-loop decreases-loop
 add-i c = search rules
 
-loop-less : tie.Need-loop-smaller invariant-loop decreases-loop
+loop-less : tie.Need-loop-i-smaller invariant-loop decreases-loop
 loop-less c = search rules
 
-loop-again : tie.Need-loop-preserved invariant-loop decreases-loop
+loop-again : tie.Need-loop-i-preserved invariant-loop decreases-loop
 loop-again c =
     let l = c.before.before.before in
     let a = l.before.before.args in
-    let more = mapped-more (narrow_by a.v) a.lines.now l.loop.i (omega arith) in
-    (search rules, simp length-set (omega arith), rw (c.narrow.ensures, l.loop.invariant.2, more))
+    let more = mapped-more (narrow_by a.v) a.lines.now l.loop-i.i (omega arith) in
+    (search rules, simp length-set (omega arith), rw (c.narrow.ensures, l.loop-i.invariant.2, more))
 
-same_length : tie.Need-same-length invariant-loop decreases-loop
+same_length : tie.Need-shape_of-lines invariant-loop decreases-loop
 same_length c = search rules
 
 returns : tie.Need-returns invariant-loop decreases-loop
 returns c =
     let l = c.before in
     let a = l.before.before.args in
-    l.loop.invariant.2 ∙ mapped-all (narrow_by a.v) a.lines.now l.loop.i (omega arith)
+    l.loop-i.invariant.2 ∙ mapped-all (narrow_by a.v) a.lines.now l.loop-i.i (omega arith)
 
-pub narrow-all-spec : {M : Type 1} → statement M
-narrow-all-spec =
+pub narrow_all_spec : {M : Type 1} → statement M
+narrow_all_spec =
     tie.close
     (tie.spec
     invariant-loop

@@ -15,88 +15,88 @@ use borrow.Author.Rules.{rules}
 use Rattle.common_tip.proofs.prune.Statement.{statement}
 use Rattle.common_tip.proofs.prune.Tie as tie
 
-abbrev invariant-loop : tie.invariant-loop
+abbrev invariant-loop : tie.invariant-loop-i
 invariant-loop margin n v lines₀ quantities i₀ lines i =
     (i ≤ length lines₀) × (length lines ≡ length lines₀) × (lines ≡ zipped (kept_by v (to_z w32 margin)) i quantities lines₀)
 
-abbrev decreases-loop : tie.decreases-loop
+abbrev decreases-loop : tie.decreases-loop-i
 decreases-loop margin n v lines₀ quantities i₀ lines i = length lines₀ - i
 
 -- the margin as the code holds it, in 32 bits
 held : (s : tie.Start invariant-loop decreases-loop) → to_z w32 (of_z w32 s.args.margin) ≡ s.args.margin
 held s = to_z-of_z w32 s.args.margin s.ranges.margin
 
-narrow-all-requires : tie.Need-narrow-all-requires invariant-loop decreases-loop
+narrow-all-requires : tie.Need-narrow_all-requires invariant-loop decreases-loop
 narrow-all-requires c κs = search rules
 
-same_length : tie.Need-same-length invariant-loop decreases-loop
+same_length : tie.Need-shape_of-lines-then-margin-lt1 invariant-loop decreases-loop
 same_length c = search rules
 
-returns : tie.Need-returns invariant-loop decreases-loop
+returns : tie.Need-returns-then-margin-lt1 invariant-loop decreases-loop
 returns c =
     let t = c.before.before.before.before in
     let s = t.before.before.before in
-    let below = ap (λ z. lt_z z (pos 1)) (sym (held s)) ∙ t.if1.true in
-    c.before.before.narrow-all.ensures ∙ prune-each s.args.v s.args.margin s.requires.2 s.args.lines.now s.requires.1 below
+    let below = ap (λ z. lt_z z (pos 1)) (sym (held s)) ∙ t.if-margin-lt1.true in
+    c.before.before.narrow_all.ensures ∙ prune-each s.args.v s.args.margin s.requires.2 s.args.lines.now s.requires.1 below
 
-returns-2 : tie.Need-returns-2 invariant-loop decreases-loop
+returns-2 : tie.Need-returns-then-n-lines invariant-loop decreases-loop
 returns-2 c =
     let t = c.before in
     let s = t.before.before.before in
-    let above = ap (λ z. lt_z z (pos 1)) (sym (held s)) ∙ t.if1.false in
-    prune-none s.args.v s.args.margin s.requires.2 s.args.lines.now s.requires.1 above (omega (arith, c.if2.true, s.requires.0, s.requires.1))
+    let above = ap (λ z. lt_z z (pos 1)) (sym (held s)) ∙ t.if-margin-lt1.false in
+    prune-none s.args.v s.args.margin s.requires.2 s.args.lines.now s.requires.1 above (omega (arith, c.if-n-lines.true, s.requires.0, s.requires.1))
 
-loop-holds : tie.Need-loop-init invariant-loop decreases-loop
+loop-holds : tie.Need-loop-i-init invariant-loop decreases-loop
 unfolding zip_with
 loop-holds c = (search rules, search rules, refl)
 
-shared-slice-read-kept : tie.Need-shared-slice-read-kept invariant-loop decreases-loop
+shared-slice-read-kept : tie.Need-bounds-quantities-i invariant-loop decreases-loop
 shared-slice-read-kept c = search rules
 
-mul-kept : tie.Need-overflow-mul-kept invariant-loop decreases-loop
+mul-kept : tie.Need-offset_bounds-lines-i invariant-loop decreases-loop
 mul-kept c = search rules
 
-slice-read-kept : tie.Need-slice-read-kept invariant-loop decreases-loop
+slice-read-kept : tie.Need-bounds-lines-i invariant-loop decreases-loop
 slice-read-kept c = search rules
 
 kept-requires : tie.Need-kept-requires invariant-loop decreases-loop
 kept-requires c κs = search rules
 
-mul-lines : tie.Need-overflow-mul-lines invariant-loop decreases-loop
+mul-lines : tie.Need-offset_bounds-lines-i-in-loop-i invariant-loop decreases-loop
 mul-lines c = search rules
 
-slice-write-lines : tie.Need-slice-write-lines invariant-loop decreases-loop
+slice-write-lines : tie.Need-bounds-lines-i-in-loop-i invariant-loop decreases-loop
 slice-write-lines c = search rules
 
-add-i : tie.Need-overflow-add-i invariant-loop decreases-loop
+add-i : tie.Need-overflow_add-i invariant-loop decreases-loop
 add-i c = search rules
 
-loop-less : tie.Need-loop-smaller invariant-loop decreases-loop
+loop-less : tie.Need-loop-i-smaller invariant-loop decreases-loop
 loop-less c = search rules
 
-loop-again : tie.Need-loop-preserved invariant-loop decreases-loop
+loop-again : tie.Need-loop-i-preserved invariant-loop decreases-loop
 loop-again c =
     let turn = c.before.before.before in
     let s = turn.before.before.before.before.before.before in
     let f = kept_by s.args.v (to_z w32 (of_z w32 s.args.margin)) in
-    let i = turn.before.loop.i in
+    let i = turn.before.loop-i.i in
     let more = zipped-more f s.args.quantities.now s.args.lines.now i s.requires.1 (omega arith) in
-    (search rules, simp length-set (omega arith), rw (c.kept.ensures, turn.before.loop.invariant.2) more)
+    (search rules, simp length-set (omega arith), rw (c.kept.ensures, turn.before.loop-i.invariant.2) more)
 
-same-length-2 : tie.Need-same-length-2 invariant-loop decreases-loop
+same-length-2 : tie.Need-shape_of-lines invariant-loop decreases-loop
 same-length-2 c = search rules
 
-returns-3 : tie.Need-returns-3 invariant-loop decreases-loop
+returns-3 : tie.Need-returns invariant-loop decreases-loop
 returns-3 c =
     let s = c.before.before.before.before.before.before in
     let f = kept_by s.args.v in
     let qs = s.args.quantities.now in
     let lines = s.args.lines.now in
-    c.before.loop.invariant.2 ∙ zipped-all (f (to_z w32 (of_z w32 s.args.margin))) qs lines c.before.loop.i s.requires.1 (omega arith)
+    c.before.loop-i.invariant.2 ∙ zipped-all (f (to_z w32 (of_z w32 s.args.margin))) qs lines c.before.loop-i.i s.requires.1 (omega arith)
     ∙ ap (λ z. zip_with (f z) qs lines) (held s)
 
-pub prune-spec : {M : Type 1} → statement M
-prune-spec =
+pub prune_spec : {M : Type 1} → statement M
+prune_spec =
     tie.close
     (tie.spec
     invariant-loop

@@ -3,37 +3,37 @@ use borrow.Author.Rules.{rules}
 use Rattle.file_calls.proofs.check_outcome.Statement.{statement}
 use Rattle.file_calls.proofs.check_outcome.Tie as tie
 
-no-sets-requires : tie.Need-no-sets-requires
+no-sets-requires : tie.Need-no_sets-sets-requires
 no-sets-requires c κs = search rules
 
-no-quantities-requires : tie.Need-no-quantities-requires
+no-quantities-requires : tie.Need-no_quantities-quantities-requires
 no-quantities-requires c κs = search rules
 
-slice-aggregate-read-lines : tie.Need-slice-aggregate-read-lines
+slice-aggregate-read-lines : tie.Need-slice_bounds-read_lines-end
 slice-aggregate-read-lines c = search rules
 
-slice-aggregate-read-lines-2 : tie.Need-slice-aggregate-read-lines-2
+slice-aggregate-read-lines-2 : tie.Need-slice_bounds-read_lines-end-2
 slice-aggregate-read-lines-2 c = search rules
 
-read-lines-requires : tie.Need-read-lines-requires
+read-lines-requires : tie.Need-read_lines-read-requires
 read-lines-requires c κs = search rules
 
-slice-aggregate-check : tie.Need-slice-aggregate-check
+slice-aggregate-check : tie.Need-slice_bounds-check-end
 slice-aggregate-check c = search rules
 
-slice-aggregate-check-2 : tie.Need-slice-aggregate-check-2
+slice-aggregate-check-2 : tie.Need-slice_bounds-check-end-2
 slice-aggregate-check-2 c = search rules
 
-check-requires : tie.Need-check-requires
+check-requires : tie.Need-check-refusal-requires
 check-requires c κs = search rules
 
 returns : tie.Need-returns
 returns c =
-    let (e, (lines, (_, given))) = c.before.before.before.before.before.read-lines.ensures in
-    check-in _ e (λ z. same_lines (lines z)) given.good _ _ _ c.check.ensures.0
+    let (e, (lines, (_, given))) = c.before.before.before.before.before.read_lines-read.ensures in
+    check-in _ e (λ z. same_lines (lines z)) given.good _ _ _ c.check-refusal.ensures.0
 
-pub check-outcome-spec : {M : Type 1} → statement M
-check-outcome-spec =
+pub check_outcome_spec : {M : Type 1} → statement M
+check_outcome_spec =
     tie.close
     (tie.spec
     no-sets-requires

@@ -5,53 +5,53 @@ use borrow.Author.Rules.{rules}
 use Rattle.file_calls.proofs.quick_outcome.Statement.{statement}
 use Rattle.file_calls.proofs.quick_outcome.Tie as tie
 
-no-sets-requires : tie.Need-no-sets-requires
+no-sets-requires : tie.Need-no_sets-sets-requires
 no-sets-requires c κs = search rules
 
-no-quantities-requires : tie.Need-no-quantities-requires
+no-quantities-requires : tie.Need-no_quantities-quantities-requires
 no-quantities-requires c κs = search rules
 
-slice-aggregate-read-lines : tie.Need-slice-aggregate-read-lines
+slice-aggregate-read-lines : tie.Need-slice_bounds-read_lines-end
 slice-aggregate-read-lines c = search rules
 
-slice-aggregate-read-lines-2 : tie.Need-slice-aggregate-read-lines-2
+slice-aggregate-read-lines-2 : tie.Need-slice_bounds-read_lines-end-2
 slice-aggregate-read-lines-2 c = search rules
 
-read-lines-requires : tie.Need-read-lines-requires
+read-lines-requires : tie.Need-read_lines-read-requires
 read-lines-requires c κs = search rules
 
-mounted-refusal-requires : tie.Need-mounted-refusal-requires
+mounted-refusal-requires : tie.Need-mounted_refusal-refusal-requires
 mounted-refusal-requires c κs = search rules
 
-slice-aggregate-quick : tie.Need-slice-aggregate-quick
+slice-aggregate-quick : tie.Need-slice_bounds-quick-end
 slice-aggregate-quick c = search rules
 
-slice-aggregate-quick-2 : tie.Need-slice-aggregate-quick-2
+slice-aggregate-quick-2 : tie.Need-slice_bounds-quick-end-2
 slice-aggregate-quick-2 c = search rules
 
 -- the lines are given where the mounted tip is not refused either
 quick-requires : tie.Need-quick-requires
 quick-requires c κs =
     let mounted = c.before.before.before in
-    let (_, (_, (_, lines))) = mounted.before.before.before.read-lines.ensures in
-    later (λ z. (mounted_none _ _ _ (number_of mounted.mounted-refusal.ensures z)).0) lines
+    let (_, (_, (_, lines))) = mounted.before.before.before.read_lines-read.ensures in
+    later (λ z. (mounted_none _ _ _ (number_of mounted.mounted_refusal-refusal.ensures z)).0) lines
 
-plan-outcome-requires : tie.Need-plan-outcome-requires
+plan-outcome-requires : tie.Need-plan_outcome-requires
 plan-outcome-requires c κs = search rules
 
-same_length : tie.Need-same-length
+same_length : tie.Need-shape_of-plan
 same_length c = search rules
 
 returns : tie.Need-returns
 returns c =
     let laid = c.before.before.before.before in
     let mounted = laid.before.before.before.before in
-    let (e, (lines, _)) = mounted.before.before.before.read-lines.ensures in
+    let (e, (lines, _)) = mounted.before.before.before.read_lines-read.ensures in
     let (answer, (plan, rule)) = laid.quick.ensures in
-    rw c.plan-outcome.ensures (quick-in _ e (λ z. same_lines (lines z)) _ mounted.mounted-refusal.ensures _ answer plan rule)
+    rw c.plan_outcome.ensures (quick-in _ e (λ z. same_lines (lines z)) _ mounted.mounted_refusal-refusal.ensures _ answer plan rule)
 
-pub quick-outcome-spec : {M : Type 1} → statement M
-quick-outcome-spec =
+pub quick_outcome_spec : {M : Type 1} → statement M
+quick_outcome_spec =
     tie.close
     (tie.spec
     no-sets-requires

@@ -7,5 +7,5 @@ returns : tie.Need-returns
 unfolding no_levels
 returns c = refl
 
-pub no-levels-spec : {M : Type 1} → statement M
-no-levels-spec = tie.close (tie.spec returns)
+pub no_levels_spec : {M : Type 1} → statement M
+no_levels_spec = tie.close (tie.spec returns)

@@ -2,31 +2,31 @@ use borrow.Author.Rules.{rules}
 use Rattle.greedy.proofs.plan_many.Statement.{statement}
 use Rattle.greedy.proofs.plan_many.Tie as tie
 
-no-lines-requires : tie.Need-no-lines-requires
+no-lines-requires : tie.Need-no_lines-list-requires
 no-lines-requires c κs = search rules
 
-no-lines-requires-2 : tie.Need-no-lines-requires-2
+no-lines-requires-2 : tie.Need-no_lines-places-requires
 no-lines-requires-2 c κs = search rules
 
-no-sets-requires : tie.Need-no-sets-requires
+no-sets-requires : tie.Need-no_sets-sets-requires
 no-sets-requires c κs = search rules
 
-no-quantities-requires : tie.Need-no-quantities-requires
+no-quantities-requires : tie.Need-no_quantities-taken-requires
 no-quantities-requires c κs = search rules
 
-slice-aggregate-take-rounds : tie.Need-slice-aggregate-take-rounds
+slice-aggregate-take-rounds : tie.Need-slice_bounds-take_rounds-end
 slice-aggregate-take-rounds c = search rules
 
-slice-aggregate-take-rounds-2 : tie.Need-slice-aggregate-take-rounds-2
+slice-aggregate-take-rounds-2 : tie.Need-slice_bounds-take_rounds-end-2
 slice-aggregate-take-rounds-2 c = search rules
 
-slice-aggregate-take-rounds-3 : tie.Need-slice-aggregate-take-rounds-3
+slice-aggregate-take-rounds-3 : tie.Need-slice_bounds-take_rounds-end-3
 slice-aggregate-take-rounds-3 c = search rules
 
-slice-aggregate-take-rounds-4 : tie.Need-slice-aggregate-take-rounds-4
+slice-aggregate-take-rounds-4 : tie.Need-slice_bounds-take_rounds-end-4
 slice-aggregate-take-rounds-4 c = search rules
 
-take-rounds-requires : tie.Need-take-rounds-requires
+take-rounds-requires : tie.Need-take_rounds-requires
 take-rounds-requires c κs = (
   record {
     shareable = search rules;
@@ -36,20 +36,20 @@ take-rounds-requires c κs = (
   search rules,
 )
 
-same_length : tie.Need-same-length
+same_length : tie.Need-shape_of-left
 same_length c = search rules
 
-same-length-2 : tie.Need-same-length-2
+same-length-2 : tie.Need-shape_of-plan
 same-length-2 c = search rules
 
-same-length-3 : tie.Need-same-length-3
+same-length-3 : tie.Need-shape_of-counts
 same-length-3 c = search rules
 
 returns : tie.Need-returns
 returns c = search rules
 
-pub plan-many-spec : {M : Type 1} → statement M
-plan-many-spec =
+pub plan_many_spec : {M : Type 1} → statement M
+plan_many_spec =
     tie.close
     (tie.spec
     no-lines-requires

@@ -4,16 +4,16 @@ use borrow.Author.Rules.{rules}
 use Rattle.job.proofs.line_length.Statement.{statement}
 use Rattle.job.proofs.line_length.Tie as tie
 
-add-result : tie.Need-overflow-add-result
+add-result : tie.Need-overflow_add-result
 add-result c = search rules
 
-returns : tie.Need-returns
+returns : tie.Need-returns-then-version-eq-COUNTED
 unfolding line_length
-returns c = rw (eq-eqb c.before.args.version 2 c.if1.true)
+returns c = rw (eq-eqb c.before.args.version 2 c.if-version-eq-COUNTED.true)
 
-returns-2 : tie.Need-returns-2
+returns-2 : tie.Need-returns-else-version-eq-COUNTED
 unfolding line_length
-returns-2 c = rw (ne_eqb c.before.args.version 2 c.if1.false)
+returns-2 c = rw (ne_eqb c.before.args.version 2 c.if-version-eq-COUNTED.false)
 
-pub line-length-spec : {M : Type 1} → statement M
-line-length-spec = tie.close (tie.spec add-result returns returns-2)
+pub line_length_spec : {M : Type 1} → statement M
+line_length_spec = tie.close (tie.spec add-result returns returns-2)

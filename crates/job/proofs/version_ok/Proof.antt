@@ -4,13 +4,13 @@ use Rattle.job.specs.Job.{version_ok}
 use Rattle.job.proofs.version_ok.Statement.{statement}
 use Rattle.job.proofs.version_ok.Tie as tie
 
-returns : tie.Need-returns
+returns : tie.Need-returns-then-version-eq-PLAIN
 unfolding version_ok
-returns c = rw (eq-eqb c.before.args.version 1 c.if1.true)
+returns c = rw (eq-eqb c.before.args.version 1 c.if-version-eq-PLAIN.true)
 
-returns-2 : tie.Need-returns-2
+returns-2 : tie.Need-returns
 unfolding version_ok
-returns-2 c = rw (ne_eqb c.before.args.version 1 c.if1.false) refl
+returns-2 c = rw (ne_eqb c.before.args.version 1 c.if-version-eq-PLAIN.false) refl
 
-pub version-ok-spec : {M : Type 1} → statement M
-version-ok-spec = tie.close (tie.spec returns returns-2)
+pub version_ok_spec : {M : Type 1} → statement M
+version_ok_spec = tie.close (tie.spec returns returns-2)

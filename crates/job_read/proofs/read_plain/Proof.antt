@@ -16,84 +16,84 @@ use Rattle.job_read.specs.Lines.{ReadTo}
 use Rattle.job_read.proofs.read_plain.Statement.{statement}
 use Rattle.job_read.proofs.read_plain.Tie as tie
 
-abbrev invariant-loop : tie.invariant-loop
+abbrev invariant-loop : tie.invariant-loop-i
 invariant-loop file sets₀ tested₀ i₀ sets tested i =
     (i ≤ length sets) × (length sets ≡ length sets₀) × ReadTo file sets i tested.union tested.zeros
 
-abbrev decreases-loop : tie.decreases-loop
+abbrev decreases-loop : tie.decreases-loop-i
 decreases-loop file sets₀ tested₀ i₀ sets tested i = length sets - i
 
-loop-holds : tie.Need-loop-init invariant-loop decreases-loop
+loop-holds : tie.Need-loop-i-init invariant-loop decreases-loop
 unfolding list_of
 loop-holds c =
     let file = c.before.before.args.file.now in
     (omega arith, refl, record { filled = refl; few = omega arith; tested = (good_start file).1 })
 
-add-loop : tie.Need-overflow-add-loop invariant-loop decreases-loop
+add-loop : tie.Need-overflow_add-i invariant-loop decreases-loop
 add-loop c = omega arith
 
-read-some-requires : tie.Need-read-some-requires invariant-loop decreases-loop
+read-some-requires : tie.Need-read_some-tested-requires invariant-loop decreases-loop
 read-some-requires c κs =
     let start = c.before.before.before.before.before in
-    let at = c.before.before.loop in
+    let at = c.before.before.loop-i in
     (start.requires.0, (start.requires.1.0, (at.invariant.1 ∙ start.requires.1.1, (omega arith, at.invariant.2))))
 
-add-i : tie.Need-overflow-add-i invariant-loop decreases-loop
+add-i : tie.Need-overflow_add-i invariant-loop decreases-loop
 add-i c = omega arith
 
-loop-less : tie.Need-loop-smaller invariant-loop decreases-loop
+loop-less : tie.Need-loop-i-smaller invariant-loop decreases-loop
 loop-less c = omega (arith, c.before.before.read_Some.auto.1.1.1.0)
 
-loop-again : tie.Need-loop-preserved invariant-loop decreases-loop
+loop-again : tie.Need-loop-i-preserved invariant-loop decreases-loop
 loop-again c =
     let wrote = c.before.before.read_Some in
     let same = wrote.auto.1.1.1.0 in
-    (omega (arith, same), same ∙ c.before.before.before.before.before.loop.invariant.1, wrote.ensures)
+    (omega (arith, same), same ∙ c.before.before.before.before.before.loop-i.invariant.1, wrote.ensures)
 
-sub-read-some : tie.Need-overflow-sub-read-some invariant-loop decreases-loop
+sub-read-some : tie.Need-overflow_sub-sets invariant-loop decreases-loop
 sub-read-some c = omega arith
 
-read-some-requires-2 : tie.Need-read-some-requires-2 invariant-loop decreases-loop
+read-some-requires-2 : tie.Need-read_some-all-requires invariant-loop decreases-loop
 read-some-requires-2 c κs =
     let start = c.before.before.before.before.before in
-    let at = c.before.before.loop in
+    let at = c.before.before.loop-i in
     (start.requires.0, (start.requires.1.0, (at.invariant.1 ∙ start.requires.1.1, (omega arith, at.invariant.2))))
 
-rack-in-requires : tie.Need-rack-in-requires invariant-loop decreases-loop
+rack-in-requires : tie.Need-rack_in-requires invariant-loop decreases-loop
 rack-in-requires c κs = c.before.before.before.before.before.before.before.before.requires.0.start.long
 
-all-good-requires : tie.Need-all-good-requires invariant-loop decreases-loop
+all-good-requires : tie.Need-all_good-requires invariant-loop decreases-loop
 all-good-requires c κs = search rules
 
-same_length : tie.Need-same-length invariant-loop decreases-loop
+same_length : tie.Need-shape_of-sets invariant-loop decreases-loop
 same_length c =
     let wrote = c.before.before.before.before in
-    wrote.read-some2.auto.1.1.1.0 ∙ wrote.before.before.before.loop.invariant.1
+    wrote.read_some-all.auto.sets ∙ wrote.before.before.before.loop-i.invariant.1
 
 returns : tie.Need-returns invariant-loop decreases-loop
 unfolding sets_in
 returns c =
     let wrote = c.before.before.before.before in
     let head = wrote.before.before.before in
-    let at = head.loop in
+    let at = head.loop-i in
     let start = head.before.before.before in
     let file = start.args.file.now in
-    let told = wrote.read-some2.ensures in
-    let read = wrote.read-some2.new.1.1.1.0 in
-    let union = wrote.read-some2.result.union in
-    let zeros = wrote.read-some2.result.zeros in
+    let told = wrote.read_some-all.ensures in
+    let read = wrote.read_some-all.new.sets in
+    let union = wrote.read_some-all.result.union in
+    let zeros = wrote.read_some-all.result.zeros in
     let n = at.i + (length at.sets - at.i) in
     let e : n ≡ count_in file = omega arith in
-    let size : length read ≡ n = omega (arith, wrote.read-some2.auto.1.1.1.0) in
+    let size : length read ≡ n = omega (arith, wrote.read_some-all.auto.sets) in
     let sum : length read ≡ total (quantities_in file) = omega (arith, plain-total file (rw start.requires.1.0 refl)) in (
-      c.all-good.ensures
-          ∙ ap (λ m. all_good m union zeros && leb (length read) most_placements) c.before.rack-in.ensures
+      c.all_good.ensures
+          ∙ ap (λ m. all_good m union zeros && leb (length read) most_placements) c.before.rack_in.ensures
           ∙ good_end file n union zeros (length read) (omega arith) (told.few, told.tested) sum,
       sym (take_all n read (omega arith)) ∙ told.filled ∙ ap (list_of (set_in file)) e,
     )
 
-pub read-plain-spec : {M : Type 1} → statement M
-read-plain-spec =
+pub read_plain_spec : {M : Type 1} → statement M
+read_plain_spec =
     tie.close
     (tie.spec
     invariant-loop

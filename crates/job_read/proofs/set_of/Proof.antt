@@ -6,14 +6,14 @@ use borrow.Author.Rules.{rules}
 use Rattle.job_read.proofs.set_of.Statement.{statement}
 use Rattle.job_read.proofs.set_of.Tie as tie
 
-file-length-requires : tie.Need-file-length-requires
+file-length-requires : tie.Need-file_length-requires
 file-length-requires c κs = search rules
 
-set-at-requires : tie.Need-set-at-requires
-set-at-requires c κs = let a = c.before.before.args in omega (arith, c.file-length.ensures, set-inside a.version a.i)
+set-at-requires : tie.Need-set_at-requires
+set-at-requires c κs = let a = c.before.before.args in omega (arith, c.file_length.ensures, set-inside a.version a.i)
 
 returns : tie.Need-returns
-returns c = c.set_at.ensures ∙ ap (number_at set_length _) c.before.file-length.ensures
+returns c = c.set_at.ensures ∙ ap (number_at set_length _) c.before.file_length.ensures
 
-pub set-of-spec : {M : Type 1} → statement M
-set-of-spec = tie.close (tie.spec file-length-requires set-at-requires returns)
+pub set_of_spec : {M : Type 1} → statement M
+set_of_spec = tie.close (tie.spec file-length-requires set-at-requires returns)

@@ -6,33 +6,33 @@ use borrow.Author.Rules.{rules}
 use Rattle.job_read.proofs.swapped_at.Statement.{statement}
 use Rattle.job_read.proofs.swapped_at.Tie as tie
 
-four-swapped-requires : tie.Need-four-swapped-requires
+four-swapped-requires : tie.Need-four_swapped-requires
 four-swapped-requires c κs = search rules
 
-add-four-swapped : tie.Need-overflow-add-four-swapped
+add-four-swapped : tie.Need-overflow_add-i
 add-four-swapped c = search rules
 
-four-swapped-requires-2 : tie.Need-four-swapped-requires-2
+four-swapped-requires-2 : tie.Need-four_swapped-requires-2
 four-swapped-requires-2 c κs = search rules
 
-mul-result : tie.Need-overflow-mul-result
+mul-result : tie.Need-overflow_mul-result
 mul-result c = search rules
 
-add-result : tie.Need-overflow-add-result
+add-result : tie.Need-overflow_add-result
 add-result c = search rules
 
 returns : tie.Need-returns
 returns c =
     let a = c.before.before.before.args in
-    let low = c.before.four-swapped in
-    let high = c.four-swapped2 in (
+    let low = c.before.four_swapped in
+    let high = c.four_swapped-2 in (
       swapped_halves low.result high.result low.ensures.1
           ∙ omega (arith, low.ensures.0, high.ensures.0, number_parts 4 4 a.file.now a.i (omega arith)),
       omega arith,
     )
 
-pub swapped-at-spec : {M : Type 1} → statement M
-swapped-at-spec =
+pub swapped_at_spec : {M : Type 1} → statement M
+swapped_at_spec =
     tie.close
     (tie.spec
     four-swapped-requires

@@ -10,15 +10,15 @@ use Rattle.job_write.proofs.Laws.{line-put}
 use Rattle.job_write.proofs.put_lines.Statement.{statement}
 use Rattle.job_write.proofs.put_lines.Tie as tie
 
-abbrev invariant-loop : tie.invariant-loop
+abbrev invariant-loop : tie.invariant-loop-i
 invariant-loop version quantities sets out₀ i₀ out i =
     (i ≤ length sets) × (length out ≡ length out₀)
     × (take (file_length version i) out ≡ take header_length out₀ ++ bytes_of_lines version (paired (take i sets) (take i quantities)))
 
-abbrev decreases-loop : tie.decreases-loop
+abbrev decreases-loop : tie.decreases-loop-i
 decreases-loop version quantities sets out₀ i₀ out i = length sets - i
 
-loop-holds : tie.Need-loop-init invariant-loop decreases-loop
+loop-holds : tie.Need-loop-i-init invariant-loop decreases-loop
 unfolding bytes_of_lines paired
 loop-holds c =
     let start = c.before.before.before.args in
@@ -26,98 +26,98 @@ loop-holds c =
     (omega arith, refl, ap (λ k. take k start.out.now) first ∙ sym (append-nil _))
 
 -- the start, from the loop's head
-abbrev start_at : tie.At-loop invariant-loop decreases-loop → tie.Start invariant-loop decreases-loop
+abbrev start_at : tie.At-loop-i invariant-loop decreases-loop → tie.Start invariant-loop decreases-loop
 start_at c = c.before.before.before.before
 
 -- line i is inside the output
-inside : (c : tie.In-loop invariant-loop decreases-loop) → let a = (start_at c.before).args in
-    file_length a.version (c.before.loop.i + 1) ≤ length c.before.loop.out
+inside : (c : tie.In-loop-i invariant-loop decreases-loop) → let a = (start_at c.before).args in
+    file_length a.version (c.before.loop-i.i + 1) ≤ length c.before.loop-i.out
 inside c =
-    let at = c.before.loop in
+    let at = c.before.loop-i in
     let start = start_at c.before in
-    omega (arith, at.invariant.1, start.pre.1, line-inside start.args.version at.i (length start.args.sets.now) c.loop-test.true)
+    omega (arith, at.invariant.1, start.requires.1, line-inside start.args.version at.i (length start.args.sets.now) c.loop-i-test.true)
 
-room : (c : tie.After-file-length invariant-loop decreases-loop)
-    → c.file-length.result + line_length (start_at c.before.before).args.version ≤ length c.before.before.loop.out
-room c = omega (arith, c.file-length.ensures, inside c.before)
+room : (c : tie.After-file_length-at invariant-loop decreases-loop)
+    → c.file_length-at.result + line_length (start_at c.before.before).args.version ≤ length c.before.before.loop-i.out
+room c = omega (arith, c.file_length-at.ensures, inside c.before)
 
-file-length-requires : tie.Need-file-length-requires invariant-loop decreases-loop
+file-length-requires : tie.Need-file_length-at-requires invariant-loop decreases-loop
 file-length-requires c κs = omega (arith, inside c)
 
-shared-slice-read-put-quantity : tie.Need-shared-slice-read-put-quantity invariant-loop decreases-loop
+shared-slice-read-put-quantity : tie.Need-bounds-quantities-i invariant-loop decreases-loop
 shared-slice-read-put-quantity c = omega arith
 
-put-quantity-requires : tie.Need-put-quantity-requires invariant-loop decreases-loop
+put-quantity-requires : tie.Need-put_quantity-requires invariant-loop decreases-loop
 put-quantity-requires c κs = room c.before.before
 
-mul-put-set : tie.Need-overflow-mul-put-set invariant-loop decreases-loop
+mul-put-set : tie.Need-offset_bounds-sets-i invariant-loop decreases-loop
 mul-put-set c = omega arith
 
-shared-slice-read-put-set : tie.Need-shared-slice-read-put-set invariant-loop decreases-loop
+shared-slice-read-put-set : tie.Need-bounds-sets-i invariant-loop decreases-loop
 shared-slice-read-put-set c = omega arith
 
-put-set-requires : tie.Need-put-set-requires invariant-loop decreases-loop
+put-set-requires : tie.Need-put_set-requires invariant-loop decreases-loop
 put-set-requires c κs =
     let put = c.before.before.before.before in
     let sized = put.before.before.before in
-    omega (arith, put.put-quantity.auto.1.1.1.0, room sized, line_long (start_at sized.before.before).args.version)
+    omega (arith, put.put_quantity.auto.out, room sized, line_long (start_at sized.before.before).args.version)
 
-add-i : tie.Need-overflow-add-i invariant-loop decreases-loop
+add-i : tie.Need-overflow_add-i invariant-loop decreases-loop
 add-i c = omega arith
 
-loop-less : tie.Need-loop-smaller invariant-loop decreases-loop
+loop-less : tie.Need-loop-i-smaller invariant-loop decreases-loop
 loop-less c = omega arith
 
 -- the line that was put from the loop's head
-abbrev counted_at : tie.After-put-set invariant-loop decreases-loop → tie.After-put-quantity invariant-loop decreases-loop
+abbrev counted_at : tie.After-put_set invariant-loop decreases-loop → tie.After-put_quantity invariant-loop decreases-loop
 counted_at c = c.before.before.before.before.before
 
-abbrev head_of : tie.After-put-set invariant-loop decreases-loop → tie.At-loop invariant-loop decreases-loop
+abbrev head_of : tie.After-put_set invariant-loop decreases-loop → tie.At-loop-i invariant-loop decreases-loop
 head_of c = (counted_at c).before.before.before.before.before
 
-line-is : (c : tie.After-put-set invariant-loop decreases-loop) →
-    let at = (head_of c).loop in
+line-is : (c : tie.After-put_set invariant-loop decreases-loop) →
+    let at = (head_of c).loop-i in
     let a = (start_at (head_of c)).args in
     let p = file_length a.version at.i in
-    c.put-set.new.1.1.0
+    c.put_set.new.out
     ≡ take p at.out ++ line_of a.version (line (get_or a.sets.now at.i 0) (get_or a.quantities.now at.i 0))
     ++ drop (p + line_length a.version) at.out
 line-is c =
-    let at = (head_of c).loop in
+    let at = (head_of c).loop-i in
     let a = (start_at (head_of c)).args in
     let put = counted_at c in
     let sized = put.before.before.before in
-    let p = sized.file-length.result in
+    let p = sized.file_length-at.result in
     let s = get_or a.sets.now at.i 0 in
     let q = get_or a.quantities.now at.i 0 in
-    let small : q < 256 = omega (arith, put.before.before.shared-slice-known3.given at.i) in
-    rw (← sized.file-length.ensures)
-    (line-put a.version s q p at.out small (room sized) put.put-quantity.ensures c.put-set.ensures)
+    let small : q < 256 = omega (arith, put.before.before.shared_slice_known-in-loop-i-1.given at.i) in
+    rw (← sized.file_length-at.ensures)
+    (line-put a.version s q p at.out small (room sized) put.put_quantity.ensures c.put_set.ensures)
 
-loop-again : tie.Need-loop-preserved invariant-loop decreases-loop
+loop-again : tie.Need-loop-i-preserved invariant-loop decreases-loop
 loop-again c =
     let wrote = c.before.before in
     let head = head_of wrote in
-    let at = head.loop in
+    let at = head.loop-i in
     let start = start_at head in
     let a = start.args in
     let sets = a.sets.now in
     let qs = a.quantities.now in
-    let size : length at.out ≡ file_length a.version (length sets) = at.inv.1 ∙ start.pre.1 in (
+    let size : length at.out ≡ file_length a.version (length sets) = at.invariant.1 ∙ start.requires.1 in (
       omega arith,
-      wrote.put-set.auto.1.1.0 ∙ (counted_at wrote).put-quantity.auto.1.1.1.0 ∙ at.inv.1,
+      wrote.put_set.auto.out ∙ (counted_at wrote).put_quantity.auto.out ∙ at.invariant.1,
       ap (take (file_length a.version (at.i + 1))) (line-is wrote)
-          ∙ written-more a.version (take header_length a.out.now) at.out sets qs at.i start.pre.0 (omega arith) size at.inv.2,
+          ∙ written-more a.version (take header_length a.out.now) at.out sets qs at.i start.requires.0 (omega arith) size at.invariant.2,
     )
 
-same_length : tie.Need-same-length invariant-loop decreases-loop
-same_length c = c.before.loop.invariant.1
+same_length : tie.Need-shape_of-out invariant-loop decreases-loop
+same_length c = c.before.loop-i.invariant.1
 
 returns : tie.Need-returns invariant-loop decreases-loop
 returns c =
     let start = c.before.before.before.before.before in
     let a = start.args in
-    let at = c.before.loop in
+    let at = c.before.loop-i in
     let e : at.i ≡ length a.sets.now = omega arith in
     let past : file_length a.version at.i ≡ length at.out =
     ap (file_length a.version) e ∙ sym (at.invariant.1 ∙ start.requires.1) in
@@ -127,8 +127,8 @@ returns c =
     (take_all at.i a.sets.now (omega arith))
     (take_all at.i a.quantities.now (omega (arith, start.requires.0)))
 
-pub put-lines-spec : {M : Type 1} → statement M
-put-lines-spec =
+pub put_lines_spec : {M : Type 1} → statement M
+put_lines_spec =
     tie.close
     (tie.spec
     invariant-loop

@@ -5,16 +5,16 @@ use Rattle.layout.proofs.Plan.{plan_laid}
 use Rattle.layout.proofs.plan_lines.Statement.{statement}
 use Rattle.layout.proofs.plan_lines.Tie as tie
 
-lay-interval-requires : tie.Need-lay-interval-requires
+lay-interval-requires : tie.Need-lay_interval-requires
 lay-interval-requires c κs = search rules
 
-plan-owners-requires : tie.Need-plan-owners-requires
+plan-owners-requires : tie.Need-plan_owners-requires
 plan-owners-requires c κs = search rules
 
-same_length : tie.Need-same-length
+same_length : tie.Need-shape_of-owner
 same_length c = search rules
 
-same-length-2 : tie.Need-same-length-2
+same-length-2 : tie.Need-shape_of-plan
 same-length-2 c = search rules
 
 returns : tie.Need-returns
@@ -24,10 +24,10 @@ returns c =
     let s = laid.before.before.before.before.before.before.before.before in
     let p = s.requires in
     λ lines r.
-    planned.plan-owners.ensures
+    planned.plan_owners.ensures
     ∙ rw laid.lay-interval.ensures (plan_laid (on_head s.args.mounted) r s.args.owner.now p.4 p.1 p.2)
 
-pub plan-lines-spec : {M : Type 1} → statement M
-plan-lines-spec =
+pub plan_lines_spec : {M : Type 1} → statement M
+plan_lines_spec =
     tie.close
     (tie.spec lay-interval-requires plan-owners-requires same_length same-length-2 returns)

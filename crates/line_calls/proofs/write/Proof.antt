@@ -14,99 +14,99 @@ use borrow.Author.Rules.{rules}
 use Rattle.line_calls.proofs.write.Statement.{statement}
 use Rattle.line_calls.proofs.write.Tie as tie
 
-returns : tie.Need-returns
-returns c = write_stopped _ _ _ _ _ c.if1.true
+returns : tie.Need-returns-then-earlier-ne0
+returns c = write_stopped _ _ _ _ _ c.if-earlier-ne0.true
 
-abbrev begun : tie.Else1 → tie.Start
+abbrev begun : tie.Else-earlier-ne0 → tie.Start
 begun d = d.before.before.before.before.before
 
 -- nothing is refused earlier: the lines are good, and as many as the count
-good : (d : tie.Else1) → let a = (begun d).args in GoodLines a.rack (take a.count a.quantities.now) (take a.count a.sets.now)
-good d = (begun d).requires.good d.if1.false
+good : (d : tie.Else-earlier-ne0) → let a = (begun d).args in GoodLines a.rack (take a.count a.quantities.now) (take a.count a.sets.now)
+good d = (begun d).requires.good d.if-earlier-ne0.false
 
-count : (d : tie.Else1) → let a = (begun d).args in a.count ≡ length (take a.count a.sets.now)
-count d = sym (length-take-le _ _ ((begun d).requires.room d.if1.false))
+count : (d : tie.Else-earlier-ne0) → let a = (begun d).args in a.count ≡ length (take a.count a.sets.now)
+count d = sym (length-take-le _ _ ((begun d).requires.room d.if-earlier-ne0.false))
 
-few : (d : tie.Else1) → (begun d).args.count ≤ most_lines
+few : (d : tie.Else-earlier-ne0) → (begun d).args.count ≤ most_lines
 few d = omega (arith, count d, (good d).few-lines)
 
-slice-aggregate-version-for : tie.Need-slice-aggregate-version-for
+slice-aggregate-version-for : tie.Need-slice_bounds-version_for-end
 slice-aggregate-version-for c =
     let d = c.before in
     sym (length-take-le _ _ ((begun d).requires.quantity-room d.if1.false))
 
-version-for-requires : tie.Need-version-for-requires
+version-for-requires : tie.Need-version_for-version-requires
 version-for-requires c κs = search rules
 
-write-refusal-requires : tie.Need-write-refusal-requires
+write-refusal-requires : tie.Need-write_refusal-refusal-requires
 write-refusal-requires c κs = λ _. few c.before.before
 
 -- the version is found, then the refusal
-abbrev found : tie.After-write-refusal → tie.After-version-for
+abbrev found : tie.After-write_refusal-refusal → tie.After-version_for-version
 found w = w.before
 
-abbrev started : tie.After-write-refusal → tie.Else1
+abbrev started : tie.After-write_refusal-refusal → tie.Else-earlier-ne0
 started w = (found w).before.before
 
-returns-2 : tie.Need-returns-2
+returns-2 : tie.Need-returns-then-refusal-ne0
 returns-2 c =
     let w = c.before.before in
-    write-refused _ _ _ _ _ w.write-refusal.ensures (found w).version-for.ensures (count (started w)) c.if2.true
+    write-refused _ _ _ _ _ w.write_refusal-refusal.ensures (found w).version_for-version.ensures (count (started w)) c.if-refusal-ne0.true
 
-abbrev asked : tie.Else2 → tie.After-write-refusal
+abbrev asked : tie.Else-refusal-ne0 → tie.After-write_refusal-refusal
 asked d = d.before.before
 
 -- nothing is refused: the output has room for the file
-room_for : (d : tie.Else2) →
+room_for : (d : tie.Else-refusal-ne0) →
     let w = asked d in
     let a = (begun (started w)).args in
-    file_length (found w).version-for.result a.count ≤ length a.out.now
-room_for d = (write_none _ _ _ _ (number_of (asked d).write-refusal.ensures d.if2.false)).1
+    file_length (found w).version_for-version.result a.count ≤ length a.out-1.now
+room_for d = (write_none _ _ _ _ (number_of (asked d).write_refusal-refusal.ensures d.if-refusal-ne0.false)).1
 
-file-length-requires : tie.Need-file-length-requires
+file-length-requires : tie.Need-file_length-bytes-requires
 file-length-requires c κs =
     let w = asked c in
     let d = started w in
-    omega (arith, file_few (found w).version-for.result (begun d).args.count (few d))
+    omega (arith, file_few (found w).version_for-version.result (begun d).args.count (few d))
 
-abbrev measured : tie.After-file-length → tie.Else2
+abbrev measured : tie.After-file_length-bytes → tie.Else-refusal-ne0
 measured e = e.before
 
-room : (e : tie.After-file-length) → e.file-length.result ≤ length (begun (started (asked (measured e)))).args.out.now
-room e = omega (arith, e.file-length.ensures, room_for (measured e))
+room : (e : tie.After-file_length-bytes) → e.file_length-bytes.result ≤ length (begun (started (asked (measured e)))).args.out.now
+room e = omega (arith, e.file_length-bytes.ensures, room_for (measured e))
 
-slice-aggregate-write-file : tie.Need-slice-aggregate-write-file
+slice-aggregate-write-file : tie.Need-slice_bounds-write_file-end
 slice-aggregate-write-file c =
     let d = started (asked (measured c.before)) in
-    sym (length-take-le _ _ ((begun d).pre.quantity-room d.if1.left))
+    sym (length-take-le _ _ ((begun d).requires.quantity-room d.if-earlier-ne0.left))
 
-slice-aggregate-write-file-2 : tie.Need-slice-aggregate-write-file-2
+slice-aggregate-write-file-2 : tie.Need-slice_bounds-write_file-end-2
 slice-aggregate-write-file-2 c = count (started (asked (measured c.before.before)))
 
-slice-relend-prefix-write-file : tie.Need-slice-relend-prefix-write-file
+slice-relend-prefix-write-file : tie.Need-slice_bounds-write_file-end-3
 slice-relend-prefix-write-file c = room c.before.before
 
-slice-aggregate-write-file-3 : tie.Need-slice-aggregate-write-file-3
+slice-aggregate-write-file-3 : tie.Need-slice_bounds-write_file-end-4
 slice-aggregate-write-file-3 c = sym (length-take-le _ _ (room c.before.before.before))
 
-write-file-requires : tie.Need-write-file-requires
+write-file-requires : tie.Need-write_file-requires
 write-file-requires c κs =
     let e = c.before.before.before in
     let w = asked (measured e) in
     let d = started w in
     let bytes = length-take-le _ _ (room e) ∙ e.file-length.ensures in
-    ((good d).same, bytes ∙ ap₂ file_length (found w).version-for.ensures (count d))
+    ((good d).same, bytes ∙ ap₂ file_length (found w).version_for-version.ensures (count d))
 
-same_length : tie.Need-same-length
+same_length : tie.Need-shape_of-out
 same_length c = search rules
 
-returns-3 : tie.Need-returns-3
+returns-3 : tie.Need-returns
 returns-3 c =
     let written = c.before.before in
     let e = written.before.before.before.before in
     let w = asked (measured e) in
-    write_accepted _ _ _ _ _ w.write-refusal.ensures (found w).version-for.ensures (count (started w)) (measured e).if2.false
-    e.file-length.ensures written.write-file.ensures
+    write_accepted _ _ _ _ _ w.write_refusal-refusal.ensures (found w).version_for-version.ensures (count (started w)) (measured e).if-refusal-ne0.false
+    e.file-length.ensures written.write_file.ensures
 
 pub write_spec : {M : Type 1} → statement M
 write_spec =

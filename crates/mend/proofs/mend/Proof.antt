@@ -17,67 +17,67 @@ use Rattle.mend.proofs.Answer.{start_refused, short-refused, call_refused, call_
 use Rattle.mend.proofs.mend.Statement.{statement}
 use Rattle.mend.proofs.mend.Tie as tie
 
-start-number-requires : tie.Need-start-number-requires
+start-number-requires : tie.Need-start_number-number-requires
 start-number-requires c κs = search rules
 
 refused-requires : tie.Need-refused-requires
 refused-requires c κs = search rules
 
-returns : tie.Need-returns
+returns : tie.Need-returns-then-number-ne0
 returns c =
     let a = c.before.before.before.before.before.before.args in
     let file = a.file.now in
     let out = a.out.now in
     let report = a.report.now in
-    let n = c.before.before.start-number in
-    let z = c.before.if1.true in
+    let n = c.before.before.start_number-number in
+    let z = c.before.if-number-ne0.true in
     call_refused file out report c.refused.result n.result c.refused.ensures
     (ap refuse n.ensures ∙ start_refused file out report (λ e. z (n.ensures ∙ e))) z
 
 -- the bytes of the file and of both buffers, and that the start is not refused
-abbrev bytes_of : tie.Else1 → List ℕ × List ℕ × List ℕ
+abbrev bytes_of : tie.Else-number-ne0 → List ℕ × List ℕ × List ℕ
 bytes_of c = let a = c.before.before.before.before.before.args in (a.file.now, a.out.now, a.report.now)
 
-started : (c : tie.Else1) → start_number (bytes_of c).0 ≡ 0
-started c = sym c.before.start-number.ensures ∙ c.if1.false
+started : (c : tie.Else-number-ne0) → start_number (bytes_of c).0 ≡ 0
+started c = sym c.before.start_number-number.ensures ∙ c.if-number-ne0.false
 
-is-accepted-requires : tie.Need-is-accepted-requires
+is-accepted-requires : tie.Need-is_accepted-requires
 is-accepted-requires c κs = search rules
 
 -- the file is made of bytes
-made_of_bytes : (c : tie.Else1) → Bytes (bytes_of c).0
+made_of_bytes : (c : tie.Else-number-ne0) → Bytes (bytes_of c).0
 made_of_bytes c =
     let known = c.before.before.before.before in
-    all_get_d 0 (bytes_of c).0 (λ i l. (known.shared-slice-known.given i).fits)
+    all_get_d 0 (bytes_of c).0 (λ i l. (known.shared_slice_known-1.given i).fits)
 
 -- reading accepts the file
-accepted : (c : tie.Then2) → (read_refusal (bytes_of c.before.before).0).number ≡ 0
-accepted c = eqb→eq _ 0 (T_true (sym c.before.is-accepted.ensures ∙ c.if2.true))
+accepted : (c : tie.Then-is_accepted) → (read_refusal (bytes_of c.before.before).0).number ≡ 0
+accepted c = eqb→eq _ 0 (T_true (sym c.before.is_accepted.ensures ∙ c.if-is_accepted.true))
 
-refused-requires-2 : tie.Need-refused-requires-2
+refused-requires-2 : tie.Need-refused-requires-then-out-file
 refused-requires-2 c κs = search rules
 
-returns-2 : tie.Need-returns-2
+returns-2 : tie.Need-returns-then-out-file
 returns-2 c =
     let taken = c.before.before in
     let known = taken.before.before in
     let (file, out, report) = bytes_of known in
     let same = (accepted_same file (accepted taken) (made_of_bytes known)).0 in
-    let h : length out < length (mended_file file) = omega (arith, c.before.if3.true, ap length same) in
-    call_refused file out report c.refused2.result 11 c.refused2.ensures
+    let h : length out < length (mended_file file) = omega (arith, c.before.if-out-file.true, ap length same) in
+    call_refused file out report c.refused-then-out-file.result 11 c.refused-then-out-file.ensures
     (short-refused file out report (started known) (inl h))
     (λ e. omega arith)
 
 refuse-requires : tie.Need-refuse-requires
 refuse-requires c κs = search rules
 
-put-word-requires : tie.Need-put-word-requires
+put-word-requires : tie.Need-put_word-requires
 put-word-requires c κs = search rules
 
-same_length : tie.Need-same-length
+same_length : tie.Need-shape_of-out-then-is_accepted
 same_length c = search rules
 
-returns-3 : tie.Need-returns-3
+returns-3 : tie.Need-returns-then-is_accepted
 returns-3 c =
     let wrote = c.before.before in
     let asked = wrote.before.before in
@@ -85,59 +85,59 @@ returns-3 c =
     let taken = room.before in
     let known = taken.before.before in
     let (file, out, report) = bytes_of known in
-    call_same file out report wrote.put_word.result _ (made_of_bytes known) (started known) (accepted taken) room.if3.false
+    call_same file out report wrote.put_word.result _ (made_of_bytes known) (started known) (accepted taken) room.if-out-file.false
     (printed wrote.put_word.ensures)
     asked.refuse.ensures
 
-count-lines-requires : tie.Need-count-lines-requires
+count-lines-requires : tie.Need-count_lines-sizes-requires
 count-lines-requires c κs = search rules
 
-mended-length-requires : tie.Need-mended-length-requires
+mended-length-requires : tie.Need-mended_length-bytes-requires
 mended-length-requires c κs = search rules
 
-report-length-requires : tie.Need-report-length-requires
+report-length-requires : tie.Need-report_length-report_bytes-requires
 report-length-requires c κs = search rules
 
-refused-requires-3 : tie.Need-refused-requires-3
+refused-requires-3 : tie.Need-refused-requires-then-out-bytes
 refused-requires-3 c κs = search rules
 
-returns-4 : tie.Need-returns-4
+returns-4 : tie.Need-returns-then-out-bytes
 returns-4 c =
     let counted = c.before.before.before.before in
     let (file, out, report) = bytes_of counted.before.before.before in
-    let h : length out < length (mended_file file) = omega (arith, c.before.if4.true, c.before.before.before.mended-length.ensures) in
-    call_refused file out report c.refused3.result 11 c.refused3.ensures
+    let h : length out < length (mended_file file) = omega (arith, c.before.if-out-bytes.true, c.before.before.before.mended_length-bytes.ensures) in
+    call_refused file out report c.refused-then-out-bytes.result 11 c.refused-then-out-bytes.ensures
     (short-refused file out report (started counted.before.before.before) (inl h))
     (λ e. omega arith)
 
-refused-requires-4 : tie.Need-refused-requires-4
+refused-requires-4 : tie.Need-refused-requires-then-report-report_bytes
 refused-requires-4 c κs = search rules
 
-returns-5 : tie.Need-returns-5
+returns-5 : tie.Need-returns-then-report-report_bytes
 returns-5 c =
     let counted = c.before.before.before.before.before in
     let (file, out, report) = bytes_of counted.before.before.before in
-    let h : length report < length (mended_report file) = omega (arith, c.before.if5.true, c.before.before.before.report-length.ensures) in
-    call_refused file out report c.refused4.result 11 c.refused4.ensures
+    let h : length report < length (mended_report file) = omega (arith, c.before.if-report-report_bytes.true, c.before.before.before.report_length-report_bytes.ensures) in
+    call_refused file out report c.refused-then-report-report_bytes.result 11 c.refused-then-report-report_bytes.ensures
     (short-refused file out report (started counted.before.before.before) (inr h))
     (λ e. omega arith)
 
-write-file-requires : tie.Need-write-file-requires
+write-file-requires : tie.Need-write_file-requires
 write-file-requires c κs = search rules
 
-write-report-requires : tie.Need-write-report-requires
+write-report-requires : tie.Need-write_report-requires
 write-report-requires c κs = search rules
 
 refuse-requires-2 : tie.Need-refuse-requires-2
 refuse-requires-2 c κs = search rules
 
-same-length-2 : tie.Need-same-length-2
+same-length-2 : tie.Need-shape_of-out
 same-length-2 c = search rules
 
-same-length-3 : tie.Need-same-length-3
+same-length-3 : tie.Need-shape_of-report
 same-length-3 c = search rules
 
-returns-6 : tie.Need-returns-6
+returns-6 : tie.Need-returns
 returns-6 c =
     let reported = c.before in
     let wrote = reported.before.before.before.before.before.before in
@@ -145,19 +145,19 @@ returns-6 c =
     let told = second.before.before in
     let counted = told.before.before in
     let (file, out, report) = bytes_of counted.before.before.before in
-    call_done file out report told.before.mended-length.result told.report-length.result _ _
+    call_done file out report told.before.mended_length-bytes.result told.report_length-report_bytes.result _ _
     (made_of_bytes counted.before.before.before)
     (started counted.before.before.before)
-    told.before.mended-length.ensures
-    told.report-length.ensures
-    second.before.if4.false
-    second.if5.false
-    wrote.write-file.ensures
-    reported.before.before.write-report.ensures
-    c.refuse2.ensures
+    told.before.mended_length-bytes.ensures
+    told.report_length-report_bytes.ensures
+    second.before.if-out-bytes.false
+    second.if-report-report_bytes.false
+    wrote.write_file.ensures
+    reported.before.before.write_report.ensures
+    c.refuse-2.ensures
 
-pub mend-spec : {M : Type 1} → statement M
-mend-spec =
+pub mend_spec : {M : Type 1} → statement M
+mend_spec =
     tie.close
     (tie.spec
     start-number-requires

@@ -9,5 +9,5 @@ refuse-requires c κs = search rules
 returns : tie.Need-returns
 returns c = ap (λ r. record { refusal = r; bytes = 0; report_bytes = 0 }) c.refuse.ensures
 
-pub refused-spec : {M : Type 1} → statement M
-refused-spec = tie.close (tie.spec refuse-requires returns)
+pub refused_spec : {M : Type 1} → statement M
+refused_spec = tie.close (tie.spec refuse-requires returns)

@@ -9,5 +9,5 @@ returns : tie.Need-returns
 unfolding is_pairs choose2
 returns c = record { size = refl; right = tt }
 
-pub pair-table-spec : {M : Type 1} → statement M
-pair-table-spec = tie.close (tie.spec returns)
+pub pair_table_spec : {M : Type 1} → statement M
+pair_table_spec = tie.close (tie.spec returns)

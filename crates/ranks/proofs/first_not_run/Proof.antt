@@ -15,62 +15,62 @@ use Rattle.model.proofs.Run.{named_own}
 use Rattle.ranks.proofs.first_not_run.Statement.{statement}
 use Rattle.ranks.proofs.first_not_run.Tie as tie
 
-abbrev invariant-loop : tie.invariant-loop
+abbrev invariant-loop : tie.invariant-loop-i
 invariant-loop lines names i₀ i = (i ≤ length lines) × (first_fail (is_run_of (has names)) lines ≡ i + first_fail (is_run_of (has names)) (drop i lines))
 
-abbrev decreases-loop : tie.decreases-loop
+abbrev decreases-loop : tie.decreases-loop-i
 decreases-loop lines names i₀ i = length lines - i
 
-names-of-requires : tie.Need-names-of-requires invariant-loop decreases-loop
+names-of-requires : tie.Need-names_of-names-requires invariant-loop decreases-loop
 names-of-requires c κs = search rules
 
 -- the tips of the union are the named tips
-same : (c : tie.After-names-of invariant-loop decreases-loop) → has c.names_of.result ≡ named c.before.before.args.lines.now
-same c = ap has c.names_of.ensures ∙ names-named c.before.before.args.lines.now
+same : (c : tie.After-names_of-names invariant-loop decreases-loop) → has c.names_of-names.result ≡ named c.before.before.args.lines.now
+same c = ap has c.names_of-names.ensures ∙ names-named c.before.before.args.lines.now
 
-loop-holds : tie.Need-loop-init invariant-loop decreases-loop
+loop-holds : tie.Need-loop-i-init invariant-loop decreases-loop
 loop-holds c = (search rules, omega arith)
 
-mul-is-run-of : tie.Need-overflow-mul-is-run-of invariant-loop decreases-loop
+mul-is-run-of : tie.Need-offset_bounds-lines-i invariant-loop decreases-loop
 mul-is-run-of c = search rules
 
-shared-slice-read-is-run-of : tie.Need-shared-slice-read-is-run-of invariant-loop decreases-loop
+shared-slice-read-is-run-of : tie.Need-bounds-lines-i invariant-loop decreases-loop
 shared-slice-read-is-run-of c = search rules
 
-is-run-of-requires : tie.Need-is-run-of-requires invariant-loop decreases-loop
+is-run-of-requires : tie.Need-is_run_of-requires invariant-loop decreases-loop
 is-run-of-requires c κs =
     let union = c.before.before.before in
-    rw (same union) (all-at 0 (named_own union.before.before.args.lines.now) c.before.before.loop.i (omega arith))
+    rw (same union) (all-at 0 (named_own union.before.before.args.lines.now) c.before.before.loop-i.i (omega arith))
 
-returns : tie.Need-returns invariant-loop decreases-loop
+returns : tie.Need-returns-then-not-is_run_of invariant-loop decreases-loop
 returns c =
     let at = c.before.before.before.before in
     let union = at.before in
     let lines = union.before.before.args.lines.now in
-    let fail = sym (fails c.before.is-run-of.ensures c.if1.true) in
-    rw (← same union) (sym (fails_next _ lines at.loop.i false (omega arith) fail at.loop.invariant.1))
+    let fail = sym (fails c.before.is_run_of.ensures c.if-not-is_run_of.true-raw) in
+    rw (← same union) (sym (fails_next _ lines at.loop-i.i false (omega arith) fail at.loop-i.invariant.1))
 
-add-i : tie.Need-overflow-add-i invariant-loop decreases-loop
+add-i : tie.Need-overflow_add-i invariant-loop decreases-loop
 add-i c = search rules
 
-loop-less : tie.Need-loop-smaller invariant-loop decreases-loop
+loop-less : tie.Need-loop-i-smaller invariant-loop decreases-loop
 loop-less c = search rules
 
-loop-again : tie.Need-loop-preserved invariant-loop decreases-loop
+loop-again : tie.Need-loop-i-preserved invariant-loop decreases-loop
 loop-again c =
     let at = c.before.before.before.before in
     let lines = at.before.before.before.args.lines.now in
-    let pass = sym (passes c.before.is-run-of.ensures c.if1.false) in
-    (search rules, fails_next _ lines at.loop.i true (omega arith) pass at.loop.invariant.1)
+    let pass = sym (passes c.before.is_run_of.ensures c.if-not-is_run_of.false-raw) in
+    (search rules, fails_next _ lines at.loop-i.i true (omega arith) pass at.loop-i.invariant.1)
 
-returns-2 : tie.Need-returns-2 invariant-loop decreases-loop
+returns-2 : tie.Need-returns invariant-loop decreases-loop
 returns-2 c =
     let at = c.before in
     let union = at.before in
-    rw (← same union) (sym (fails_end _ union.before.before.args.lines.now at.loop.i c.loop-test.false at.loop.invariant.1))
+    rw (← same union) (sym (fails_end _ union.before.before.args.lines.now at.loop-i.i c.loop-i-test.false at.loop-i.invariant.1))
 
-pub first-not-run-spec : {M : Type 1} → statement M
-first-not-run-spec =
+pub first_not_run_spec : {M : Type 1} → statement M
+first_not_run_spec =
     tie.close
     (tie.spec
     invariant-loop

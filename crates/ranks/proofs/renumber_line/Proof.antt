@@ -30,19 +30,19 @@ known c =
 lowest-requires : tie.Need-lowest-requires
 lowest-requires c κs = search rules
 
-shared-slice-read-low : tie.Need-shared-slice-read-low
+shared-slice-read-low : tie.Need-bounds-ranks-lowest
 shared-slice-read-low c = rw c.before.lowest.ensures (known c.before.before.before).ends.0
 
-cast-low : tie.Need-overflow-cast-low
+cast-low : tie.Need-overflow_cast-low
 cast-low c = rw c.before.lowest.ensures (omega (arith, known c.before.before.before))
 
 highest-requires : tie.Need-highest-requires
 highest-requires c κs = search rules
 
-shared-slice-read-high : tie.Need-shared-slice-read-high
+shared-slice-read-high : tie.Need-bounds-ranks-highest
 shared-slice-read-high c = rw c.before.highest.ensures (known c.before.before.before.before.before).ends.1
 
-cast-high : tie.Need-overflow-cast-high
+cast-high : tie.Need-overflow_cast-high
 cast-high c = rw c.before.highest.ensures (omega (arith, known c.before.before.before.before.before))
 
 between-requires : tie.Need-between-requires
@@ -54,8 +54,8 @@ returns : tie.Need-returns
 unfolding run_by
 returns c = c.between.ensures ∙ rw (c.before.before.before.before.lowest.ensures, c.before.before.highest.ensures)
 
-pub renumber-line-spec : {M : Type 1} → statement M
-renumber-line-spec =
+pub renumber_line_spec : {M : Type 1} → statement M
+renumber_line_spec =
     tie.close
     (tie.spec
     lowest-requires

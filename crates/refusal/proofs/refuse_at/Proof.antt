@@ -4,14 +4,14 @@ use borrow.Author.Tests.{lt-ltb, le-ltb}
 use Rattle.refusal.proofs.refuse_at.Statement.{statement}
 use Rattle.refusal.proofs.refuse_at.Tie as tie
 
-returns : tie.Need-returns
-returns c = let a = c.before.args in rw (lt-ltb a.at a.count c.if1.true) refl
+returns : tie.Need-returns-then-at-count
+returns c = let a = c.before.args in rw (lt-ltb a.at a.count c.if-at-count.true) refl
 
 refuse-requires : tie.Need-refuse-requires
 refuse-requires c κs = search rules
 
-returns-2 : tie.Need-returns-2
-returns-2 c = let a = c.before.before.args in rw (le-ltb a.at a.count c.before.if1.false) c.refuse.ensures
+returns-2 : tie.Need-returns
+returns-2 c = let a = c.before.before.args in rw (le-ltb a.at a.count c.before.if-at-count.false) c.refuse.ensures
 
-pub refuse-at-spec : {M : Type 1} → statement M
-refuse-at-spec = tie.close (tie.spec returns refuse-requires returns-2)
+pub refuse_at_spec : {M : Type 1} → statement M
+refuse_at_spec = tie.close (tie.spec returns refuse-requires returns-2)

@@ -5,14 +5,14 @@ use Rattle.refusal.proofs.refuse_when.Tie as tie
 refuse-requires : tie.Need-refuse-requires
 refuse-requires c κs = search rules
 
-refuse-requires-2 : tie.Need-refuse-requires-2
+refuse-requires-2 : tie.Need-refuse-requires-else-test
 refuse-requires-2 c κs = search rules
 
-returns : tie.Need-returns
-returns c = rw c.before.if1.true c.refuse.ensures
+returns : tie.Need-returns-then-test
+returns c = rw c.before.if-test.true c.refuse.ensures
 
-returns-2 : tie.Need-returns-2
-returns-2 c = rw c.before.if1.false c.refuse2.ensures
+returns-2 : tie.Need-returns-else-test
+returns-2 c = rw c.before.if-test.false c.refuse-else-test.ensures
 
-pub refuse-when-spec : {M : Type 1} → statement M
-refuse-when-spec = tie.close (tie.spec refuse-requires refuse-requires-2 returns returns-2)
+pub refuse_when_spec : {M : Type 1} → statement M
+refuse_when_spec = tie.close (tie.spec refuse-requires refuse-requires-2 returns returns-2)

@@ -9,64 +9,64 @@ use borrow.Author.Rules.{rules}
 use Rattle.striking.proofs.first_same.Statement.{statement}
 use Rattle.striking.proofs.first_same.Tie as tie
 
-abbrev invariant-loop : tie.invariant-loop
+abbrev invariant-loop : tie.invariant-loop-j
 invariant-loop lines quantities i j₀ j = (j ≤ i) × ((k : ℕ) → k < j → Same lines quantities i k → ⊥)
 
-abbrev decreases-loop : tie.decreases-loop
+abbrev decreases-loop : tie.decreases-loop-j
 decreases-loop lines quantities i j₀ j = i - j
 
-loop-holds : tie.Need-loop-init invariant-loop decreases-loop
+loop-holds : tie.Need-loop-j-init invariant-loop decreases-loop
 loop-holds c = (search rules, λ k l. absurd (omega arith))
 
-mul-if1 : tie.Need-overflow-mul-if1 invariant-loop decreases-loop
+mul-if1 : tie.Need-offset_bounds-lines-j invariant-loop decreases-loop
 mul-if1 c = search rules
 
-shared-slice-read-if1 : tie.Need-shared-slice-read-if1 invariant-loop decreases-loop
+shared-slice-read-if1 : tie.Need-bounds-lines-j invariant-loop decreases-loop
 shared-slice-read-if1 c = search rules
 
-mul-if1-2 : tie.Need-overflow-mul-if1-2 invariant-loop decreases-loop
+mul-if1-2 : tie.Need-offset_bounds-lines-i invariant-loop decreases-loop
 mul-if1-2 c = search rules
 
-shared-slice-read-if1-2 : tie.Need-shared-slice-read-if1-2 invariant-loop decreases-loop
+shared-slice-read-if1-2 : tie.Need-bounds-lines-i invariant-loop decreases-loop
 shared-slice-read-if1-2 c = search rules
 
-shared-slice-read-if2 : tie.Need-shared-slice-read-if2 invariant-loop decreases-loop
+shared-slice-read-if2 : tie.Need-bounds-quantities-j invariant-loop decreases-loop
 shared-slice-read-if2 c = search rules
 
-shared-slice-read-if2-2 : tie.Need-shared-slice-read-if2-2 invariant-loop decreases-loop
+shared-slice-read-if2-2 : tie.Need-bounds-quantities-i invariant-loop decreases-loop
 shared-slice-read-if2-2 c = search rules
 
-returns : tie.Need-returns invariant-loop decreases-loop
+returns : tie.Need-returns-then-quantities-j invariant-loop decreases-loop
 returns c =
     let equal = c.before.before.before in (
       omega arith,
-      record { set = equal.if1.true; quantity = eqb-true _ _ c.if2.true },
-      equal.before.before.before.before.loop.invariant.1,
+      record { set = equal.if-lines-j.true; quantity = eqb-true _ _ c.if-quantities-j.true-raw },
+      equal.before.before.before.before.loop-j.invariant.1,
     )
 
-add-j : tie.Need-overflow-add-j invariant-loop decreases-loop
+add-j : tie.Need-overflow_add-j invariant-loop decreases-loop
 add-j c = search rules
 
-loop-less : tie.Need-loop-smaller invariant-loop decreases-loop
+loop-less : tie.Need-loop-j-smaller invariant-loop decreases-loop
 loop-less c = search rules
 
-loop-again : tie.Need-loop-preserved invariant-loop decreases-loop
+loop-again : tie.Need-loop-j-preserved invariant-loop decreases-loop
 loop-again c =
-    let j = c.before.before.before.before.loop in (
+    let j = c.before.before.before.before.loop-j in (
       search rules,
       λ k l same. ⊎_elim
           (λ h.
           let e : k ≡ j.j = omega arith in
-          ⊎_elim (λ (_, _, _, n). eqb-false _ _ n.left (rw e at same.quantity)) (λ n. n.left (rw e at same.set)) c.if1.branch)
+          ⊎_elim (λ (_, _, _, n). eqb-false _ _ n.left (rw e at same.quantity)) (λ n. n.left (rw e at same.set)) c.else-lines-j.branch)
           (λ h. j.invariant.1 k h same)
           (le_or_lt j.j k),
     )
 
-returns-2 : tie.Need-returns-2 invariant-loop decreases-loop
-returns-2 c = (omega arith, record { set = refl; quantity = refl }, λ k l. c.before.loop.invariant.1 k (omega (arith, l)))
+returns-2 : tie.Need-returns invariant-loop decreases-loop
+returns-2 c = (omega arith, record { set = refl; quantity = refl }, λ k l. c.before.loop-j.invariant.1 k (omega (arith, l)))
 
-pub first-same-spec : {M : Type 1} → statement M
-first-same-spec =
+pub first_same_spec : {M : Type 1} → statement M
+first_same_spec =
     tie.close
     (tie.spec
     invariant-loop

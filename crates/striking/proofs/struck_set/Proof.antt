@@ -16,30 +16,30 @@ use Rattle.striking.proofs.struck_set.Statement.{statement}
 use Rattle.striking.proofs.struck_set.Tie as tie
 
 -- the call's start, once the lines and their sums are known; and once all the slices are
-abbrev listed : tie.After-shared-slice-known4 → tie.Start
+abbrev listed : tie.After-shared_slice_known-4-1 → tie.Start
 listed c = c.before.before.before.before
 
-abbrev lent : tie.After-slice-known2 → tie.Start
+abbrev lent : tie.After-slice_known-2-1 → tie.Start
 lent c = listed c.before.before.before.before.before
 
 -- the call's start, from the line's ends, from the equal line found, from the quantity and from the sums of the others
 abbrev start : tie.After-highest → tie.Start
 start c = lent c.before.before.before
 
-abbrev found : tie.After-first-same → tie.Start
+abbrev found : tie.After-first_same-j → tie.Start
 found c = start c.before.before
 
-abbrev counted : tie.After-shared-slice-known10 → tie.Start
+abbrev counted : tie.After-shared_slice_known-9-1 → tie.Start
 counted c = found c.before.before
 
-abbrev begun : tie.After-sums-without → tie.Start
+abbrev begun : tie.After-sums_without → tie.Start
 begun c = counted c.before.before
 
 -- the sums of the others, once they are known; and before the tips are kept
-abbrev summed : tie.After-slice-known3 → tie.After-sums-without
+abbrev summed : tie.After-slice_known-3-1 → tie.After-sums_without
 summed c = c.before.before
 
-abbrev summed-2 : tie.After-kept-tips-arg2 → tie.After-sums-without
+abbrev summed-2 : tie.After-kept-tips-arg2 → tie.After-sums_without
 summed-2 c = summed c.before.before
 
 -- the quantity of the line, and the placements of all lines and of the others
@@ -54,28 +54,28 @@ module _ (c : tie.Start) where
   rest = others c.args.quantities.now c.args.lines.now c.args.i
 
 -- their sums
-sums-of : (c : tie.After-sums-without)
+sums-of : (c : tie.After-sums_without)
     → let s = begun c in
-    RunSums s.args.names s.args.m (quantity s) (rest s) c.sums-without.new.1.1.1.1.0
+    RunSums s.args.names s.args.m (quantity s) (rest s) c.sums_without.new.rest
 sums-of c =
     let s = begun c in
-    rest-sums s.pre.0 s.args.i s.pre.2 s.pre.1 c.sums-without.ensures
+    rest-sums s.requires.0 s.args.i s.requires.2 s.requires.1 c.sums_without.ensures
 
 -- and the two tables of all lines
-known_of : (c : tie.After-sums-without)
+known_of : (c : tie.After-sums_without)
     → let s = begun c in
     let args = s.args in
-    Known args.names args.m (quantity s) (placed s) (rest s) c.sums-without.new.1.1.1.1.0 args.inner.now args.upper.now
+    Known args.names args.m (quantity s) (placed s) (rest s) c.sums_without.new.rest args.inner.now args.upper.now
 known_of c =
     let s = begun c in
-    known s.pre.0 s.args.i s.pre.2 (all-sums s.pre.0 s.pre.1) (sums-of c) s.pre.5 s.pre.6
+    known s.requires.0 s.args.i s.requires.2 (all-sums s.requires.0 s.requires.1) (sums-of c) s.requires.5 s.requires.6
 
-mul-line : tie.Need-overflow-mul-line
+mul-line : tie.Need-offset_bounds-lines-i
 mul-line c =
     let p = (lent c).requires in
     record { fits = omega (arith, p.2, p.0.good.few-lines) }
 
-shared-slice-read-line : tie.Need-shared-slice-read-line
+shared-slice-read-line : tie.Need-bounds-lines-i
 shared-slice-read-line c = search rules
 
 lowest-requires : tie.Need-lowest-requires
@@ -84,75 +84,75 @@ lowest-requires c κs = search rules
 highest-requires : tie.Need-highest-requires
 highest-requires c κs = search rules
 
-returns : tie.Need-returns
+returns : tie.Need-returns-then-lowest-highest
 returns c =
     let h = c.before in
     let p = (start h).requires in
     let args = (start h).args in
-    one-tip p.0 args.i p.2 args.goal p.10 (omega (arith, c.if1.true, h.highest.ensures, h.before.lowest.ensures))
+    one-tip p.0 args.i p.2 args.goal p.10 (omega (arith, c.if-lowest-highest.true, h.highest.ensures, h.before.lowest.ensures))
 
-first-same-requires : tie.Need-first-same-requires
+first-same-requires : tie.Need-first_same-j-requires
 first-same-requires c κs =
     let p = (start c.before).requires in
     (p.2, p.0.good.same)
 
-mul-result : tie.Need-overflow-mul-result
+mul-result : tie.Need-offset_bounds-struck-j
 mul-result c =
     let p = (found c.before).requires in
-    record { fits = omega (arith, c.if2.true, p.2, p.0.good.few-lines) }
+    record { fits = omega (arith, c.if-j-i.true, p.2, p.0.good.few-lines) }
 
-shared-slice-read-result : tie.Need-shared-slice-read-result
-shared-slice-read-result c = omega (arith, c.before.if2.true, (found c.before.before).requires.4)
+shared-slice-read-result : tie.Need-bounds-struck-j
+shared-slice-read-result c = omega (arith, c.before.if-j-i.true, (found c.before.before).requires.4)
 
-returns-2 : tie.Need-returns-2
+returns-2 : tie.Need-returns-then-j-i
 returns-2 c =
     let f = c.before.before in
     let s = found f in
     let args = s.args in
-    let j = f.first-same.result in
-    let (_, same, _) = f.first-same.ensures in
+    let j = f.first_same-j.result in
+    let (_, same, _) = f.first_same-j.ensures in
     let tips = goal_tips args.m args.quantities.now args.lines.now args.goal in
-    struck-before tips args.struck.now args.i j c.before.if2.true s.pre.3
-    ∙ same_tips args.quantities.now args.lines.now s.pre.0.good.same (omega (arith, c.before.if2.true, s.pre.2)) s.pre.2
+    struck-before tips args.struck.now args.i j c.before.if-j-i.true s.requires.3
+    ∙ same_tips args.quantities.now args.lines.now s.requires.0.good.same (omega (arith, c.before.if-j-i.true, s.requires.2)) s.requires.2
     same.quantity same.set args.m args.goal
 
-shared-slice-read-quantity : tie.Need-shared-slice-read-quantity
+shared-slice-read-quantity : tie.Need-bounds-quantities-i
 shared-slice-read-quantity c =
     let s = counted c in
-    omega (arith, s.pre.2, s.pre.0.good.same)
+    omega (arith, s.requires.2, s.requires.0.good.same)
 
-sums-without-requires : tie.Need-sums-without-requires
+sums-without-requires : tie.Need-sums_without-requires
 sums-without-requires c κs =
     let s = counted c.before in
-    (s.pre.0.good.most, rw s.pre.1 (removable s.pre.0 s.args.i s.pre.2), s.pre.7)
+    (s.requires.0.good.most, rw s.requires.1 (removable s.requires.0 s.args.i s.requires.2), s.requires.7)
 
-cast-kept-tips : tie.Need-overflow-cast-kept-tips
+cast-kept-tips : tie.Need-overflow_cast-quantity
 cast-kept-tips c =
     let f = summed c in
-    record { fits = omega (arith, f.before.before.shared-slice-known10.given (begun f).args.i) }
+    record { fits = omega (arith, f.before.before.shared_slice_known-9-1.given (begun f).args.i) }
 
-kept-tips-requires : tie.Need-kept-tips-requires
+kept-tips-requires : tie.Need-kept_tips-requires
 kept-tips-requires c κs =
     let f = summed-2 c in
     let s = begun f in
-    ((placed s, rest s, known_of f), s.pre.8, s.pre.9, all-at 0 s.pre.0.good.domains s.args.i s.pre.2)
+    ((placed s, rest s, known_of f), s.requires.8, s.requires.9, all-at 0 s.requires.0.good.domains s.args.i s.requires.2)
 
-same_length : tie.Need-same-length
+same_length : tie.Need-shape_of-rest
 same_length c = search rules
 
-same-length-2 : tie.Need-same-length-2
+same-length-2 : tie.Need-shape_of-outer
 same-length-2 c = search rules
 
-returns-3 : tie.Need-returns-3
+returns-3 : tie.Need-returns
 returns-3 c =
     let kept = c.before.before in
     let f = summed-2 kept.before in
     let s = begun f in
-    kept-goal s.pre.0 s.args.i s.pre.2 (all-sums s.pre.0 s.pre.1) (sums-of f) s.pre.5 s.pre.6 s.args.goal _
-    (kept.kept-tips.ensures (placed s) (rest s) (known_of f))
+    kept-goal s.requires.0 s.args.i s.requires.2 (all-sums s.requires.0 s.requires.1) (sums-of f) s.requires.5 s.requires.6 s.args.goal _
+    (kept.kept_tips.ensures (placed s) (rest s) (known_of f))
 
-pub struck-set-spec : {M : Type 1} → statement M
-struck-set-spec =
+pub struck_set_spec : {M : Type 1} → statement M
+struck_set_spec =
     tie.close
     (tie.spec
     mul-line

@@ -10,22 +10,22 @@ use borrow.Author.Rules.{rules}
 use Rattle.table.proofs.fill_column.Statement.{statement}
 use Rattle.table.proofs.fill_column.Tie as tie
 
-abbrev invariant-loop : tie.invariant-loop
+abbrev invariant-loop : tie.invariant-loop-a
 invariant-loop m b pairs sums table₀ allows column₀ a₀ table column a = (a ≤ b + 1) × RowsBy m sums table column b a
 
-abbrev decreases-loop : tie.decreases-loop
+abbrev decreases-loop : tie.decreases-loop-a
 decreases-loop m b pairs sums table₀ allows column₀ a₀ table column a = a
 
 -- the counts taken, from the loop; and the call's start from there
-abbrev counted : tie.At-loop invariant-loop decreases-loop → tie.After-count-allows invariant-loop decreases-loop
+abbrev counted : tie.At-loop-a invariant-loop decreases-loop → tie.After-count_allows invariant-loop decreases-loop
 counted c = c.before.before.before
 
-abbrev start : tie.After-count-allows invariant-loop decreases-loop → tie.Start invariant-loop decreases-loop
+abbrev start : tie.After-count_allows invariant-loop decreases-loop → tie.Start invariant-loop decreases-loop
 start c = c.before.before.before.before.before.before
 
 -- what is known in the loop of the row a - 1
-module _ (c : tie.In-loop invariant-loop decreases-loop) where
-  abbrev f : tie.After-count-allows invariant-loop decreases-loop
+module _ (c : tie.In-loop-a invariant-loop decreases-loop) where
+  abbrev f : tie.After-count_allows invariant-loop decreases-loop
   f = counted c.before
 
   abbrev s : tie.Start invariant-loop decreases-loop
@@ -34,110 +34,110 @@ module _ (c : tie.In-loop invariant-loop decreases-loop) where
   abbrev a : ℕ
   a = c.before.loop.a - 1
 
-  allows-are : f.count-allows.last.1.1.1.0 ≡ allows_of s.args.m s.args.sums.now s.args.b zeros
-  allows-are = f.count-allows.ensures ∙ ap (allows_of s.args.m s.args.sums.now s.args.b) f.before.before.zeros.ensures
+  allows-are : f.count_allows.last.1.1.1.0 ≡ allows_of s.args.m s.args.sums.now s.args.b zeros
+  allows-are = f.count_allows.ensures ∙ ap (allows_of s.args.m s.args.sums.now s.args.b) f.before.before.zeros-allows.ensures
 
   rows : RowsBy s.args.m s.args.sums.now c.before.loop.table c.before.loop.column s.args.b (a + 1)
   rows =
       let e : a + 1 ≡ c.before.loop.a = omega arith in
       rw e c.before.loop.invariant.1
 
-  ready : Cell s.args.m a s.args.b s.args.sums.now f.count-allows.last.1.1.1.0 c.before.loop.column
+  ready : Cell s.args.m a s.args.b s.args.sums.now f.count_allows.last.1.1.1.0 c.before.loop.column
       c.before.loop.table
   ready =
-      let (lines, k) = s.pre.0 in
-      cell_ready k s.args.b s.pre.1 allows-are a (omega arith) (rows lines k)
+      let (lines, k) = s.requires.0 in
+      cell_ready k s.args.b s.requires.1 allows-are a (omega arith) (rows lines k)
 
-best : (c : tie.After-cell invariant-loop decreases-loop)
+best : (c : tie.After-cell-best invariant-loop decreases-loop)
     → let t = c.before.before.before.before in
-    (lines : List ℕ) → RunSums (s t).args.m lines (s t).args.sums.now → c.cell.result ≡ C lines (a t) ((s t).args.b + 1 - a t)
+    (lines : List ℕ) → RunSums (s t).args.m lines (s t).args.sums.now → c.cell-best.result ≡ C lines (a t) ((s t).args.b + 1 - a t)
 best c lines k =
     let t = c.before.before.before.before in
-    cell_right k (s t).args.b (s t).requires.1 (allows-are t) (a t) (omega arith) (rows t lines k) c.cell.ensures
+    cell_right k (s t).args.b (s t).requires.1 (allows-are t) (a t) (omega arith) (rows t lines k) c.cell-best.ensures
 
-zeros-requires : tie.Need-zeros-requires invariant-loop decreases-loop
+zeros-requires : tie.Need-zeros-allows-requires invariant-loop decreases-loop
 zeros-requires c κs = search rules
 
-slice-aggregate-count-allows : tie.Need-slice-aggregate-count-allows invariant-loop decreases-loop
+slice-aggregate-count-allows : tie.Need-slice_bounds-count_allows-end invariant-loop decreases-loop
 slice-aggregate-count-allows c = search rules
 
-count-allows-requires : tie.Need-count-allows-requires invariant-loop decreases-loop
+count-allows-requires : tie.Need-count_allows-requires invariant-loop decreases-loop
 count-allows-requires c κs =
     let b = c.before.before.before.before.before in
-    rw c.before.zeros.ensures (allows_ready b.requires.0.1 b.args.b b.requires.1)
+    rw c.before.zeros-allows.ensures (allows_ready b.requires.0.1 b.args.b b.requires.1)
 
-zeros-requires-2 : tie.Need-zeros-requires-2 invariant-loop decreases-loop
+zeros-requires-2 : tie.Need-zeros-column-requires invariant-loop decreases-loop
 zeros-requires-2 c κs = search rules
 
-add_a : tie.Need-overflow-add-a invariant-loop decreases-loop
+add_a : tie.Need-overflow_add-a invariant-loop decreases-loop
 add_a c = search rules
 
-loop-holds : tie.Need-loop-init invariant-loop decreases-loop
+loop-holds : tie.Need-loop-a-init invariant-loop decreases-loop
 loop-holds c =
     let b = start c.before.before in
-    (search rules, λ lines k. rw c.zeros2.ensures (rows-first k b.args.b b.pre.1 (b.pre.2 lines k)))
+    (search rules, λ lines k. rw c.zeros-column.ensures (rows-first k b.args.b b.requires.1 (b.requires.2 lines k)))
 
-sub-a : tie.Need-overflow-sub-a invariant-loop decreases-loop
+sub-a : tie.Need-overflow_sub-a invariant-loop decreases-loop
 sub-a c = search rules
 
-slice-aggregate-cell : tie.Need-slice-aggregate-cell invariant-loop decreases-loop
+slice-aggregate-cell : tie.Need-slice_bounds-cell-end invariant-loop decreases-loop
 slice-aggregate-cell c = search rules
 
-slice-aggregate-cell-2 : tie.Need-slice-aggregate-cell-2 invariant-loop decreases-loop
+slice-aggregate-cell-2 : tie.Need-slice_bounds-cell-end-in-loop-a invariant-loop decreases-loop
 slice-aggregate-cell-2 c =
     let t = c.before.before in
     let (lines, k) = (s t).requires.0 in
     search (rules, (rows t lines k).room)
 
-cell-requires : tie.Need-cell-requires invariant-loop decreases-loop
+cell-requires : tie.Need-cell-best-requires invariant-loop decreases-loop
 cell-requires c κs =
     let t = c.before.before.before in
     (ready t, (s t).requires.3)
 
-mul-table : tie.Need-overflow-mul-table invariant-loop decreases-loop
+mul-table : tie.Need-overflow_mul-table invariant-loop decreases-loop
 mul-table c = record { fits = omega (arith, cell_in (ready c.before.before.before.before)) }
 
-add-table : tie.Need-overflow-add-table invariant-loop decreases-loop
+add-table : tie.Need-overflow_add-table invariant-loop decreases-loop
 add-table c = record { fits = omega (arith, cell_in (ready c.before.before.before.before)) }
 
-mul-table-2 : tie.Need-overflow-mul-table-2 invariant-loop decreases-loop
+mul-table-2 : tie.Need-offset_bounds-table-a invariant-loop decreases-loop
 mul-table-2 c = record { fits = omega (arith, cell_in (ready c.before.before.before.before)) }
 
-slice-write-table : tie.Need-slice-write-table invariant-loop decreases-loop
+slice-write-table : tie.Need-bounds-table-a invariant-loop decreases-loop
 slice-write-table c =
     let r = ready c.before.before.before.before in
     omega (arith, cell_in r, r.table_size)
 
-mul-column : tie.Need-overflow-mul-column invariant-loop decreases-loop
+mul-column : tie.Need-offset_bounds-column-a invariant-loop decreases-loop
 mul-column c = search rules
 
-array-write-column : tie.Need-array-write-column invariant-loop decreases-loop
+array-write-column : tie.Need-bounds-column-a invariant-loop decreases-loop
 array-write-column c = search rules
 
-loop-less : tie.Need-loop-smaller invariant-loop decreases-loop
+loop-less : tie.Need-loop-a-smaller invariant-loop decreases-loop
 loop-less c = search rules
 
-loop-again : tie.Need-loop-preserved invariant-loop decreases-loop
+loop-again : tie.Need-loop-a-preserved invariant-loop decreases-loop
 loop-again c =
     let t = c.before.before.before.before in (
       search rules,
-      λ lines k. rows_more k (s t).args.b (s t).requires.1 (a t) c.cell.result (omega arith) (best c lines k) (rows t lines k),
+      λ lines k. rows_more k (s t).args.b (s t).requires.1 (a t) c.cell-best.result (omega arith) (best c lines k) (rows t lines k),
     )
 
-same_length : tie.Need-same-length invariant-loop decreases-loop
+same_length : tie.Need-shape_of-table invariant-loop decreases-loop
 same_length c =
     let b = start (counted c.before) in
-    let (lines, k) = b.pre.0 in
-    (c.before.loop.invariant.1 lines k).columns.size ∙ sym (b.pre.2 lines k).size
+    let (lines, k) = b.requires.0 in
+    (c.before.loop-a.invariant.1 lines k).columns.size ∙ sym (b.requires.2 lines k).size
 
 returns : tie.Need-returns invariant-loop decreases-loop
 returns c =
-    let e : c.before.loop.a ≡ 0 = omega arith in
+    let e : c.before.loop-a.a ≡ 0 = omega arith in
     let b = start (counted c.before) in
-    λ lines k. rows_all k b.args.b b.pre.1 (rw e at (c.before.loop.invariant.1 lines k))
+    λ lines k. rows_all k b.args.b b.requires.1 (rw e at (c.before.loop-a.invariant.1 lines k))
 
-pub fill-column-spec : {M : Type 1} → statement M
-fill-column-spec =
+pub fill_column_spec : {M : Type 1} → statement M
+fill_column_spec =
     tie.close
     (tie.spec
     invariant-loop

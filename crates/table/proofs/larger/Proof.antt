@@ -17,25 +17,25 @@ use Rattle.table.proofs.larger.Tie as tie
 signed_test : (x y : ℕ) → x < 2 ^ 31 → y < 2 ^ 31 → lt_z (to_z w32 (of_z w32 (pos x))) (to_z w32 (of_z w32 (pos y))) ≡ ltb x y
 signed_test x y h k = rw (to_z-of_z w32 (pos x) (record { sfits = h }), to_z-of_z w32 (pos y) (record { sfits = k }))
 
-cast-if1 : tie.Need-overflow-cast-if1
+cast-if1 : tie.Need-overflow_cast-x
 cast-if1 c = search rules
 
-cast-if1-2 : tie.Need-overflow-cast-if1-2
+cast-if1-2 : tie.Need-overflow_cast-y
 cast-if1-2 c = search rules
 
-returns : tie.Need-returns
+returns : tie.Need-returns-then-x-y
 returns c =
     let a = c.before.args in
     let p = c.before.requires in
-    let e : ltb a.x a.y ≡ true = sym (signed_test a.x a.y p.0 p.1) ∙ c.if1.true in
+    let e : ltb a.x a.y ≡ true = sym (signed_test a.x a.y p.0 p.1) ∙ c.if-x-y.true in
     omega (arith, ltb-true a.x a.y e)
 
-returns-2 : tie.Need-returns-2
+returns-2 : tie.Need-returns-else-x-y
 returns-2 c =
     let a = c.before.args in
     let p = c.before.requires in
-    let e : ltb a.x a.y ≡ false = sym (signed_test a.x a.y p.0 p.1) ∙ c.if1.false in
+    let e : ltb a.x a.y ≡ false = sym (signed_test a.x a.y p.0 p.1) ∙ c.if-x-y.false in
     omega (arith, ltb-false a.x a.y e)
 
-pub larger-spec : {M : Type 1} → statement M
-larger-spec = tie.close (tie.spec cast-if1 cast-if1-2 returns returns-2)
+pub larger_spec : {M : Type 1} → statement M
+larger_spec = tie.close (tie.spec cast-if1 cast-if1-2 returns returns-2)

@@ -23,20 +23,20 @@ known c =
       next = rw add-one (omega arith);
     }
 
-shl-top : tie.Need-overflow-shl-top
+shl-top : tie.Need-overflow_shl-top
 shl-top c = search rules
 
-shl-result : tie.Need-overflow-shl-result
+shl-result : tie.Need-overflow_shl-result
 shl-result c = search rules
 
-sub-result : tie.Need-overflow-sub-result
+sub-result : tie.Need-overflow_sub-result
 sub-result c = omega (arith, known c)
 
-add-result : tie.Need-overflow-add-result
+add-result : tie.Need-overflow_add-result
 add-result c = record { fits = omega (arith, known c) }
 
 returns : tie.Need-returns
 returns c = omega (arith, known c)
 
-pub between-spec : {M : Type 1} → statement M
-between-spec = tie.close (tie.spec shl-top shl-result sub-result add-result returns)
+pub between_spec : {M : Type 1} → statement M
+between_spec = tie.close (tie.spec shl-top shl-result sub-result add-result returns)

@@ -8,11 +8,11 @@ use Rattle.tips.proofs.is_run_of.Statement.{statement}
 use Rattle.tips.proofs.is_run_of.Tie as tie
 
 -- a set that is not empty is a domain of the largest rack
-domain : (c : tie.Else1) → Domain 64 c.before.args.set
-domain c = record { some = pos_of_ne-zero c.if1.false; below = c.before.ranges.set.fits }
+domain : (c : tie.Else-set-eq0) → Domain 64 c.before.args.set
+domain c = record { some = pos_of_ne-zero c.if-set-eq0.false; below = c.before.ranges.set.fits }
 
-returns : tie.Need-returns
-returns c = rw c.if1.true (sym (run_none (has c.before.args.names)))
+returns : tie.Need-returns-then-set-eq0
+returns c = rw c.if-set-eq0.true (sym (run_none (has c.before.args.names)))
 
 lowest-requires : tie.Need-lowest-requires
 lowest-requires c κs = search rules
@@ -20,16 +20,16 @@ lowest-requires c κs = search rules
 highest-requires : tie.Need-highest-requires
 highest-requires c κs = search rules
 
-between-requires : tie.Need-between-requires
+between-requires : tie.Need-between-span-requires
 between-requires c κs =
     let d = domain c.before.before in
     rw (c.before.lowest.ensures, c.highest.ensures) (low-high (le_refl _) d, high-below (le_refl _) d)
 
-returns-2 : tie.Need-returns-2
+returns-2 : tie.Need-returns
 returns-2 c =
     let b = c.before.before.before in
-    rw (c.between.ensures, c.before.before.lowest.ensures, c.before.highest.ensures)
+    rw (c.between-span.ensures, c.before.before.lowest.ensures, c.before.highest.ensures)
     (run-count (le_refl _) (domain b) b.before.args.names b.before.requires)
 
-pub is-run-of-spec : {M : Type 1} → statement M
-is-run-of-spec = tie.close (tie.spec returns lowest-requires highest-requires between-requires returns-2)
+pub is_run_of_spec : {M : Type 1} → statement M
+is_run_of_spec = tie.close (tie.spec returns lowest-requires highest-requires between-requires returns-2)

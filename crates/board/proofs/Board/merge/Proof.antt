@@ -7,114 +7,114 @@ use borrow.Author.Rules.{rules}
 use Rattle.board.proofs.Board.merge.Statement.{statement}
 use Rattle.board.proofs.Board.merge.Tie as tie
 
-slice-aggregate-lent-sets : tie.Need-slice-aggregate-lent-sets
+slice-aggregate-lent-sets : tie.Need-slice_bounds-lent_sets-end
 slice-aggregate-lent-sets c = search rules
 
-slice-aggregate-lent-quantities : tie.Need-slice-aggregate-lent-quantities
+slice-aggregate-lent-quantities : tie.Need-slice_bounds-lent_quantities-end
 slice-aggregate-lent-quantities c = search rules
 
-slice-aggregate-state-refusal : tie.Need-slice-aggregate-state-refusal
+slice-aggregate-state-refusal : tie.Need-slice_bounds-state_refusal-end
 slice-aggregate-state-refusal c = search rules
 
-slice-aggregate-state-refusal-2 : tie.Need-slice-aggregate-state-refusal-2
+slice-aggregate-state-refusal-2 : tie.Need-slice_bounds-state_refusal-end-2
 slice-aggregate-state-refusal-2 c = search rules
 
-state-refusal-requires : tie.Need-state-refusal-requires
+state-refusal-requires : tie.Need-state_refusal-first-requires
 state-refusal-requires c κs = search rules
 
-state-refusal-requires-2 : tie.Need-state-refusal-requires-2
+state-refusal-requires-2 : tie.Need-state_refusal-second-requires
 state-refusal-requires-2 c κs = search rules
 
-first-of-requires : tie.Need-first-of-requires
+first-of-requires : tie.Need-first_of-requires
 first-of-requires c κs = search rules
 
 -- the arrays of the first board, and those of the second
-abbrev begun : tie.After-other-quantities2 → tie.Start
+abbrev begun : tie.After-other_quantities-2-1 → tie.Start
 begun a = a.before.before.before.before.before.before
 
-abbrev other-lent : tie.After-quantities2 → tie.After-other-quantities2
+abbrev other-lent : tie.After-quantities-2-1 → tie.After-other_quantities-2-1
 other-lent a = a.before.before
 
-full : (a : tie.After-quantities2) → Full (begun (other-lent a)).args.self
+full : (a : tie.After-quantities-2-1) → Full (begun (other-lent a)).args.self
 full a =
     record { sets-full = sym (slice-aggregate-state-refusal a.before); quantities-full = sym (slice-aggregate-state-refusal-2 a) }
 
-other : (a : tie.After-other-quantities2) → Full (begun a).args.other
+other : (a : tie.After-other_quantities-2-1) → Full (begun a).args.other
 other a =
     record { sets-full = sym (slice-aggregate-lent-sets a.before); quantities-full = sym (slice-aggregate-lent-quantities a) }
 
-slice-aggregate-merge : tie.Need-slice-aggregate-merge
+slice-aggregate-merge : tie.Need-slice_bounds-merge-end
 slice-aggregate-merge c = slice-aggregate-state-refusal c.before.before.before.before.before
 
-slice-aggregate-merge-2 : tie.Need-slice-aggregate-merge-2
+slice-aggregate-merge-2 : tie.Need-slice_bounds-merge-end-2
 slice-aggregate-merge-2 c = slice-aggregate-state-refusal-2 c.before.before.before.before.before
 
 -- what is known after both states
-abbrev arrays : tie.After-first-of → tie.After-quantities2
+abbrev arrays : tie.After-first_of → tie.After-quantities-2-1
 arrays of = of.before.before.before
 
-all : (of : tie.After-first-of) → Full (begun (other-lent (arrays of))).args.self
+all : (of : tie.After-first_of) → Full (begun (other-lent (arrays of))).args.self
 all of = full (arrays of)
 
-first-lines : (of : tie.After-first-of) → let a = (begun (other-lent (arrays of))).args.self in
-    Given of.first_of.result a.rack a.count a.quantities a.sets
+first-lines : (of : tie.After-first_of) → let a = (begun (other-lent (arrays of))).args.self in
+    Given of.first_of.result a.rack a.count a.quantities-1 a.sets-1
 first-lines of =
     given-first _ _ (all of) (other (other-lent (arrays of)))
-    of.before.before.state-refusal.ensures of.before.state-refusal2.ensures of.first_of.ensures
+    of.before.before.state_refusal-first.ensures of.before.state_refusal-second.ensures of.first_of.ensures
 
-second-lines : (of : tie.After-first-of) → let b = (begun (other-lent (arrays of))).args.other in
-    Given of.first_of.result b.rack b.count b.quantities b.sets
+second-lines : (of : tie.After-first_of) → let b = (begun (other-lent (arrays of))).args.other in
+    Given of.first_of.result b.rack b.count b.quantities-1 b.sets-1
 second-lines of =
     given_second _ _ (all of) (other (other-lent (arrays of)))
-    of.before.before.state-refusal.ensures of.before.state-refusal2.ensures of.first_of.ensures
+    of.before.before.state_refusal-first.ensures of.before.state_refusal-second.ensures of.first_of.ensures
 
-merge-requires : tie.Need-merge-requires
+merge-requires : tie.Need-merge-refusal-requires
 merge-requires c κs =
     let of = c.before.before in
     (first-lines of, (second-lines of, ((all of).sets-full, (all of).quantities-full)))
 
-no-sets-requires : tie.Need-no-sets-requires
+no-sets-requires : tie.Need-no_sets-requires
 no-sets-requires c κs = search rules
 
-no-quantities-requires : tie.Need-no-quantities-requires
+no-quantities-requires : tie.Need-no_quantities-requires
 no-quantities-requires c κs = search rules
 
-returns : tie.Need-returns
+returns : tie.Need-returns-then-refusal-ne0
 returns c =
     let refused = c.before.before in
     let done = refused.before.before.before.before in
     let of = done.before.before.before in
     let lent = other-lent (arrays of) in
     let a = (begun lent).args in
-    let e = of.before.before.state-refusal.ensures in
-    let f = of.before.state-refusal2.ensures in
+    let e = of.before.before.state_refusal-first.ensures in
+    let f = of.before.state_refusal-second.ensures in
     let g = of.first_of.ensures in
-    let n = refused.if1.true in
-    let h = done.merge.ensures.0 in (
-      merge_refused _ _ (all of) (other lent) e f g h n (c.before.no-sets.ensures ∙ no-sets) (c.no-quantities.ensures ∙ no-quantities),
+    let n = refused.if-refusal-ne0.true in
+    let h = done.merge-refusal.ensures.0 in (
+      merge_refused _ _ (all of) (other lent) e f g h n (c.before.no_sets.ensures ∙ no-sets) (c.no_quantities.ensures ∙ no-quantities),
       refused-rule a.self a.other (all of) (other lent) e f g h n _,
     )
 
-add-count : tie.Need-overflow-add-count
+add-count : tie.Need-overflow_add-count
 add-count c =
     let done = c.before.before.before.before.before in
     let of = done.before.before.before in
     omega (
       arith,
-      few _ _ (all of) (other (other-lent (arrays of))) of.before.before.state-refusal.ensures
-          of.before.state-refusal2.ensures of.first_of.ensures done.merge.ensures.0 c.before.if1.false,
+      few _ _ (all of) (other (other-lent (arrays of))) of.before.before.state_refusal-first.ensures
+          of.before.state_refusal-second.ensures of.first_of.ensures done.merge-refusal.ensures.0 c.before.if-refusal-ne0.false,
     )
 
-returns-2 : tie.Need-returns-2
+returns-2 : tie.Need-returns
 returns-2 c =
     let done = c.before.before.before.before.before in
     let of = done.before.before.before in
-    let (h, (sets, quantities)) = done.merge.ensures in
-    merge_accepted _ _ (all of) (other (other-lent (arrays of))) of.before.before.state-refusal.ensures
-    of.before.state-refusal2.ensures of.first_of.ensures h c.before.if1.false sets quantities
+    let (h, (sets, quantities)) = done.merge-refusal.ensures in
+    merge_accepted _ _ (all of) (other (other-lent (arrays of))) of.before.before.state_refusal-first.ensures
+    of.before.state_refusal-second.ensures of.first_of.ensures h c.before.if-refusal-ne0.false sets quantities
 
-pub merge-spec : {M : Type 1} → statement M
-merge-spec =
+pub merge_spec : {M : Type 1} → statement M
+merge_spec =
     tie.close
     (tie.spec
     slice-aggregate-lent-sets

@@ -13,20 +13,20 @@ use Rattle.checking.proofs.Claim.{placed, placed-all, placed-pairs, few_on, on_a
 use Rattle.checking.proofs.claimed.claim_refusal.Statement.{statement}
 use Rattle.checking.proofs.claimed.claim_refusal.Tie as tie
 
-abbrev invariant-loop : tie.invariant-loop
+abbrev invariant-loop : tie.invariant-loop-i
 invariant-loop pairs lines quantities plan claim on₀ shared₀ i₀ on shared i =
     (i ≤ length lines) × (is_valid lines plan ≡ is_valid (drop i lines) (drop i plan))
     × (on ≡ on_tips (placed quantities plan i)) × (shared ≡ pairs_of (placed quantities plan i))
 
-abbrev decreases-loop : tie.decreases-loop
+abbrev decreases-loop : tie.decreases-loop-i
 decreases-loop pairs lines quantities plan claim on₀ shared₀ i₀ on shared i = length lines - i
 
 -- the call's start, from the loop
-abbrev start : tie.At-loop invariant-loop decreases-loop → tie.Start invariant-loop decreases-loop
+abbrev start : tie.At-loop-i invariant-loop decreases-loop → tie.Start invariant-loop decreases-loop
 start c = c.before.before.before.before.before.before
 
 -- what is known in the loop of line i: its quantity and its tip
-module _ (c : tie.In-loop invariant-loop decreases-loop) where
+module _ (c : tie.In-loop-i invariant-loop decreases-loop) where
   abbrev s : tie.Start invariant-loop decreases-loop
   s = start c.before
 
@@ -57,7 +57,7 @@ module _ (c : tie.In-loop invariant-loop decreases-loop) where
 
   -- the line is on a foreign tip
   refused : has (get_or lines i 0) tip ≡ false → refuse 19 ≡ claim_refusal qs lines plan s.args.claim
-  refused = foreign qs lines plan s.args.claim s.pre.1 i c.before.loop.invariant.1 c.loop-test.true
+  refused = foreign qs lines plan s.args.claim s.requires.1 i c.before.loop.invariant.1 c.loop-test.true
 
   module _ (l : tip < most_tips) where
     -- the placements on the tip so far
@@ -65,7 +65,7 @@ module _ (c : tie.In-loop invariant-loop decreases-loop) where
     held = ap (λ on. get_or on tip 0) c.before.loop.invariant.2 ∙ on_at (placed qs plan i) tip l
 
     held-few : get_or c.before.loop.on tip 0 + get_or qs i 0 ≤ most_placements
-    held-few = rw held (few_on qs plan same s.pre.2 i below)
+    held-few = rw held (few_on qs plan same s.requires.2 i below)
 
     -- the pairs grow by those of the tip
     pairs-grow : pairs_of (placed qs plan (i + 1)) + choose2 (get_or c.before.loop.on tip 0)
@@ -75,144 +75,144 @@ module _ (c : tie.In-loop invariant-loop decreases-loop) where
       ap choose2 held,
       ap (λ p. choose2 (p + get_or qs i 0)) held,
       c.before.loop.invariant.3,
-      pairs-more qs plan same s.pre.2 i below,
+      pairs-more qs plan same s.requires.2 i below,
     )
 
     on-grow : set c.before.loop.on tip (get_or c.before.loop.on tip 0 + get_or qs i 0) ≡ on_tips (placed qs plan (i + 1))
     on-grow =
         ap (λ on. set on tip (get_or on tip 0 + get_or qs i 0)) c.before.loop.invariant.2
         ∙ ap (λ p. set (on_tips (placed qs plan i)) tip (p + get_or qs i 0)) (on_at (placed qs plan i) tip l)
-        ∙ on_more qs plan same s.pre.2 i below l
+        ∙ on_more qs plan same s.requires.2 i below l
 
 -- the difference does not go below zero, the sum is that of the placements, and it is few
-grown : (c : tie.After-pairs-among2 invariant-loop decreases-loop)
+grown : (c : tie.After-pairs_among-in-loop-i invariant-loop decreases-loop)
     → let b = c.before.before.before.before.before.before.before.before in
-    (c.pairs-among2.result ≤ c.before.pairs-among.result)
-    × (b.before.loop.shared + (c.before.pairs-among.result - c.pairs-among2.result) ≡ pairs_of (placed (qs b) (plan b) (i b + 1)))
+    (c.pairs_among-in-loop-i.result ≤ c.before.pairs_among.result)
+    × (b.before.loop-i.shared + (c.before.pairs_among.result - c.pairs_among-in-loop-i.result) ≡ pairs_of (placed (qs b) (plan b) (i b + 1)))
     × (pairs_of (placed (qs b) (plan b) (i b + 1)) ≤ most_pairs)
 grown c =
     let e = c.before.before.before.before.before.before in
     let b = e.before.before in
-    let p = get_or b.before.loop.on (tip b) 0 in
-    let more = pairs-grow b e.if1.false in
+    let p = get_or b.before.loop-i.on (tip b) 0 in
+    let more = pairs-grow b e.if-tip-ge-MOST_TIPS.false in
     let mono : choose2 p ≤ choose2 (p + get_or (qs b) (i b) 0) = choose2_mono (omega arith) in
-    let first = c.before.pairs-among.ensures in
-    let second = c.pairs-among2.ensures in
+    let first = c.before.pairs_among.ensures in
+    let second = c.pairs_among-in-loop-i.ensures in
     (omega arith, omega arith, placed-pairs (qs b) (plan b) (same b) (s b).requires.2 (i b + 1))
 
-none-on-requires : tie.Need-none-on-requires invariant-loop decreases-loop
+none-on-requires : tie.Need-none_on-on-requires invariant-loop decreases-loop
 none-on-requires c κs = search rules
 
-loop-holds : tie.Need-loop-init invariant-loop decreases-loop
+loop-holds : tie.Need-loop-i-init invariant-loop decreases-loop
 unfolding repeated pairs_of
-loop-holds c = (search rules, refl, c.none-on.ensures, refl)
+loop-holds c = (search rules, refl, c.none_on-on.ensures, refl)
 
-shared-slice-read-tip : tie.Need-shared-slice-read-tip invariant-loop decreases-loop
+shared-slice-read-tip : tie.Need-bounds-plan-i invariant-loop decreases-loop
 shared-slice-read-tip c = below c.before
 
-cast-tip : tie.Need-overflow-cast-tip invariant-loop decreases-loop
-cast-tip c = record { fits = omega (arith, c.shared-slice-known5.given (i c.before)) }
+cast-tip : tie.Need-overflow_cast-tip invariant-loop decreases-loop
+cast-tip c = record { fits = omega (arith, c.shared_slice_known-in-loop-i-1.given (i c.before)) }
 
 refuse-requires : tie.Need-refuse-requires invariant-loop decreases-loop
 refuse-requires c κs = search rules
 
-returns : tie.Need-returns invariant-loop decreases-loop
+returns : tie.Need-returns-then-tip-ge-MOST_TIPS invariant-loop decreases-loop
 returns c =
     let b = c.before.before.before in
-    c.refuse.ensures ∙ refused b (false_not _ (λ h. omega (arith, line-below b h, c.before.if1.true)))
+    c.refuse.ensures ∙ refused b (false_not _ (λ h. omega (arith, line-below b h, c.before.if-tip-ge-MOST_TIPS.true)))
 
-mul-has-tip : tie.Need-overflow-mul-has-tip invariant-loop decreases-loop
+mul-has-tip : tie.Need-offset_bounds-lines-i invariant-loop decreases-loop
 mul-has-tip c = search rules
 
-shared-slice-read-has-tip : tie.Need-shared-slice-read-has-tip invariant-loop decreases-loop
+shared-slice-read-has-tip : tie.Need-bounds-lines-i invariant-loop decreases-loop
 shared-slice-read-has-tip c = search rules
 
-has-tip-requires : tie.Need-has-tip-requires invariant-loop decreases-loop
+has-tip-requires : tie.Need-has_tip-requires invariant-loop decreases-loop
 has-tip-requires c κs = search rules
 
-refuse-requires-2 : tie.Need-refuse-requires-2 invariant-loop decreases-loop
+refuse-requires-2 : tie.Need-refuse-requires-then-not-has_tip invariant-loop decreases-loop
 refuse-requires-2 c κs = search rules
 
-returns-2 : tie.Need-returns-2 invariant-loop decreases-loop
+returns-2 : tie.Need-returns-then-not-has_tip invariant-loop decreases-loop
 returns-2 c =
     let b = c.before.before.before.before.before.before in
-    c.refuse2.ensures ∙ refused b (fails c.before.before.has-tip.ensures c.before.if2.true)
+    c.refuse-then-not-has_tip.ensures ∙ refused b (fails c.before.before.has_tip.ensures c.before.if-not-has_tip.true-raw)
 
-mul-before : tie.Need-overflow-mul-before invariant-loop decreases-loop
+mul-before : tie.Need-offset_bounds-on-tip invariant-loop decreases-loop
 mul-before c = search rules
 
-array-read-before : tie.Need-array-read-before invariant-loop decreases-loop
+array-read-before : tie.Need-bounds-on-tip invariant-loop decreases-loop
 array-read-before c = search rules
 
-shared-slice-read-after : tie.Need-shared-slice-read-after invariant-loop decreases-loop
+shared-slice-read-after : tie.Need-bounds-quantities-i invariant-loop decreases-loop
 shared-slice-read-after c = search rules
 
-cast-after : tie.Need-overflow-cast-after invariant-loop decreases-loop
-cast-after c = record { fits = omega (arith, c.shared-slice-known7.given (i c.before.before.before.before.before.before)) }
+cast-after : tie.Need-overflow_cast-after invariant-loop decreases-loop
+cast-after c = record { fits = omega (arith, c.shared_slice_known-in-loop-i-3-1.given (i c.before.before.before.before.before.before)) }
 
-add-after : tie.Need-overflow-add-after invariant-loop decreases-loop
+add-after : tie.Need-overflow_add-after invariant-loop decreases-loop
 add-after c =
     let e = c.before.before.before.before in
-    record { fits = omega (arith, held-few e.before.before e.if1.false) }
+    record { fits = omega (arith, held-few e.before.before e.if-tip-ge-MOST_TIPS.false) }
 
-pairs-among-requires : tie.Need-pairs-among-requires invariant-loop decreases-loop
+pairs-among-requires : tie.Need-pairs_among-requires invariant-loop decreases-loop
 pairs-among-requires c κs =
     let e = c.before.before.before.before in
-    ((s e.before.before).pre.3, held-few e.before.before e.if1.false)
+    ((s e.before.before).requires.3, held-few e.before.before e.if-tip-ge-MOST_TIPS.false)
 
-pairs-among-requires-2 : tie.Need-pairs-among-requires-2 invariant-loop decreases-loop
+pairs-among-requires-2 : tie.Need-pairs_among-requires-in-loop-i invariant-loop decreases-loop
 pairs-among-requires-2 c κs =
     let e = c.before.before.before.before.before in
-    ((s e.before.before).pre.3, omega (arith, held-few e.before.before e.if1.false))
+    ((s e.before.before).requires.3, omega (arith, held-few e.before.before e.if-tip-ge-MOST_TIPS.false))
 
-sub-shared : tie.Need-overflow-sub-shared invariant-loop decreases-loop
+sub-shared : tie.Need-overflow_sub-shared invariant-loop decreases-loop
 sub-shared c = (grown c).0
 
-add-shared : tie.Need-overflow-add-shared invariant-loop decreases-loop
+add-shared : tie.Need-overflow_add-shared invariant-loop decreases-loop
 add-shared c = record { fits = omega (arith, grown c) }
 
-mul-on : tie.Need-overflow-mul-on invariant-loop decreases-loop
+mul-on : tie.Need-offset_bounds-on-tip-in-loop-i invariant-loop decreases-loop
 mul-on c = search rules
 
-array-write-on : tie.Need-array-write-on invariant-loop decreases-loop
+array-write-on : tie.Need-bounds-on-tip-in-loop-i invariant-loop decreases-loop
 array-write-on c = search rules
 
-add-i : tie.Need-overflow-add-i invariant-loop decreases-loop
+add-i : tie.Need-overflow_add-i invariant-loop decreases-loop
 add-i c = search rules
 
-loop-less : tie.Need-loop-smaller invariant-loop decreases-loop
+loop-less : tie.Need-loop-i-smaller invariant-loop decreases-loop
 loop-less c = search rules
 
-loop-again : tie.Need-loop-preserved invariant-loop decreases-loop
+loop-again : tie.Need-loop-i-preserved invariant-loop decreases-loop
 loop-again c =
     let f = c.before.before.before in
     let e = f.before.before.before in
     let b = e.before.before in
-    let l = e.if1.false in (
+    let l = e.if-tip-ge-MOST_TIPS.false in (
       search rules,
-      own_more (qs b) (lines b) (plan b) (s b).args.claim (s b).requires.1 (i b) b.before.loop.invariant.1 b.loop-test.true
-          (passes f.before.has-tip.ensures f.if2.false),
+      own_more (qs b) (lines b) (plan b) (s b).args.claim (s b).requires.1 (i b) b.before.loop-i.invariant.1 b.loop-i-test.true
+          (passes f.before.has_tip.ensures f.if-not-has_tip.false-raw),
       on-grow b l,
       (grown c).1,
     )
 
-refuse-when-requires : tie.Need-refuse-when-requires invariant-loop decreases-loop
+refuse-when-requires : tie.Need-refuse_when-requires invariant-loop decreases-loop
 refuse-when-requires c κs = search rules
 
-returns-3 : tie.Need-returns-3 invariant-loop decreases-loop
+returns-3 : tie.Need-returns invariant-loop decreases-loop
 returns-3 c =
     let l = c.before.before in
     let s = start l in
     let qs = s.args.quantities.now in
     let plan = s.args.plan.now in
-    let i = l.loop.i in
-    let all = placed-all qs plan (omega arith) s.pre.2 i (omega arith) in
-    let e : l.loop.shared ≡ pairs_of (repeated qs plan) = l.loop.invariant.3 ∙ ap pairs_of all in
-    c.refuse-when.ensures
-    ∙ rw e (own_all qs s.args.lines.now plan s.args.claim s.pre.1 i l.loop.invariant.1 c.before.loop-test.false)
+    let i = l.loop-i.i in
+    let all = placed-all qs plan (omega arith) s.requires.2 i (omega arith) in
+    let e : l.loop-i.shared ≡ pairs_of (repeated qs plan) = l.loop-i.invariant.3 ∙ ap pairs_of all in
+    c.refuse_when.ensures
+    ∙ rw e (own_all qs s.args.lines.now plan s.args.claim s.requires.1 i l.loop-i.invariant.1 c.before.loop-i-test.false)
 
-pub claim-refusal-spec : {M : Type 1} → statement M
-claim-refusal-spec =
+pub claim_refusal_spec : {M : Type 1} → statement M
+claim_refusal_spec =
     tie.close
     (tie.spec
     invariant-loop

@@ -9,5 +9,5 @@ returns : tie.Need-returns
 unfolding on_tips list_of uses count
 returns c = refl
 
-pub none-on-spec : {M : Type 1} → statement M
-none-on-spec = tie.close (tie.spec returns)
+pub none_on_spec : {M : Type 1} → statement M
+none_on_spec = tie.close (tie.spec returns)

@@ -8,84 +8,84 @@ use Rattle.checking.proofs.Bounds.{every_stop, every_more}
 use Rattle.checking.proofs.tabled.table_fits.Statement.{statement}
 use Rattle.checking.proofs.tabled.table_fits.Tie as tie
 
-abbrev invariant-loop : tie.invariant-loop
+abbrev invariant-loop : tie.invariant-loop-c
 invariant-loop names m claim pairs sums table c₀ c = (c ≤ m) × (every (λ c. not (has names c) || tip_by m sums table c) c ≡ true)
 
-abbrev decreases-loop : tie.decreases-loop
+abbrev decreases-loop : tie.decreases-loop-c
 decreases-loop names m claim pairs sums table c₀ c = m - c
 
 -- the entry for the rack, from the loop, and the call's start from there; and the test of each tip
-abbrev entered : tie.At-loop invariant-loop decreases-loop → tie.After-entry-at invariant-loop decreases-loop
+abbrev entered : tie.At-loop-c invariant-loop decreases-loop → tie.After-entry_at invariant-loop decreases-loop
 entered c = c.before.before
 
-abbrev start : tie.After-entry-at invariant-loop decreases-loop → tie.Start invariant-loop decreases-loop
+abbrev start : tie.After-entry_at invariant-loop decreases-loop → tie.Start invariant-loop decreases-loop
 start c = c.before.before.before.before
 
-abbrev test : tie.At-loop invariant-loop decreases-loop → ℕ → Bool
+abbrev test : tie.At-loop-c invariant-loop decreases-loop → ℕ → Bool
 test c =
     let args = (start (entered c)).args in
     λ c. not (has args.names c) || tip_by args.m args.sums.now args.table.now c
 
 -- the entry is the claim
-claimed : (c : tie.At-loop invariant-loop decreases-loop)
+claimed : (c : tie.At-loop-c invariant-loop decreases-loop)
     → let s = start (entered c) in
     eqb (entry s.args.m s.args.table.now 0 s.args.m) s.args.claim ≡ true
 claimed c =
     let call = (entered c).entry_at in
-    rw (← call.ensures.0) (eq-eqb call.result (start (entered c)).args.claim c.before.if1.false)
+    rw (← call.ensures.0) (eq-eqb call.result (start (entered c)).args.claim c.before.if-entry_at-claim.false)
 
-entry-at-requires : tie.Need-entry-at-requires invariant-loop decreases-loop
+entry-at-requires : tie.Need-entry_at-requires invariant-loop decreases-loop
 entry-at-requires c κs = search rules
 
-returns : tie.Need-returns invariant-loop decreases-loop
+returns : tie.Need-returns-then-entry_at-claim invariant-loop decreases-loop
 returns c =
     let call = c.before.entry_at in
-    rw (← call.ensures.0, ne_eqb call.result (start c.before).args.claim c.if1.true)
+    rw (← call.ensures.0, ne_eqb call.result (start c.before).args.claim c.if-entry_at-claim.true)
 
-loop-holds : tie.Need-loop-init invariant-loop decreases-loop
+loop-holds : tie.Need-loop-c-init invariant-loop decreases-loop
 unfolding every
 loop-holds c = (search rules, refl)
 
-has-tip-requires : tie.Need-has-tip-requires invariant-loop decreases-loop
+has-tip-requires : tie.Need-has_tip-requires invariant-loop decreases-loop
 has-tip-requires c κs = search rules
 
-tip-bounded-requires : tie.Need-tip-bounded-requires invariant-loop decreases-loop
+tip-bounded-requires : tie.Need-tip_bounded-requires invariant-loop decreases-loop
 tip-bounded-requires c κs = search rules
 
-returns-2 : tie.Need-returns-2 invariant-loop decreases-loop
+returns-2 : tie.Need-returns-then-not-tip_bounded invariant-loop decreases-loop
 unfolding bounds_by
 returns-2 c =
     let named = c.before.before in
     let l = named.before.before.before in
     let m = (start (entered l)).args.m in
-    let one : test l l.loop.c ≡ false =
-    rw (sym named.before.has-tip.ensures ∙ named.if2.true, fails c.before.tip-bounded.ensures c.if3.true) in
-    rw (claimed l) (sym (every_stop (test l) m l.loop.c (omega arith) one))
+    let one : test l l.loop-c.c ≡ false =
+    rw (sym named.before.has_tip.ensures ∙ named.if-has_tip.true, fails c.before.tip_bounded.ensures c.if-not-tip_bounded.true-raw) in
+    rw (claimed l) (sym (every_stop (test l) m l.loop-c.c (omega arith) one))
 
-add-c : tie.Need-overflow-add-c invariant-loop decreases-loop
+add-c : tie.Need-overflow_add-c invariant-loop decreases-loop
 add-c c = search rules
 
-loop-less : tie.Need-loop-smaller invariant-loop decreases-loop
+loop-less : tie.Need-loop-c-smaller invariant-loop decreases-loop
 loop-less c = search rules
 
-loop-again : tie.Need-loop-preserved invariant-loop decreases-loop
+loop-again : tie.Need-loop-c-preserved invariant-loop decreases-loop
 loop-again c =
     let l = c.before.before.before in
-    let one : test l l.loop.c ≡ true = ⊎_elim
-    (λ w. rw (sym c.before.has-tip.ensures ∙ w.0.taken, passes w.1.ensures w.2.left))
-    (λ w. rw (sym c.before.has-tip.ensures ∙ w.left))
-    c.if2.branch in
-    (search rules, every_more (test l) l.loop.c l.loop.invariant.1 one)
+    let one : test l l.loop-c.c ≡ true = ⊎_elim
+    (λ w. rw (sym c.before.has_tip.ensures ∙ w.0.taken, passes w.1.ensures w.2.left))
+    (λ w. rw (sym c.before.has_tip.ensures ∙ w.left))
+    c.if-has_tip.branch in
+    (search rules, every_more (test l) l.loop-c.c l.loop-c.invariant.1 one)
 
-returns-3 : tie.Need-returns-3 invariant-loop decreases-loop
+returns-3 : tie.Need-returns invariant-loop decreases-loop
 unfolding bounds_by
 returns-3 c =
     let l = c.before in
-    let e : l.loop.c ≡ (start (entered l)).args.m = omega arith in
-    rw (claimed l) (sym (rw e at l.loop.invariant.1))
+    let e : l.loop-c.c ≡ (start (entered l)).args.m = omega arith in
+    rw (claimed l) (sym (rw e at l.loop-c.invariant.1))
 
-pub table-fits-spec : {M : Type 1} → statement M
-table-fits-spec =
+pub table_fits_spec : {M : Type 1} → statement M
+table_fits_spec =
     tie.close
     (tie.spec
     invariant-loop

@@ -5,5 +5,5 @@ use Rattle.counts.proofs.adders.add_three.Tie as tie
 returns : tie.Need-returns
 returns c = record { sum = full_adder c.args.a c.args.b c.args.c }
 
-pub add-three-spec : {M : Type 1} → statement M
-add-three-spec = tie.close (tie.spec returns)
+pub add_three_spec : {M : Type 1} → statement M
+add_three_spec = tie.close (tie.spec returns)

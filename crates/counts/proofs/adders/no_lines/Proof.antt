@@ -6,5 +6,5 @@ use Rattle.counts.proofs.adders.no_lines.Tie as tie
 returns : tie.Need-returns
 returns c = record { size = refl; none = occ-zeros 32 }
 
-pub no-lines-spec : {M : Type 1} → statement M
-no-lines-spec = tie.close (tie.spec returns)
+pub no_lines_spec : {M : Type 1} → statement M
+no_lines_spec = tie.close (tie.spec returns)

@@ -6,5 +6,5 @@ use Rattle.counts.proofs.adders.no_sums.Tie as tie
 returns : tie.Need-returns
 returns c = record { size = refl; none = both-zeros 24 }
 
-pub no-sums-spec : {M : Type 1} → statement M
-no-sums-spec = tie.close (tie.spec returns)
+pub no_sums_spec : {M : Type 1} → statement M
+no_sums_spec = tie.close (tie.spec returns)

@@ -6,56 +6,56 @@ use Rattle.counts.proofs.Borrow.{Lowered, lowered_none, lowered_more, lowered_al
 use Rattle.counts.proofs.difference.subtract.Statement.{statement}
 use Rattle.counts.proofs.difference.subtract.Tie as tie
 
-abbrev invariant-loop : tie.invariant-loop
+abbrev invariant-loop : tie.invariant-loop-j
 invariant-loop gone planes₀ borrow₀ j₀ planes borrow j = Lowered gone planes₀ j borrow planes
 
-abbrev decreases-loop : tie.decreases-loop
+abbrev decreases-loop : tie.decreases-loop-j
 decreases-loop gone planes₀ borrow₀ j₀ planes borrow j = plane_count - j
 
-abbrev called : tie.At-loop invariant-loop decreases-loop → tie.Start invariant-loop decreases-loop
+abbrev called : tie.At-loop-j invariant-loop decreases-loop → tie.Start invariant-loop decreases-loop
 called c = c.before
 
-loop-holds : tie.Need-loop-init invariant-loop decreases-loop
+loop-holds : tie.Need-loop-j-init invariant-loop decreases-loop
 loop-holds c = lowered_none c.requires
 
-mul-less : tie.Need-overflow-mul-less invariant-loop decreases-loop
+mul-less : tie.Need-offset_bounds-gone-j invariant-loop decreases-loop
 mul-less c = search rules
 
-shared-slice-read-less : tie.Need-shared-slice-read-smaller invariant-loop decreases-loop
+shared-slice-read-less : tie.Need-bounds-gone-j invariant-loop decreases-loop
 shared-slice-read-less c = search rules
 
-mul-either : tie.Need-overflow-mul-either invariant-loop decreases-loop
+mul-either : tie.Need-offset_bounds-planes-j invariant-loop decreases-loop
 mul-either c = search rules
 
-slice-read-either : tie.Need-slice-read-either invariant-loop decreases-loop
+slice-read-either : tie.Need-bounds-planes-j invariant-loop decreases-loop
 slice-read-either c = search rules
 
-mul-planes : tie.Need-overflow-mul-planes invariant-loop decreases-loop
+mul-planes : tie.Need-offset_bounds-planes-j-in-loop-j invariant-loop decreases-loop
 mul-planes c = search rules
 
-slice-write-planes : tie.Need-slice-write-planes invariant-loop decreases-loop
+slice-write-planes : tie.Need-bounds-planes-j-in-loop-j invariant-loop decreases-loop
 slice-write-planes c = search rules
 
-add-j : tie.Need-overflow-add-j invariant-loop decreases-loop
+add-j : tie.Need-overflow_add-j invariant-loop decreases-loop
 add-j c = search rules
 
-loop-less : tie.Need-loop-smaller invariant-loop decreases-loop
+loop-less : tie.Need-loop-j-smaller invariant-loop decreases-loop
 loop-less c = search rules
 
-loop-again : tie.Need-loop-preserved invariant-loop decreases-loop
+loop-again : tie.Need-loop-j-preserved invariant-loop decreases-loop
 loop-again c =
     let inside = c.before.before in
     let l = inside.before in
-    lowered_more (called l).requires l.loop.invariant inside.loop-test.true (simp length-set l.loop.invariant.size)
+    lowered_more (called l).requires l.loop-j.invariant inside.loop-j-test.true (simp length-set l.loop-j.invariant.size)
 
-same_length : tie.Need-same-length invariant-loop decreases-loop
+same_length : tie.Need-shape_of-planes invariant-loop decreases-loop
 same_length c = search rules
 
 returns : tie.Need-returns invariant-loop decreases-loop
-returns c = lowered_all (called c.before).pre c.before.loop.invariant c.loop-test.false
+returns c = lowered_all (called c.before).requires c.before.loop-j.invariant c.loop-j-test.false
 
-pub subtract-spec : {M : Type 1} → statement M
-subtract-spec =
+pub subtract_spec : {M : Type 1} → statement M
+subtract_spec =
     tie.close
     (tie.spec
     invariant-loop

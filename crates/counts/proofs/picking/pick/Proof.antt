@@ -21,16 +21,16 @@ times-is s zero h = omega arith
 times-is s (suc zero) h = omega arith
 times-is s (suc (suc d)) h = absurd (omega arith)
 
-cast-digit : tie.Need-overflow-cast-digit
+cast-digit : tie.Need-overflow_cast-digit
 cast-digit c = search rules
 
-shr-digit : tie.Need-overflow-shr-digit
+shr-digit : tie.Need-overflow_shr-digit
 shr-digit c = search rules
 
-cast-digit-2 : tie.Need-overflow-cast-digit-2
+cast-digit-2 : tie.Need-overflow_cast-digit-2
 cast-digit-2 c = search rules
 
-mul-result : tie.Need-overflow-mul-result
+mul-result : tie.Need-overflow_mul-result
 mul-result c = let a = c.args in omega (arith, times-le a.set (a.quantity / 2 ^ a.j % 2) (omega arith))
 
 returns : tie.Need-returns

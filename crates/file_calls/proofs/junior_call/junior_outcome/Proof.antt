@@ -4,25 +4,25 @@ use borrow.Author.Rules.{rules}
 use Rattle.file_calls.proofs.junior_call.junior_outcome.Statement.{statement}
 use Rattle.file_calls.proofs.junior_call.junior_outcome.Tie as tie
 
-no-sets-requires : tie.Need-no-sets-requires
+no-sets-requires : tie.Need-no_sets-sets-requires
 no-sets-requires c κs = search rules
 
-no-quantities-requires : tie.Need-no-quantities-requires
+no-quantities-requires : tie.Need-no_quantities-quantities-requires
 no-quantities-requires c κs = search rules
 
-slice-aggregate-read-lines : tie.Need-slice-aggregate-read-lines
+slice-aggregate-read-lines : tie.Need-slice_bounds-read_lines-end
 slice-aggregate-read-lines c = search rules
 
-slice-aggregate-read-lines-2 : tie.Need-slice-aggregate-read-lines-2
+slice-aggregate-read-lines-2 : tie.Need-slice_bounds-read_lines-end-2
 slice-aggregate-read-lines-2 c = search rules
 
-read-lines-requires : tie.Need-read-lines-requires
+read-lines-requires : tie.Need-read_lines-read-requires
 read-lines-requires c κs = search rules
 
-slice-aggregate-junior : tie.Need-slice-aggregate-junior
+slice-aggregate-junior : tie.Need-slice_bounds-junior-end
 slice-aggregate-junior c = search rules
 
-slice-aggregate-junior-2 : tie.Need-slice-aggregate-junior-2
+slice-aggregate-junior-2 : tie.Need-slice_bounds-junior-end-2
 slice-aggregate-junior-2 c = search rules
 
 junior-requires : tie.Need-junior-requires
@@ -31,19 +31,19 @@ junior-requires c κs = search rules
 told-requires : tie.Need-told-requires
 told-requires c κs = search rules
 
-same_length : tie.Need-same-length
+same_length : tie.Need-shape_of-plan
 same_length c = search rules
 
 returns : tie.Need-returns
 returns c =
     let laid = c.before.before.before in
     let read = laid.before.before.before.before.before.before in
-    let (e, (lines, (_, given))) = read.read-lines.ensures in
+    let (e, (lines, (_, given))) = read.read_lines-read.ensures in
     let (answer, (plan, _)) = laid.junior.ensures in
     rw c.told.ensures (junior-in _ e (λ z. same_lines (lines z)) given.good _ answer plan)
 
-pub junior-outcome-spec : {M : Type 1} → statement M
-junior-outcome-spec =
+pub junior_outcome_spec : {M : Type 1} → statement M
+junior_outcome_spec =
     tie.close
     (tie.spec
     no-sets-requires

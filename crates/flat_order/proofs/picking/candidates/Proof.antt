@@ -3,13 +3,13 @@ use borrow.Author.Rules.{rules}
 use Rattle.flat_order.proofs.picking.candidates.Statement.{statement}
 use Rattle.flat_order.proofs.picking.candidates.Tie as tie
 
-add_row : tie.Need-overflow-add-row
+add_row : tie.Need-overflow_add-v
 add_row c = search rules
 
-row-requires : tie.Need-row-requires
+row-requires : tie.Need-row-due-requires
 row-requires c κs = search rules
 
-row-requires-2 : tie.Need-row-requires-2
+row-requires-2 : tie.Need-row-past-requires
 row-requires-2 c κs = search rules
 
 remove-requires : tie.Need-remove-requires
@@ -23,10 +23,10 @@ unfolding candidates_at
 returns c = rw (
   c.meet.ensures,
   c.before.remove.ensures,
-  c.before.before.row2.ensures,
-  c.before.before.before.row.ensures,
+  c.before.before.row-past.ensures,
+  c.before.before.before.row-due.ensures,
 )
 
-pub candidates-spec : {M : Type 1} → statement M
-candidates-spec =
+pub candidates_spec : {M : Type 1} → statement M
+candidates_spec =
     tie.close (tie.spec add_row row-requires row-requires-2 remove-requires meet-requires returns)

@@ -7,5 +7,5 @@ returns : tie.Need-returns
 unfolding no_words
 returns c = refl
 
-pub no-words-spec : {M : Type 1} → statement M
-no-words-spec = tie.close (tie.spec returns)
+pub no_words_spec : {M : Type 1} → statement M
+no_words_spec = tie.close (tie.spec returns)

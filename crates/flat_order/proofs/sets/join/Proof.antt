@@ -7,5 +7,5 @@ returns : tie.Need-returns
 unfolding joined
 returns c = refl
 
-pub join-spec : {M : Type 1} → statement M
-join-spec = tie.close (tie.spec returns)
+pub join_spec : {M : Type 1} → statement M
+join_spec = tie.close (tie.spec returns)

@@ -7,5 +7,5 @@ returns : tie.Need-returns
 unfolding met
 returns c = refl
 
-pub meet-spec : {M : Type 1} → statement M
-meet-spec = tie.close (tie.spec returns)
+pub meet_spec : {M : Type 1} → statement M
+meet_spec = tie.close (tie.spec returns)

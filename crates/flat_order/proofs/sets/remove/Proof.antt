@@ -7,5 +7,5 @@ returns : tie.Need-returns
 unfolding removed
 returns c = refl
 
-pub remove-spec : {M : Type 1} → statement M
-remove-spec = tie.close (tie.spec returns)
+pub remove_spec : {M : Type 1} → statement M
+remove_spec = tie.close (tie.spec returns)

@@ -9,50 +9,50 @@ use Rattle.line_calls.proofs.goal_call.goal.Statement.{statement}
 use Rattle.line_calls.proofs.goal_call.goal.Tie as tie
 
 -- the call's start, and what is known where nothing is refused earlier
-abbrev begun : tie.Else1 → tie.Start
+abbrev begun : tie.Else-earlier-ne0 → tie.Start
 begun d = d.before.before.before.before.before
 
-count : (d : tie.Else1) → let a = (begun d).args in a.count ≡ length (take a.count a.sets.now)
-count d = sym (length-take-le _ _ ((begun d).requires.0.room d.if1.false))
+count : (d : tie.Else-earlier-ne0) → let a = (begun d).args in a.count ≡ length (take a.count a.sets.now)
+count d = sym (length-take-le _ _ ((begun d).requires.0.room d.if-earlier-ne0.false))
 
 -- the runs asked, from where they are all runs
-abbrev asked : tie.Else2 → tie.After-run-refusal
+abbrev asked : tie.Else-runs-ne0 → tie.After-run_refusal-runs
 asked e = e.before.before
 
-abbrev left : tie.After-run-refusal → tie.Else1
+abbrev left : tie.After-run_refusal-runs → tie.Else-earlier-ne0
 left c = c.before.before
 
-returns : tie.Need-returns
-returns c = let n = c.if1.true in goal-stopped _ _ _ _ _ _ (asked_earlier _ _ n) n
+returns : tie.Need-returns-then-earlier-ne0
+returns c = let n = c.if-earlier-ne0.true in goal-stopped _ _ _ _ _ _ (asked_earlier _ _ n) n
 
-slice-aggregate-lines : tie.Need-slice-aggregate-lines
+slice-aggregate-lines : tie.Need-slice_bounds-lines-end
 slice-aggregate-lines c = count c.before
 
-run-refusal-requires : tie.Need-run-refusal-requires
+run-refusal-requires : tie.Need-run_refusal-runs-requires
 run-refusal-requires c κs = search rules
 
-returns-2 : tie.Need-returns-2
+returns-2 : tie.Need-returns-then-runs-ne0
 returns-2 c =
     let run = c.before.before in
-    goal-stopped _ _ _ _ _ _ (asked_runs _ _ (left run).if1.false run.run-refusal.ensures) c.if2.true
+    goal-stopped _ _ _ _ _ _ (asked_runs _ _ (left run).if-earlier-ne0.false run.run_refusal-runs.ensures) c.if-runs-ne0.true
 
-names-of-requires : tie.Need-names-of-requires
+names-of-requires : tie.Need-names_of-requires
 names-of-requires c κs = search rules
 
-slice-aggregate-strike : tie.Need-slice-aggregate-strike
+slice-aggregate-strike : tie.Need-slice_bounds-strike-end
 slice-aggregate-strike c =
     let d = left (asked c.before.before) in
-    sym (length-take-le _ _ ((begun d).pre.0.quantity-room d.if1.left))
+    sym (length-take-le _ _ ((begun d).requires.0.quantity-room d.if-earlier-ne0.left))
 
-slice-relend-prefix-strike : tie.Need-slice-relend-prefix-strike
+slice-relend-prefix-strike : tie.Need-slice_bounds-strike-end-2
 slice-relend-prefix-strike c =
     let d = left (asked c.before.before) in
-    omega (arith, (begun d).pre.0.room d.if1.left, (begun d).pre.1)
+    omega (arith, (begun d).requires.0.room d.if-earlier-ne0.left, (begun d).requires.1)
 
-slice-aggregate-strike-2 : tie.Need-slice-aggregate-strike-2
+slice-aggregate-strike-2 : tie.Need-slice_bounds-strike-end-3
 slice-aggregate-strike-2 c =
     let d = left (asked c.before.before.before) in
-    sym (length-take-le _ _ (omega (arith, (begun d).pre.0.room d.if1.left, (begun d).pre.1)))
+    sym (length-take-le _ _ (omega (arith, (begun d).requires.0.room d.if-earlier-ne0.left, (begun d).requires.1)))
 
 strike-requires : tie.Need-strike-requires
 strike-requires c κs =
@@ -60,26 +60,26 @@ strike-requires c κs =
     let run = asked named.before in
     let d = left run in
     let s = begun d in
-    let told = asked_runs s.args.earlier _ d.if1.left run.run-refusal.ensures in
+    let told = asked_runs s.args.earlier _ d.if-earlier-ne0.left run.run_refusal-runs.ensures in
     let all = asked-none s.args.earlier _ (number_of told named.before.if2.false) in (
-      record { good = s.pre.0.good d.if1.left; runs = all.1; all = named.names_of.ensures },
-      length-take-le _ _ (omega (arith, s.pre.0.room d.if1.left, s.pre.1)) ∙ count d,
+      record { good = s.requires.0.good d.if-earlier-ne0.left; runs = all.1; all = named.names_of.ensures },
+      length-take-le _ _ (omega (arith, s.requires.0.room d.if-earlier-ne0.left, s.requires.1)) ∙ count d,
     )
 
-same_length : tie.Need-same-length
+same_length : tie.Need-shape_of-struck
 same_length c = search rules
 
-returns-3 : tie.Need-returns-3
+returns-3 : tie.Need-returns
 returns-3 c =
     let struck = c.before.before in
     let e = struck.before.before.before.before in
     let run = asked e in
     let d = left run in
     let (answer, sets) = struck.strike.ensures in
-    goal-through _ _ _ _ _ _ (asked_runs _ _ d.if1.left run.run-refusal.ensures) e.if2.false (count d) answer sets
+    goal-through _ _ _ _ _ _ (asked_runs _ _ d.if-earlier-ne0.left run.run_refusal-runs.ensures) e.if2.false (count d) answer sets
 
-pub goal-spec : {M : Type 1} → statement M
-goal-spec =
+pub goal_spec : {M : Type 1} → statement M
+goal_spec =
     tie.close
     (tie.spec
     returns

@@ -8,41 +8,41 @@ use Rattle.mending.specs.Mending.{mended_line, over, after}
 use Rattle.mend.proofs.line.after_line.Statement.{statement}
 use Rattle.mend.proofs.line.after_line.Tie as tie
 
-is-over-requires : tie.Need-is-over-requires
+is-over-requires : tie.Need-is_over-requires
 is-over-requires c κs = search rules
 
-returns : tie.Need-returns
+returns : tie.Need-returns-then-is_over
 unfolding after
-returns c = rw (sym c.before.is-over.ensures ∙ c.if1.true) (refl, omega arith)
+returns c = rw (sym c.before.is_over.ensures ∙ c.if-is_over.true) (refl, omega arith)
 
-left-empty-requires : tie.Need-left-empty-requires
+left-empty-requires : tie.Need-left_empty-requires
 left-empty-requires c κs = search rules
 
-returns-2 : tie.Need-returns-2
+returns-2 : tie.Need-returns-then-left_empty
 unfolding after
 returns-2 c =
-    let e = sym c.before.before.before.is-over.ensures ∙ c.before.before.if1.false in
-    rw (e, sym c.before.left-empty.ensures ∙ c.if2.true) (refl, omega arith)
+    let e = sym c.before.before.before.is_over.ensures ∙ c.before.before.if-is_over.false in
+    rw (e, sym c.before.left_empty.ensures ∙ c.if-left_empty.true) (refl, omega arith)
 
-mended-quantity-requires : tie.Need-mended-quantity-requires
+mended-quantity-requires : tie.Need-mended_quantity-requires
 mended-quantity-requires c κs = search rules
 
-cast-result : tie.Need-overflow-cast-result
+cast-result : tie.Need-overflow_cast-result
 cast-result c = search rules
 
-add-result : tie.Need-overflow-add-result
+add-result : tie.Need-overflow_add-result
 add-result c = search rules
 
-returns-3 : tie.Need-returns-3
+returns-3 : tie.Need-returns
 unfolding after mended_line
 returns-3 c =
     let t = c.before.before.before.before.before.args.total in
-    let e : over t ≡ false = sym c.before.before.before.before.is-over.ensures ∙ c.before.before.before.if1.false in
-    let f = sym c.before.before.left-empty.ensures ∙ c.before.if2.false in
-    (rw (e, f) (ap (λ q. t + q) c.mended-quantity.ensures), omega (arith, ltb-false 2048 t e))
+    let e : over t ≡ false = sym c.before.before.before.before.is_over.ensures ∙ c.before.before.before.if-is_over.false in
+    let f = sym c.before.before.left_empty.ensures ∙ c.before.if-left_empty.false in
+    (rw (e, f) (ap (λ q. t + q) c.mended_quantity.ensures), omega (arith, ltb-false 2048 t e))
 
-pub after-line-spec : {M : Type 1} → statement M
-after-line-spec =
+pub after_line_spec : {M : Type 1} → statement M
+after_line_spec =
     tie.close
     (tie.spec
     is-over-requires

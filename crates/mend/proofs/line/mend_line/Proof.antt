@@ -27,43 +27,43 @@ good-line m t s q e h =
     let (_, total, kept) = good_fate m t (line_with s q) good h in
     (kept, codes-none m t (line_with s q) good h, total)
 
-is-good-requires : tie.Need-is-good-requires
+is-good-requires : tie.Need-is_good-requires
 is-good-requires c κs = search rules
 
-add-t7 : tie.Need-overflow-add-t7
+add-t7 : tie.Need-overflow_add-result
 add-t7 c = search rules
 
-returns : tie.Need-returns
+returns : tie.Need-returns-then-is_good
 returns c =
     let a = c.before.before.args in
     let number = line_number a.rack a.set a.quantity in
     let sum = a.total + a.quantity in
-    let t = T_true (sym c.before.is-good.ensures ∙ c.if1.true) in
+    let t = T_true (sym c.before.is_good.ensures ∙ c.if-is_good.true) in
     let good : number ≡ 0 = eqb→eq number 0 (and_left (eqb number 0) (leb sum most_placements) t) in
     let few : sum ≤ most_placements = leb→le sum most_placements (and_right (eqb number 0) (leb sum most_placements) t) in
     let (kept, none, total) = good-line a.rack a.total a.set a.quantity good few in
     ((sym (ap {B = ℕ} (λ b. cond b 1 0) kept), omega arith), ((sym (ap length none), omega arith), (sym total, omega arith)))
 
-line-stays-requires : tie.Need-line-stays-requires
+line-stays-requires : tie.Need-line_stays-requires
 line-stays-requires c κs = search rules
 
-one-if-requires : tie.Need-one-if-requires
+one-if-requires : tie.Need-one_if-requires
 one-if-requires c κs = search rules
 
-code-count-requires : tie.Need-code-count-requires
+code-count-requires : tie.Need-code_count-requires
 code-count-requires c κs = search rules
 
-after-line-requires : tie.Need-after-line-requires
+after-line-requires : tie.Need-after_line-requires
 after-line-requires c κs = search rules
 
-returns-2 : tie.Need-returns-2
+returns-2 : tie.Need-returns
 returns-2 c =
-    let one = c.before.before.one-if.ensures in
+    let one = c.before.before.one_if.ensures in
     let kept = one.0 ∙ ap {B = ℕ} (λ b. cond b 1 0) c.before.before.before.line_stays.ensures in
-    ((kept, one.1), (c.before.code-count.ensures, c.after_Line.ensures))
+    ((kept, one.1), (c.before.code_count.ensures, c.after_Line.ensures))
 
-pub mend-line-spec : {M : Type 1} → statement M
-mend-line-spec =
+pub mend_line_spec : {M : Type 1} → statement M
+mend_line_spec =
     tie.close
     (tie.spec
     is-good-requires

@@ -13,23 +13,23 @@ use Rattle.job.proofs.Good.{good_accepted, bad_refused}
 use Rattle.mend.proofs.read.is_accepted.Statement.{statement}
 use Rattle.mend.proofs.read.is_accepted.Tie as tie
 
-header-number-requires : tie.Need-header-number-requires
+header-number-requires : tie.Need-header_number-requires
 header-number-requires c κs = search rules
 
-returns : tie.Need-returns
+returns : tie.Need-returns-then-header_number-ne0
 returns c =
     let file = c.before.before.before.args.file.now in
-    let h : header_number file ≡ 0 → ⊥ = λ z. c.if1.true (c.before.header-number.ensures ∙ z) in
+    let h : header_number file ≡ 0 → ⊥ = λ z. c.if-header_number-ne0.true (c.before.header_number.ensures ∙ z) in
     sym (ne_eqb (read_refusal file).number 0 (λ z. h (number_of (read_refused file h) z)))
 
 -- the file, past the header's test
-abbrev file_at : tie.Else1 → List ℕ
+abbrev file_at : tie.Else-header_number-ne0 → List ℕ
 file_at c = c.before.before.before.args.file.now
 
-header : (c : tie.Else1) → header_number (file_at c) ≡ 0
-header c = sym c.before.header-number.ensures ∙ c.if1.false
+header : (c : tie.Else-header_number-ne0) → header_number (file_at c) ≡ 0
+header c = sym c.before.header_number.ensures ∙ c.if-header_number-ne0.false
 
-good-lines-requires : tie.Need-good-lines-requires
+good-lines-requires : tie.Need-good_lines-requires
 good-lines-requires c κs = header_good _ (header c)
 
 -- with a good header the lines decide
@@ -37,9 +37,9 @@ decided : (file : List ℕ) → header_number file ≡ 0 → (b : Bool) → good
 decided file z true g = sym (eq-eqb (read_refusal file).number 0 (ap (λ r. r.number) (good_accepted file z g)))
 decided file z false g = sym (ne_eqb (read_refusal file).number 0 (bad_refused file z g))
 
-returns-2 : tie.Need-returns-2
-returns-2 c = let file = file_at c.before in c.good-lines.ensures ∙ decided file (header c.before) (good_lines file) refl
+returns-2 : tie.Need-returns
+returns-2 c = let file = file_at c.before in c.good_lines.ensures ∙ decided file (header c.before) (good_lines file) refl
 
-pub is-accepted-spec : {M : Type 1} → statement M
-is-accepted-spec =
+pub is_accepted_spec : {M : Type 1} → statement M
+is_accepted_spec =
     tie.close (tie.spec header-number-requires returns good-lines-requires returns-2)

@@ -12,41 +12,41 @@ use Rattle.mend.proofs.Room.{mended_parts}
 use Rattle.mend.proofs.write.write_file.Statement.{statement}
 use Rattle.mend.proofs.write.write_file.Tie as tie
 
-version-in-requires : tie.Need-version-in-requires
+version-in-requires : tie.Need-version_in-requires
 version-in-requires c κs = start_long _ c.before.before.requires.0.0
 
-rack-in-requires : tie.Need-rack-in-requires
+rack-in-requires : tie.Need-rack_in-requires
 rack-in-requires c κs = start_long _ c.before.before.before.requires.0.0
 
-put-header-requires : tie.Need-put-header-requires
+put-header-requires : tie.Need-put_header-requires
 put-header-requires c κs =
     let start = c.before.before.before.before.before in
     omega (arith, start.requires.1, mended_parts start.args.file.now)
 
-abbrev start_of : tie.After-put-header → tie.Start
+abbrev start_of : tie.After-put_header → tie.Start
 start_of c = c.before.before.before.before.before.before
 
 -- the header is written
-header : (c : tie.After-put-header) →
+header : (c : tie.After-put_header) →
     let file = (start_of c).args.file.now in
-    c.put-header.new.1.1.1.0
+    c.put_header.new.out
     ≡ header_of (version_in file) (rack_in file) (length (lines_kept_in file)) ++ drop header_length (start_of c).args.out.now
 header c =
     let file = (start_of c).args.file.now in
     let out = (start_of c).args.out.now in
-    let rack = c.before.before.rack-in in
-    let version = c.before.before.before.version-in in
-    c.put-header.ensures
+    let rack = c.before.before.rack_in in
+    let version = c.before.before.before.version_in in
+    c.put_header.ensures
     ∙ ap₂ (λ v m. header_of v m (start_of c).args.kept ++ drop header_length out) version.ensures rack.ensures
     ∙ ap (λ n. header_of (version_in file) (rack_in file) n ++ drop header_length out) (start_of c).requires.0.1
 
-put-lines-requires : tie.Need-put-lines-requires
+put-lines-requires : tie.Need-put_lines-requires
 put-lines-requires c κs =
     let put = c.before.before.before in
     let start = start_of put in
-    (start.pre.0.0, omega (arith, start.pre.1, mended_parts start.args.file.now, put.put-header.auto.1.1.1.0))
+    (start.requires.0.0, omega (arith, start.requires.1, mended_parts start.args.file.now, put.put_header.auto.out))
 
-same_length : tie.Need-same-length
+same_length : tie.Need-shape_of-out
 same_length c = search rules
 
 returns : tie.Need-returns
@@ -56,10 +56,10 @@ returns c =
     let file = (start_of put).args.file.now in
     let out = (start_of put).args.out.now in
     (printed (both (omega arith) (header-put (version_in file) (rack_in file) (length (lines_kept_in file)) out (header put))
-    c.before.before.put-lines.ensures)).bytes
+    c.before.before.put_lines.ensures)).bytes
 
-pub write-file-spec : {M : Type 1} → statement M
-write-file-spec =
+pub write_file_spec : {M : Type 1} → statement M
+write_file_spec =
     tie.close
     (tie.spec
     version-in-requires

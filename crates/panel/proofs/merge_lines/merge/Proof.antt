@@ -11,24 +11,24 @@ use borrow.Author.Rules.{rules}
 use Rattle.panel.proofs.merge_lines.merge.Statement.{statement}
 use Rattle.panel.proofs.merge_lines.merge.Tie as tie
 
-abbrev begun : tie.After-shared-slice-known2 → tie.Start
+abbrev begun : tie.After-shared_slice_known-2-1 → tie.Start
 begun c = c.before.before.before.before
 
-merge-refusal-requires : tie.Need-merge-refusal-requires
+merge-refusal-requires : tie.Need-merge_refusal-refusal-requires
 merge-refusal-requires c κs = let (g, (h, _)) = (begun c.before).requires in (given_counted g, given_counted h)
 
-same_length : tie.Need-same-length
+same_length : tie.Need-shape_of-quantities-then-refusal-ne0
 same_length c = search rules
 
-returns : tie.Need-returns
+returns : tie.Need-returns-then-refusal-ne0
 returns c =
     let asked = c.before.before in
     let s = begun asked.before.before in
-    let (g, (h, _)) = s.pre in
+    let (g, (h, _)) = s.requires in
     let a = s.args in
-    let r = asked.merge-refusal.result in
-    let f = c.if1.true in (
-      merge_counts _ g h asked.merge-refusal.ensures,
+    let r = asked.merge_refusal-refusal.result in
+    let f = c.if-refusal-ne0.true in (
+      merge_counts _ g h asked.merge_refusal-refusal.ensures,
       (
         merge_stays r f (take a.count a.sets.now) (take a.other-count a.other-sets.now) a.sets.now,
         merge_stays r f (take a.count a.quantities.now) (take a.other-count a.other-quantities.now) a.quantities.now,
@@ -36,7 +36,7 @@ returns c =
     )
 
 -- nothing is refused: the racks are the same, and lines and placements together are few
-abbrev start : tie.Else1 → tie.Start
+abbrev start : tie.Else-refusal-ne0 → tie.Start
 start d = begun d.before.before.before.before
 
 record Known (a : tie.Start) : Type 0 where
@@ -46,9 +46,9 @@ record Known (a : tie.Start) : Type 0 where
   sets-full : length a.args.sets.now ≡ most_lines
   quantities-full : length a.args.quantities.now ≡ most_lines
 
-known : (d : tie.Else1) → Known (start d)
+known : (d : tie.Else-refusal-ne0) → Known (start d)
 known d =
-    let k = merge_none _ _ _ _ _ (number_of d.before.before.merge-refusal.ensures d.if1.false) in
+    let k = merge_none _ _ _ _ _ (number_of d.before.before.merge_refusal-refusal.ensures d.if-refusal-ne0.false) in
     let (g, (h, (sets, quantities))) = (start d).requires in
     record {
       room = h.room k.free;
@@ -58,22 +58,22 @@ known d =
       quantities-full = quantities;
     }
 
-slice-aggregate-put-sets : tie.Need-slice-aggregate-put-sets
+slice-aggregate-put-sets : tie.Need-slice_bounds-put_sets-end
 slice-aggregate-put-sets c = sym (length-take-le _ _ (known c.before).room)
 
-mul-put-sets : tie.Need-overflow-mul-put-sets
+mul-put-sets : tie.Need-offset_bounds-sets-count
 mul-put-sets c = let k = known c.before in omega (arith, k.few)
 
-sub-put-sets : tie.Need-overflow-sub-put-sets
+sub-put-sets : tie.Need-slice_bounds-put_sets-count
 sub-put-sets c = let k = known c.before in omega (arith, k.few, k.sets-full)
 
-part-put-sets-start : tie.Need-slice-bounds-put-sets-start
+part-put-sets-start : tie.Need-slice_bounds-put_sets-start
 part-put-sets-start c = let k = known c.before in omega (arith, k.few, k.sets-full)
 
-part-put-sets-end : tie.Need-slice-bounds-put-sets-end
+part-put-sets-end : tie.Need-slice_bounds-put_sets-end
 part-put-sets-end c = search rules
 
-put-sets-requires : tie.Need-put-sets-requires
+put-sets-requires : tie.Need-put_sets-requires
 put-sets-requires c κs =
     let d = c.before.before in
     let k = known d in
@@ -87,22 +87,22 @@ put-sets-requires c κs =
     )
 
 -- the sets are put
-abbrev behind : tie.After-slice-known3 → tie.Else1
+abbrev behind : tie.After-slice_known-3-1 → tie.Else-refusal-ne0
 behind c = c.before.before.before.before.before
 
-slice-aggregate-put-quantities : tie.Need-slice-aggregate-put-quantities
+slice-aggregate-put-quantities : tie.Need-slice_bounds-put_quantities-end
 slice-aggregate-put-quantities c = sym (length-take-le _ _ (known (behind c.before)).quantity-room)
 
-sub-put-quantities : tie.Need-overflow-sub-put-quantities
+sub-put-quantities : tie.Need-slice_bounds-put_quantities-count
 sub-put-quantities c = let k = known (behind c.before) in omega (arith, k.few, k.quantities-full)
 
-part-put-quantities-start : tie.Need-slice-bounds-put-quantities-start
+part-put-quantities-start : tie.Need-slice_bounds-put_quantities-start
 part-put-quantities-start c = let k = known (behind c.before) in omega (arith, k.few, k.quantities-full)
 
-part-put-quantities-end : tie.Need-slice-bounds-put-quantities-end
+part-put-quantities-end : tie.Need-slice_bounds-put_quantities-end
 part-put-quantities-end c = search rules
 
-put-quantities-requires : tie.Need-put-quantities-requires
+put-quantities-requires : tie.Need-put_quantities-requires
 put-quantities-requires c κs =
     let d = behind c.before.before in
     let k = known d in
@@ -115,13 +115,13 @@ put-quantities-requires c κs =
       mid_len a.count (length a.quantities.now) a.quantities.now (omega arith),
     )
 
-same-length-2 : tie.Need-same-length-2
+same-length-2 : tie.Need-shape_of-sets
 same-length-2 c = search rules
 
-same-length-3 : tie.Need-same-length-3
+same-length-3 : tie.Need-shape_of-quantities
 same-length-3 c = search rules
 
-returns-2 : tie.Need-returns-2
+returns-2 : tie.Need-returns
 returns-2 c =
     let put = c.before.before in
     let put-sets = put.before.before.before.before.before in
@@ -135,12 +135,12 @@ returns-2 c =
       merge_counts _ g h asked.merge-refusal.ensures,
       (
         put-behind a.count _ a.sets.now (omega (arith, k.few, k.sets-full)) r z put-sets.put-sets.ensures,
-        put-behind a.count _ a.quantities.now (omega (arith, k.few, k.quantities-full)) r z put.put-quantities.ensures,
+        put-behind a.count _ a.quantities.now (omega (arith, k.few, k.quantities-full)) r z put.put_quantities.ensures,
       ),
     )
 
-pub merge-spec : {M : Type 1} → statement M
-merge-spec =
+pub merge_spec : {M : Type 1} → statement M
+merge_spec =
     tie.close
     (tie.spec
     merge-refusal-requires

@@ -12,64 +12,64 @@ use borrow.Author.Rules.{rules}
 use Rattle.panel.proofs.merge_lines.merge_refusal.Statement.{statement}
 use Rattle.panel.proofs.merge_lines.merge_refusal.Tie as tie
 
-returns : tie.Need-returns
+returns : tie.Need-returns-then-earlier-ne0
 unfolding merge_refusal
-returns c = or_first refl _ c.if1.true
+returns c = or_first refl _ c.if-earlier-ne0.true
 
 refuse-requires : tie.Need-refuse-requires
 refuse-requires c κs = search rules
 
-abbrev begun : tie.Else2 → tie.Start
+abbrev begun : tie.Else-rack-other_rack → tie.Start
 begun d = d.before.before.before.before.before
 
-returns-2 : tie.Need-returns-2
-returns-2 c = c.refuse.ensures ∙ merge_racks _ c.before.before.if1.false _ _ _ _ c.before.if2.true
+returns-2 : tie.Need-returns-then-rack-other_rack
+returns-2 c = c.refuse.ensures ∙ merge_racks _ c.before.before.if-earlier-ne0.false _ _ _ _ c.before.if-rack-other_rack.true
 
 -- nothing is refused before the lines are counted
-counted : (d : tie.Else2) → let a = (begun d).args in Counted a.count a.quantities.now × Counted a.other-count a.other-quantities.now
-counted d = let (g, h) = (begun d).requires in let z = d.before.if1.false in (g z, h z)
+counted : (d : tie.Else-rack-other_rack) → let a = (begun d).args in Counted a.count a.quantities.now × Counted a.other-count a.other-quantities.now
+counted d = let (g, h) = (begun d).requires in let z = d.before.if-earlier-ne0.false in (g z, h z)
 
-add-if3 : tie.Need-overflow-add-if3
+add-if3 : tie.Need-overflow_add-count
 add-if3 c = omega (arith, (counted c).0.lines, (counted c).1.lines)
 
-refuse-requires-2 : tie.Need-refuse-requires-2
+refuse-requires-2 : tie.Need-refuse-requires-then-count-other_count-gt-MOST_LINES
 refuse-requires-2 c κs = search rules
 
-returns-3 : tie.Need-returns-3
+returns-3 : tie.Need-returns-then-count-other_count-gt-MOST_LINES
 returns-3 c =
     let same = c.before.before in
-    c.refuse2.ensures ∙ merge-lines _ same.before.if1.false _ _ _ _ same.if2.false c.before.if3.true
+    c.refuse-then-count-other_count-gt-MOST_LINES.ensures ∙ merge-lines _ same.before.if-earlier-ne0.false _ _ _ _ same.if-rack-other_rack.false c.before.if-count-other_count-gt-MOST_LINES.true
 
-slice-aggregate-total : tie.Need-slice-aggregate-total
+slice-aggregate-total : tie.Need-slice_bounds-total-end
 slice-aggregate-total c = sym (length-take-le _ _ (counted c.before.before).0.room)
 
-total-requires : tie.Need-total-requires
+total-requires : tie.Need-total-placements-requires
 total-requires c κs = (counted c.before.before).0.few
 
-slice-aggregate-total-2 : tie.Need-slice-aggregate-total-2
+slice-aggregate-total-2 : tie.Need-slice_bounds-total-end-2
 slice-aggregate-total-2 c = sym (length-take-le _ _ (counted c.before.before.before.before).1.room)
 
-total-requires-2 : tie.Need-total-requires-2
+total-requires-2 : tie.Need-total-others-requires
 total-requires-2 c κs = (counted c.before.before.before.before).1.few
 
-add-refuse-when : tie.Need-overflow-add-refuse-when
+add-refuse-when : tie.Need-overflow_add-placements
 add-refuse-when c =
     let both = counted c.before.before.before.before.before in
-    omega (arith, c.before.before.total.ensures, c.total2.ensures, both.0.few, both.1.few)
+    omega (arith, c.before.before.total.ensures, c.total-others.ensures, both.0.few, both.1.few)
 
-refuse-when-requires : tie.Need-refuse-when-requires
+refuse-when-requires : tie.Need-refuse_when-requires
 refuse-when-requires c κs = search rules
 
-returns-4 : tie.Need-returns-4
+returns-4 : tie.Need-returns
 returns-4 c =
     let few = c.before.before.before.before.before in
     let same = few.before in
-    c.refuse-when.ensures
-    ∙ ap₂ (λ x y. when (ltb most_placements (x + y)) 30) c.before.before.before.total.ensures c.before.total2.ensures
+    c.refuse_when.ensures
+    ∙ ap₂ (λ x y. when (ltb most_placements (x + y)) 30) c.before.before.before.total.ensures c.before.total-others.ensures
     ∙ merge_over _ same.before.if1.false _ _ _ _ same.if2.false few.if3.false
 
-pub merge-refusal-spec : {M : Type 1} → statement M
-merge-refusal-spec =
+pub merge_refusal_spec : {M : Type 1} → statement M
+merge_refusal_spec =
     tie.close
     (tie.spec
     returns

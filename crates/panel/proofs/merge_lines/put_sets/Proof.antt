@@ -9,51 +9,51 @@ use borrow.Author.Rules.{rules}
 use Rattle.panel.proofs.merge_lines.put_sets.Statement.{statement}
 use Rattle.panel.proofs.merge_lines.put_sets.Tie as tie
 
-abbrev invariant-loop : tie.invariant-loop
+abbrev invariant-loop : tie.invariant-loop-i
 invariant-loop sets out₀ i₀ out i = (i ≤ length sets) × (length out ≡ length out₀) × (out ≡ take i sets ++ drop i out₀)
 
-abbrev decreases-loop : tie.decreases-loop
+abbrev decreases-loop : tie.decreases-loop-i
 decreases-loop sets out₀ i₀ out i = length sets - i
 
-loop-holds : tie.Need-loop-init invariant-loop decreases-loop
+loop-holds : tie.Need-loop-i-init invariant-loop decreases-loop
 loop-holds c = (search rules, refl, refl)
 
-mul-out : tie.Need-overflow-mul-out invariant-loop decreases-loop
+mul-out : tie.Need-offset_bounds-sets-i invariant-loop decreases-loop
 mul-out c = search rules
 
-shared-slice-read-out : tie.Need-shared-slice-read-out invariant-loop decreases-loop
+shared-slice-read-out : tie.Need-bounds-sets-i invariant-loop decreases-loop
 shared-slice-read-out c = search rules
 
-mul-out-2 : tie.Need-overflow-mul-out-2 invariant-loop decreases-loop
+mul-out-2 : tie.Need-offset_bounds-out-i invariant-loop decreases-loop
 mul-out-2 c = search rules
 
-slice-write-out : tie.Need-slice-write-out invariant-loop decreases-loop
+slice-write-out : tie.Need-bounds-out-i invariant-loop decreases-loop
 slice-write-out c = search rules
 
-add-i : tie.Need-overflow-add-i invariant-loop decreases-loop
+add-i : tie.Need-overflow_add-i invariant-loop decreases-loop
 add-i c = search rules
 
-loop-less : tie.Need-loop-smaller invariant-loop decreases-loop
+loop-less : tie.Need-loop-i-smaller invariant-loop decreases-loop
 loop-less c = search rules
 
-loop-again : tie.Need-loop-preserved invariant-loop decreases-loop
+loop-again : tie.Need-loop-i-preserved invariant-loop decreases-loop
 loop-again c =
-    let l = c.before.before.loop in
+    let l = c.before.before.loop-i in
     let a = c.before.before.before.args in
     (search rules, simp length-set (omega arith), rw l.invariant.2 (copy_more a.sets.now a.out.now l.i (omega arith) (omega arith)))
 
-same_length : tie.Need-same-length invariant-loop decreases-loop
-same_length c = c.before.loop.invariant.1
+same_length : tie.Need-shape_of-out invariant-loop decreases-loop
+same_length c = c.before.loop-i.invariant.1
 
 returns : tie.Need-returns invariant-loop decreases-loop
 returns c =
-    let l = c.before.loop in
+    let l = c.before.loop-i in
     let xs = c.before.before.args.sets.now in
     let e : l.i ≡ length xs = omega arith in
     l.invariant.2 ∙ rw (e, take-length xs)
 
-pub put-sets-spec : {M : Type 1} → statement M
-put-sets-spec =
+pub put_sets_spec : {M : Type 1} → statement M
+put_sets_spec =
     tie.close
     (tie.spec
     invariant-loop

@@ -7,5 +7,5 @@ returns : tie.Need-returns
 unfolding empty_parts
 returns c = refl
 
-pub empty-parts-spec : {M : Type 1} → statement M
-empty-parts-spec = tie.close (tie.spec returns)
+pub empty_parts_spec : {M : Type 1} → statement M
+empty_parts_spec = tie.close (tie.spec returns)

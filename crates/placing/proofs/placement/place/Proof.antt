@@ -20,27 +20,27 @@ use Rattle.placing.proofs.placement.place.Statement.{statement}
 use Rattle.placing.proofs.placement.place.Tie as tie
 
 -- the call's start, once the windows are judged
-abbrev begun : tie.After-first-bad-window → tie.Start
+abbrev begun : tie.After-first_bad_window-w → tie.Start
 begun c = c.before.before.before
 
 -- the windows judged, once the rows are known
-abbrev windowed : tie.After-struct-known → tie.After-first-bad-window
+abbrev windowed : tie.After-struct_known-1 → tie.After-first_bad_window-w
 windowed c = c.before.before
 
 -- the rows judged, once there are bytes for the order
-abbrev ruled : tie.After-no-bytes → tie.Else3
+abbrev ruled : tie.After-no_bytes-found → tie.Else-not-rows
 ruled c = c.before.before
 
 -- the bytes for the order, once it was sought
-abbrev roomed : tie.After-search → tie.After-no-bytes
+abbrev roomed : tie.After-search → tie.After-no_bytes-found
 roomed c = c.before.before
 
 -- the search, once its order is lent
-abbrev searched : tie.After-found3 → tie.After-search
+abbrev searched : tie.After-found-3-1 → tie.After-search
 searched c = c.before.before.before
 
 -- the call's start, from the rows judged and from the search
-abbrev begun-2 : tie.Else3 → tie.Start
+abbrev begun-2 : tie.Else-not-rows → tie.Start
 begun-2 c = begun (windowed c.before)
 
 abbrev begun-3 : tie.After-search → tie.Start
@@ -54,7 +54,7 @@ size s = listed (part_at s.args.parts.parts) s.args.parts.count
 abbrev refusal : ℕ → ℕ → Refusal
 refusal n k = record { number = n; place = k }
 
-returns : tie.Need-returns
+returns : tie.Need-returns-then-n-gt128
 returns c =
     λ rules r.
     let s = c.before.before in
@@ -63,21 +63,21 @@ returns c =
     let e = over parts rules (length buffer) (omega (arith, size s)) in
     (e, refused_buffer parts rules buffer e (λ z. omega (arith, z)))
 
-first-bad-window-requires : tie.Need-first-bad-window-requires
+first-bad-window-requires : tie.Need-first_bad_window-w-requires
 first-bad-window-requires c κs = search rules
 
-returns-2 : tie.Need-returns-2
+returns-2 : tie.Need-returns-then-w-n
 returns-2 c =
     λ rules r.
     let s = begun c.before in
     let parts = parts_of s.args.parts in
     let buffer = s.args.order.now in
-    let w = c.before.first-bad-window in
+    let w = c.before.first_bad_window-w in
     let e : refusal 12 w.result ≡ order_refusal parts rules (length buffer) =
     ap (refusal 12) w.ensures ∙ bad_window parts rules (length buffer) (omega (arith, size s)) (omega (arith, size s, w.ensures)) in
     (e, refused_buffer parts rules buffer e (λ z. omega (arith, z)))
 
-returns-3 : tie.Need-returns-3
+returns-3 : tie.Need-returns-then-not-rows
 returns-3 c =
     λ rules r.
     let w = windowed c.before in
@@ -86,21 +86,21 @@ returns-3 c =
     let parts = parts_of s.args.parts in
     let buffer = s.args.order.now in
     let few : s.args.parts.count ≤ 128 = omega arith in
-    let g = fails {x = rows.good} refl c.if3.true in
+    let g = fails {x = rows.good} refl c.if-not-rows.true in
     let b = (r few).bad g in
     let e : refusal 13 rows.bad ≡ order_refusal parts rules (length buffer) =
-    ap (refusal 13) b ∙ bad_rule parts rules (length buffer) (omega (arith, size s)) (omega (arith, size s, w.first-bad-window.ensures))
+    ap (refusal 13) b ∙ bad_rule parts rules (length buffer) (omega (arith, size s)) (omega (arith, size s, w.first_bad_window-w.ensures))
     (rules_bad parts rules rows (r few) g) in
     (e, refused_buffer parts rules buffer e (λ z. omega (arith, z)))
 
 -- the rules are good where the rows are
-rows-good : (c : tie.Else3) → (begun-2 c).args.rows.good ≡ true
-rows-good c = passes {x = (begun-2 c).args.rows.good} refl c.if3.false
+rows-good : (c : tie.Else-not-rows) → (begun-2 c).args.rows.good ≡ true
+rows-good c = passes {x = (begun-2 c).args.rows.good} refl c.if-not-rows.false
 
-returns-4 : tie.Need-returns-4
+returns-4 : tie.Need-returns-then-order-n
 returns-4 c =
     λ rules r.
-    let w = (windowed c.before.before).first-bad-window in
+    let w = (windowed c.before.before).first_bad_window-w in
     let s = begun-2 c.before in
     let parts = parts_of s.args.parts in
     let buffer = s.args.order.now in
@@ -109,27 +109,27 @@ returns-4 c =
     (rules_good parts rules s.args.rows (r few) (rows-good c.before)) (omega (arith, size s)) in
     (e, refused_buffer parts rules buffer e (λ z. omega (arith, z)))
 
-no-bytes-requires : tie.Need-no-bytes-requires
+no-bytes-requires : tie.Need-no_bytes-found-requires
 no-bytes-requires c κs = search rules
 
-array-borrow-prefix-found : tie.Need-array-borrow-prefix-found
+array-borrow-prefix-found : tie.Need-slice_bounds-found-end
 array-borrow-prefix-found c = search rules
 
 -- the bytes found are as many as the parts
-lent : (c : tie.After-no-bytes) → let n = (begun-2 (ruled c)).args.parts.count in length (take n c.no_bytes.result) ≡ n
-lent c = length-take-le (begun-2 (ruled c)).args.parts.count c.no_bytes.result
-    (omega (arith, ap length c.no_bytes.ensures, bytes_size))
+lent : (c : tie.After-no_bytes-found) → let n = (begun-2 (ruled c)).args.parts.count in length (take n c.no_bytes-found.result) ≡ n
+lent c = length-take-le (begun-2 (ruled c)).args.parts.count c.no_bytes-found.result
+    (omega (arith, ap length c.no_bytes-found.ensures, bytes_size))
 
-found-size : (c : tie.After-search) → length c.search.new.1.1.0 ≡ (begun-3 c).args.parts.count
-found-size c = c.search.auto.1.1.0 ∙ lent (roomed c)
+found-size : (c : tie.After-search) → length c.search.new.order ≡ (begun-3 c).args.parts.count
+found-size c = c.search.auto.order ∙ lent (roomed c)
 
 -- and the array has room for them
 room : (c : tie.After-search)
     → let n = (begun-3 c).args.parts.count in
-    n ≤ length (c.search.new.1.1.0 ++ drop n (roomed c).no_bytes.result)
-room c = prefix_room c.search.new.1.1.0 (roomed c).no_bytes.result (begun-3 c).args.parts.count (found-size c)
+    n ≤ length (c.search.new.order ++ drop n (roomed c).no_bytes-found.result)
+room c = prefix_room c.search.new.order (roomed c).no_bytes-found.result (begun-3 c).args.parts.count (found-size c)
 
-slice-aggregate-search : tie.Need-slice-aggregate-search
+slice-aggregate-search : tie.Need-slice_bounds-search-end
 slice-aggregate-search c = sym (lent c.before)
 
 search-requires : tie.Need-search-requires
@@ -137,70 +137,70 @@ search-requires c κs =
     let b = c.before in
     (omega arith, lent b, omega (arith, (windowed (ruled b).before).first-bad-window.ensures))
 
-returns-5 : tie.Need-returns-5
+returns-5 : tie.Need-returns-then-not-search
 returns-5 c =
     λ rules r.
     let f = c.before.before in
     let h = ruled (roomed f) in
-    let w = (windowed h.before).first-bad-window in
+    let w = (windowed h.before).first_bad_window-w in
     let s = begun-3 f in
     let parts = parts_of s.args.parts in
     let buffer = s.args.order.now in
     let few : s.args.parts.count ≤ 128 = omega arith in
-    let z : f.search.result ≡ false = fails {x = f.search.result} refl c.if5.true in
+    let z : f.search.result ≡ false = fails {x = f.search.result} refl c.if-not-search.true-raw in
     let o : none ≡ placing_order parts rules =
-    ap (λ b. cond b (some f.search.new.1.1.0) none) (sym z) ∙ f.search.ensures rules (r few) (rows-good h) in
+    ap (λ b. cond b (some f.search.new.order) none) (sym z) ∙ f.search.ensures rules (r few) (rows-good h) in
     let e = no_order parts rules (length buffer) (omega (arith, size s)) (omega (arith, size s, w.ensures))
     (rules_good parts rules s.args.rows (r few) (rows-good h)) (omega (arith, size s)) o in
     (e, refused_buffer parts rules buffer e (λ z. omega (arith, z)))
 
-array-share-prefix-found : tie.Need-array-share-prefix-found
+array-share-prefix-found : tie.Need-slice_bounds-found-end-2
 array-share-prefix-found c = room c.before.before
 
-slice-aggregate-copy-order : tie.Need-slice-aggregate-copy-order
+slice-aggregate-copy-order : tie.Need-slice_bounds-copy_order-end
 slice-aggregate-copy-order c = sym (length-take-le _ _ (room (searched c)))
 
-copy-order-requires : tie.Need-copy-order-requires
+copy-order-requires : tie.Need-copy_order-requires
 copy-order-requires c κs =
     let f = searched c.before in
     let a = (begun-3 f).args in
     let n = a.parts.count in
-    let t = take n (f.search.last.1.1.0 ++ drop n (roomed f).no_bytes.result) in
+    let t = take n (f.search.last.1.1.0 ++ drop n (roomed f).no_bytes-found.result) in
     let e : length t ≡ n = length-take-le _ _ (room f) in
     let q : length t ≤ length a.order.now = omega (arith, e) in
     q
 
-same_length : tie.Need-same-length
+same_length : tie.Need-shape_of-order
 same_length c = search rules
 
-returns-6 : tie.Need-returns-6
+returns-6 : tie.Need-returns
 returns-6 c =
     λ rules r.
     let copied = c.before.before in
     let given = copied.before.before in
     let f = searched given in
     let h = ruled (roomed f) in
-    let w = (windowed h.before).first-bad-window in
+    let w = (windowed h.before).first_bad_window-w in
     let s = begun-3 f in
     let parts = parts_of s.args.parts in
     let buffer = s.args.order.now in
     let n = s.args.parts.count in
     let few : n ≤ 128 = omega arith in
     let o = f.search.last.1.1.0 in
-    let z : f.search.result ≡ true = passes {x = f.search.result} refl given.before.if5.false in
+    let z : f.search.result ≡ true = passes {x = f.search.result} refl given.before.if-not-search.false-raw in
     let known : some o ≡ placing_order parts rules = ap (λ b. cond b (some o) none) (sym z) ∙ f.search.ensures rules (r few) (rows-good h) in
     let e = one_order parts rules (length buffer) (omega (arith, size s)) (omega (arith, size s, w.ensures))
     (rules_good parts rules s.args.rows (r few) (rows-good h)) (omega (arith, size s)) o known in
-    let t = prefix_back o (roomed f).no_bytes.result n (found-size f) in
-    let b : copied.copy-order.new.1.0 ≡ o ++ drop n buffer =
-    copied.copy-order.ensures ∙ ap (λ l. l ++ drop (length l) buffer) t ∙ ap (λ k. o ++ drop k buffer) (found-size f) in (
+    let t = prefix_back o (roomed f).no_bytes-found.result n (found-size f) in
+    let b : copied.copy_order.new.buffer ≡ o ++ drop n buffer =
+    copied.copy_order.ensures ∙ ap (λ l. l ++ drop (length l) buffer) t ∙ ap (λ k. o ++ drop k buffer) (found-size f) in (
       e,
       b ∙ ap (λ k. o ++ drop k buffer) (sym (size s))
           ∙ accepted_buffer parts rules buffer o (sym (ap (λ (q : Refusal). q.number) e)) known,
     )
 
-pub place-spec : {M : Type 1} → statement M
-place-spec =
+pub place_spec : {M : Type 1} → statement M
+place_spec =
     tie.close
     (tie.spec
     returns

@@ -10,50 +10,50 @@ use borrow.Author.Rules.{rules}
 use Rattle.placing.proofs.windows.first_bad_window.Statement.{statement}
 use Rattle.placing.proofs.windows.first_bad_window.Tie as tie
 
-abbrev invariant-loop : tie.invariant-loop
+abbrev invariant-loop : tie.invariant-loop-i
 invariant-loop parts n i₀ i = (i ≤ n) × (n ≡ parts.count) × ((k : ℕ) → k < i → T (window_ok n (part_at parts.parts k)))
 
-abbrev decreases-loop : tie.decreases-loop
+abbrev decreases-loop : tie.decreases-loop-i
 decreases-loop parts n i₀ i = n - i
 
-loop-holds : tie.Need-loop-init invariant-loop decreases-loop
+loop-holds : tie.Need-loop-i-init invariant-loop decreases-loop
 loop-holds c = (search rules, refl, λ k l. absurd (omega arith))
 
-mul-p : tie.Need-overflow-mul-p invariant-loop decreases-loop
+mul-p : tie.Need-offset_bounds-parts-i invariant-loop decreases-loop
 mul-p c = search rules
 
-element-copy-out-p : tie.Need-element-copy-out-p invariant-loop decreases-loop
+element-copy-out-p : tie.Need-bounds-parts-i invariant-loop decreases-loop
 element-copy-out-p c = search rules
 
-is-window-ok-requires : tie.Need-is-window-ok-requires invariant-loop decreases-loop
+is-window-ok-requires : tie.Need-is_window_ok-requires invariant-loop decreases-loop
 is-window-ok-requires c κs = search rules
 
-returns : tie.Need-returns invariant-loop decreases-loop
-returns c = window_is c.before.before.before.before.before.args.t1 c.before.before.before.before.loop.i
-    (omega arith) c.before.before.before.before.loop.invariant.2
-    (λ _. fails c.before.is-window-ok.ensures c.if1.true)
+returns : tie.Need-returns-then-not-is_window_ok invariant-loop decreases-loop
+returns c = window_is c.before.before.before.before.before.args.t1 c.before.before.before.before.loop-i.i
+    (omega arith) c.before.before.before.before.loop-i.invariant.2
+    (λ _. fails c.before.is_window_ok.ensures c.if-not-is_window_ok.true-raw)
 
-add-i : tie.Need-overflow-add-i invariant-loop decreases-loop
+add-i : tie.Need-overflow_add-i invariant-loop decreases-loop
 add-i c = search rules
 
-loop-less : tie.Need-loop-smaller invariant-loop decreases-loop
+loop-less : tie.Need-loop-i-smaller invariant-loop decreases-loop
 loop-less c = search rules
 
-loop-again : tie.Need-loop-preserved invariant-loop decreases-loop
+loop-again : tie.Need-loop-i-preserved invariant-loop decreases-loop
 loop-again c
     = (
       search rules,
       refl,
-      below_more _ _ c.before.before.before.before.loop.invariant.2
-          (T_true (passes c.before.is-window-ok.ensures c.if1.false)),
+      below_more _ _ c.before.before.before.before.loop-i.invariant.2
+          (T_true (passes c.before.is_window_ok.ensures c.if-not-is_window_ok.false-raw)),
     )
 
-returns-2 : tie.Need-returns-2 invariant-loop decreases-loop
-returns-2 c = window_is c.before.before.args.t1 c.before.loop.i (omega arith) c.before.loop.invariant.2
+returns-2 : tie.Need-returns invariant-loop decreases-loop
+returns-2 c = window_is c.before.before.args.t1 c.before.loop-i.i (omega arith) c.before.loop-i.invariant.2
     (λ h. absurd (omega arith))
 
-pub first-bad-window-spec : {M : Type 1} → statement M
-first-bad-window-spec =
+pub first_bad_window_spec : {M : Type 1} → statement M
+first_bad_window_spec =
     tie.close
     (tie.spec
     invariant-loop

@@ -8,42 +8,42 @@ use Rattle.striking.specs.Striking.{split_by}
 use Rattle.striking.proofs.inside.best_split.Statement.{statement}
 use Rattle.striking.proofs.inside.best_split.Tie as tie
 
-abbrev invariant-loop : tie.invariant-loop
+abbrev invariant-loop : tie.invariant-loop-i
 invariant-loop names m a w pairs sums inner best₀ i₀ best i = (i ≤ w) × (best ≡ largest (split_by names m sums inner 0 a w) i)
 
-abbrev decreases-loop : tie.decreases-loop
+abbrev decreases-loop : tie.decreases-loop-i
 decreases-loop names m a w pairs sums inner best₀ i₀ best i = w - i
 
-loop-holds : tie.Need-loop-init invariant-loop decreases-loop
+loop-holds : tie.Need-loop-i-init invariant-loop decreases-loop
 unfolding largest
 loop-holds c = (search rules, refl)
 
-split-at-requires : tie.Need-split-at-requires invariant-loop decreases-loop
+split-at-requires : tie.Need-split_at-requires invariant-loop decreases-loop
 split-at-requires c κs = search rules
 
-larger-requires : tie.Need-larger-requires invariant-loop decreases-loop
+larger-requires : tie.Need-larger-best-requires invariant-loop decreases-loop
 larger-requires c κs = search rules
 
-add-i : tie.Need-overflow-add-i invariant-loop decreases-loop
+add-i : tie.Need-overflow_add-i invariant-loop decreases-loop
 add-i c = search rules
 
-loop-less : tie.Need-loop-smaller invariant-loop decreases-loop
+loop-less : tie.Need-loop-i-smaller invariant-loop decreases-loop
 loop-less c = search rules
 
-loop-again : tie.Need-loop-preserved invariant-loop decreases-loop
+loop-again : tie.Need-loop-i-preserved invariant-loop decreases-loop
 loop-again c =
     let loop = c.before.before.before in
     let args = loop.before.before.before.before.args in
     let f : ℕ → ℕ = split_by args.names args.m args.sums.now args.inner.now 0 args.a args.w in
-    (search rules, omega (arith, c.larger.ensures, c.before.split_at.ensures, loop.loop.invariant.1, largest-more f loop.loop.i))
+    (search rules, omega (arith, c.larger-best.ensures, c.before.split_at.ensures, loop.loop-i.invariant.1, largest-more f loop.loop-i.i))
 
 returns : tie.Need-returns invariant-loop decreases-loop
 returns c =
-    let e : c.before.loop.i ≡ c.before.before.before.before.before.args.w = omega arith in
-    rw e at c.before.loop.invariant.1
+    let e : c.before.loop-i.i ≡ c.before.before.before.before.before.args.w = omega arith in
+    rw e at c.before.loop-i.invariant.1
 
-pub best-split-spec : {M : Type 1} → statement M
-best-split-spec =
+pub best_split_spec : {M : Type 1} → statement M
+best_split_spec =
     tie.close
     (tie.spec
     invariant-loop

@@ -15,52 +15,52 @@ use Rattle.striking.proofs.inside.pairs_at.Tie as tie
 few : (c : tie.Start) → inside_by c.args.m c.args.sums.now c.args.a c.args.w c.args.c + c.args.q ≤ most_placements
 few c = c.requires.0.few c.args.a c.args.w c.args.c c.requires.1 c.requires.2 c.requires.3
 
-has-tip-requires : tie.Need-has-tip-requires
+has-tip-requires : tie.Need-has_tip-requires
 has-tip-requires c κs = search rules
 
-pairs-among-requires : tie.Need-pairs-among-requires
+pairs-among-requires : tie.Need-pairs_among-requires
 pairs-among-requires c κs = let s = c.before.before.before.before in (s.requires.4, omega (arith, few s))
 
-cast-result : tie.Need-overflow-cast-result
+cast-result : tie.Need-overflow_cast-result
 cast-result c = search rules
 
-returns : tie.Need-returns
+returns : tie.Need-returns-then-not-has_tip
 unfolding pairs_by
 returns c =
     let s = c.before.before.before.before.before in
     let q = s.args.q in
     let n : 0 + q ≡ q = omega arith in
-    let e = c.pairs-among.ensures in
-    (rw (fails c.before.before.has-tip.ensures c.before.if1.true, n) e, omega (arith, choose2_few q (omega (arith, few s))))
+    let e = c.pairs_among.ensures in
+    (rw (fails c.before.before.has_tip.ensures c.before.if-not-has_tip.true-raw, n) e, omega (arith, choose2_few q (omega (arith, few s))))
 
-inside-at-requires : tie.Need-inside-at-requires
+inside-at-requires : tie.Need-inside_at-requires
 inside-at-requires c κs =
     let s = c.before.before.before.before in
     s.requires.0.summed s.args.a s.args.w s.args.c s.requires.1 s.requires.2 s.requires.3
 
-add-pairs-among : tie.Need-overflow-add-pairs-among
-add-pairs-among c = record { fits = omega (arith, c.inside-at.ensures, few c.before.before.before.before.before) }
+add-pairs-among : tie.Need-overflow_add-inside_at
+add-pairs-among c = record { fits = omega (arith, c.inside_at.ensures, few c.before.before.before.before.before) }
 
-pairs-among-requires-2 : tie.Need-pairs-among-requires-2
+pairs-among-requires-2 : tie.Need-pairs_among-requires-2
 pairs-among-requires-2 c κs =
     let s = c.before.before.before.before.before in
-    (s.requires.4, omega (arith, c.inside-at.ensures, few s))
+    (s.requires.4, omega (arith, c.inside_at.ensures, few s))
 
-cast-result-2 : tie.Need-overflow-cast-result-2
+cast-result-2 : tie.Need-overflow_cast-result-2
 cast-result-2 c = search rules
 
-returns-2 : tie.Need-returns-2
+returns-2 : tie.Need-returns
 unfolding pairs_by
 returns-2 c =
     let s = c.before.before.before.before.before.before in
-    let i = c.before.inside-at in
+    let i = c.before.inside_at in
     let q = s.args.q in
-    let e : c.pairs-among2.result ≡ choose2 (inside_by s.args.m s.args.sums.now s.args.a s.args.w s.args.c + q) =
-    c.pairs-among2.ensures ∙ ap (λ p. choose2 (p + q)) i.ensures in
-    (rw (passes c.before.before.before.has-tip.ensures c.before.before.if1.false) e, omega (arith, choose2_few _ (few s)))
+    let e : c.pairs_among-2.result ≡ choose2 (inside_by s.args.m s.args.sums.now s.args.a s.args.w s.args.c + q) =
+    c.pairs_among-2.ensures ∙ ap (λ p. choose2 (p + q)) i.ensures in
+    (rw (passes c.before.before.before.has_tip.ensures c.before.before.if-not-has_tip.false-raw) e, omega (arith, choose2_few _ (few s)))
 
-pub pairs-at-spec : {M : Type 1} → statement M
-pairs-at-spec =
+pub pairs_at_spec : {M : Type 1} → statement M
+pairs_at_spec =
     tie.close
     (tie.spec
     has-tip-requires

@@ -8,21 +8,21 @@ use Rattle.striking.specs.Striking.{before_by, behind_by}
 use Rattle.striking.proofs.outside.best_outside.Statement.{statement}
 use Rattle.striking.proofs.outside.best_outside.Tie as tie
 
-abbrev invariant-loop : tie.invariant-loop
+abbrev invariant-loop : tie.invariant-loop-j
 invariant-loop names m a w pairs sums inner outer best₀ j₀ best j = (a + w + j ≤ m) × (best ≡ largest (before_by names m sums inner outer a w) j)
 
-abbrev decreases-loop : tie.decreases-loop
+abbrev decreases-loop : tie.decreases-loop-j
 decreases-loop names m a w pairs sums inner outer best₀ j₀ best j = m - (a + w + j)
 
-abbrev invariant-loop2 : tie.invariant-loop2
+abbrev invariant-loop2 : tie.invariant-loop-k
 invariant-loop2 names m a w pairs sums inner outer best₀ j k₀ best k = (k ≤ a)
     × (best ≡ max (largest (before_by names m sums inner outer a w) (m - (a + w))) (largest (behind_by names m sums inner outer a w) k))
 
-abbrev decreases-loop2 : tie.decreases-loop2
+abbrev decreases-loop2 : tie.decreases-loop-k
 decreases-loop2 names m a w pairs sums inner outer best₀ j k₀ best k = a - k
 
 -- the call's start, from the first loop
-abbrev start : tie.At-loop invariant-loop decreases-loop invariant-loop2 decreases-loop2 → tie.Start invariant-loop decreases-loop invariant-loop2 decreases-loop2
+abbrev start : tie.At-loop-j invariant-loop decreases-loop invariant-loop2 decreases-loop2 → tie.Start invariant-loop decreases-loop invariant-loop2 decreases-loop2
 start c = c.before.before.before.before.before
 
 abbrev before : tie.Start invariant-loop decreases-loop invariant-loop2 decreases-loop2 → ℕ → ℕ
@@ -31,100 +31,100 @@ before c = let args = c.args in before_by args.names args.m args.sums.now args.i
 abbrev behind : tie.Start invariant-loop decreases-loop invariant-loop2 decreases-loop2 → ℕ → ℕ
 behind c = let args = c.args in behind_by args.names args.m args.sums.now args.inner.now args.outer.now args.a args.w
 
-loop-holds : tie.Need-loop-init invariant-loop decreases-loop invariant-loop2 decreases-loop2
+loop-holds : tie.Need-loop-j-init invariant-loop decreases-loop invariant-loop2 decreases-loop2
 unfolding largest
 loop-holds c = (search rules, refl)
 
-add-loop : tie.Need-overflow-add-loop invariant-loop decreases-loop invariant-loop2 decreases-loop2
+add-loop : tie.Need-overflow_add-a invariant-loop decreases-loop invariant-loop2 decreases-loop2
 add-loop c = search rules
 
-add-loop-2 : tie.Need-overflow-add-loop-2 invariant-loop decreases-loop invariant-loop2 decreases-loop2
+add-loop-2 : tie.Need-overflow_add-a-in-loop-j invariant-loop decreases-loop invariant-loop2 decreases-loop2
 add-loop-2 c = search rules
 
-add-outside-at : tie.Need-overflow-add-outside-at invariant-loop decreases-loop invariant-loop2 decreases-loop2
+add-outside-at : tie.Need-overflow_add-w invariant-loop decreases-loop invariant-loop2 decreases-loop2
 add-outside-at c = search rules
 
-add-outside-at-2 : tie.Need-overflow-add-outside-at-2 invariant-loop decreases-loop invariant-loop2 decreases-loop2
+add-outside-at-2 : tie.Need-overflow_add-w-in-loop-j invariant-loop decreases-loop invariant-loop2 decreases-loop2
 add-outside-at-2 c = search rules
 
-add-outside-at-3 : tie.Need-overflow-add-outside-at-3 invariant-loop decreases-loop invariant-loop2 decreases-loop2
+add-outside-at-3 : tie.Need-overflow_add-a-in-loop-j-2 invariant-loop decreases-loop invariant-loop2 decreases-loop2
 add-outside-at-3 c = search rules
 
-add-outside-at-4 : tie.Need-overflow-add-outside-at-4 invariant-loop decreases-loop invariant-loop2 decreases-loop2
+add-outside-at-4 : tie.Need-overflow_add-a-in-loop-j-3 invariant-loop decreases-loop invariant-loop2 decreases-loop2
 add-outside-at-4 c = search rules
 
-add-outside-at-5 : tie.Need-overflow-add-outside-at-5 invariant-loop decreases-loop invariant-loop2 decreases-loop2
+add-outside-at-5 : tie.Need-overflow_add-a-in-loop-j-4 invariant-loop decreases-loop invariant-loop2 decreases-loop2
 add-outside-at-5 c = search rules
 
-outside-at-requires : tie.Need-outside-at-requires invariant-loop decreases-loop invariant-loop2 decreases-loop2
+outside-at-requires : tie.Need-outside_at-requires invariant-loop decreases-loop invariant-loop2 decreases-loop2
 outside-at-requires c κs = search rules
 
-larger-requires : tie.Need-larger-requires invariant-loop decreases-loop invariant-loop2 decreases-loop2
+larger-requires : tie.Need-larger-best-requires invariant-loop decreases-loop invariant-loop2 decreases-loop2
 larger-requires c κs = search rules
 
-add-j : tie.Need-overflow-add-j invariant-loop decreases-loop invariant-loop2 decreases-loop2
+add-j : tie.Need-overflow_add-j invariant-loop decreases-loop invariant-loop2 decreases-loop2
 add-j c = search rules
 
-loop-less : tie.Need-loop-smaller invariant-loop decreases-loop invariant-loop2 decreases-loop2
+loop-less : tie.Need-loop-j-smaller invariant-loop decreases-loop invariant-loop2 decreases-loop2
 loop-less c = search rules
 
-loop-again : tie.Need-loop-preserved invariant-loop decreases-loop invariant-loop2 decreases-loop2
+loop-again : tie.Need-loop-j-preserved invariant-loop decreases-loop invariant-loop2 decreases-loop2
 loop-again c =
     let l = c.before.before.before in
-    (search rules, omega (arith, c.larger.ensures, c.before.outside-at.ensures, l.loop.invariant.1, largest-more (before (start l)) l.loop.j))
+    (search rules, omega (arith, c.larger-best.ensures, c.before.outside_at.ensures, l.loop-j.invariant.1, largest-more (before (start l)) l.loop-j.j))
 
-loop2-holds : tie.Need-loop2-init invariant-loop decreases-loop invariant-loop2 decreases-loop2
+loop2-holds : tie.Need-loop-k-init invariant-loop decreases-loop invariant-loop2 decreases-loop2
 unfolding largest
 loop2-holds c =
     let l = c.before in
     let s = start l in
-    let e : l.loop.j ≡ s.args.m - (s.args.a + s.args.w) = omega arith in
-    (search rules, omega (arith, rw e at l.loop.invariant.1))
+    let e : l.loop-j.j ≡ s.args.m - (s.args.a + s.args.w) = omega arith in
+    (search rules, omega (arith, rw e at l.loop-j.invariant.1))
 
-sub-outside-at : tie.Need-overflow-sub-outside-at invariant-loop decreases-loop invariant-loop2 decreases-loop2
+sub-outside-at : tie.Need-overflow_sub-a invariant-loop decreases-loop invariant-loop2 decreases-loop2
 sub-outside-at c = search rules
 
-add-outside-at-6 : tie.Need-overflow-add-outside-at-6 invariant-loop decreases-loop invariant-loop2 decreases-loop2
+add-outside-at-6 : tie.Need-overflow_add-a-in-loop-k invariant-loop decreases-loop invariant-loop2 decreases-loop2
 add-outside-at-6 c = search rules
 
-sub-outside-at-2 : tie.Need-overflow-sub-outside-at-2 invariant-loop decreases-loop invariant-loop2 decreases-loop2
+sub-outside-at-2 : tie.Need-overflow_sub-a-in-loop-k invariant-loop decreases-loop invariant-loop2 decreases-loop2
 sub-outside-at-2 c = search rules
 
-add-outside-at-7 : tie.Need-overflow-add-outside-at-7 invariant-loop decreases-loop invariant-loop2 decreases-loop2
+add-outside-at-7 : tie.Need-overflow_add-k invariant-loop decreases-loop invariant-loop2 decreases-loop2
 add-outside-at-7 c = search rules
 
-sub-outside-at-3 : tie.Need-overflow-sub-outside-at-3 invariant-loop decreases-loop invariant-loop2 decreases-loop2
+sub-outside-at-3 : tie.Need-overflow_sub-a-in-loop-k-2 invariant-loop decreases-loop invariant-loop2 decreases-loop2
 sub-outside-at-3 c = search rules
 
-outside-at-requires-2 : tie.Need-outside-at-requires-2 invariant-loop decreases-loop invariant-loop2 decreases-loop2
+outside-at-requires-2 : tie.Need-outside_at-requires-in-loop-k invariant-loop decreases-loop invariant-loop2 decreases-loop2
 outside-at-requires-2 c κs =
     let s = start c.before.before.before in
-    (s.pre.0, s.pre.1, s.pre.2, s.pre.3, omega arith, omega arith, omega arith, omega arith, s.pre.5)
+    (s.requires.0, s.requires.1, s.requires.2, s.requires.3, omega arith, omega arith, omega arith, omega arith, s.requires.5)
 
-larger-requires-2 : tie.Need-larger-requires-2 invariant-loop decreases-loop invariant-loop2 decreases-loop2
+larger-requires-2 : tie.Need-larger-best-requires-in-loop-k invariant-loop decreases-loop invariant-loop2 decreases-loop2
 larger-requires-2 c κs = search rules
 
-add-k : tie.Need-overflow-add-k invariant-loop decreases-loop invariant-loop2 decreases-loop2
+add-k : tie.Need-overflow_add-k invariant-loop decreases-loop invariant-loop2 decreases-loop2
 add-k c = search rules
 
-loop2-less : tie.Need-loop2-smaller invariant-loop decreases-loop invariant-loop2 decreases-loop2
+loop2-less : tie.Need-loop-k-smaller invariant-loop decreases-loop invariant-loop2 decreases-loop2
 loop2-less c = search rules
 
-loop2-again : tie.Need-loop2-preserved invariant-loop decreases-loop invariant-loop2 decreases-loop2
+loop2-again : tie.Need-loop-k-preserved invariant-loop decreases-loop invariant-loop2 decreases-loop2
 loop2-again c =
     let l = c.before.before.before in
     let s = start l.before.before in
-    (search rules, omega (arith, c.larger2.ensures, c.before.outside-at2.ensures, l.loop2.invariant.1, largest-more (behind s) l.loop2.k))
+    (search rules, omega (arith, c.larger-best-in-loop-k.ensures, c.before.outside_at-in-loop-k.ensures, l.loop-k.invariant.1, largest-more (behind s) l.loop-k.k))
 
 returns : tie.Need-returns invariant-loop decreases-loop invariant-loop2 decreases-loop2
 returns c =
     let l = c.before in
     let s = start l.before.before in
-    let e : l.loop2.k ≡ s.args.a = omega arith in
-    rw e at l.loop2.invariant.1
+    let e : l.loop-k.k ≡ s.args.a = omega arith in
+    rw e at l.loop-k.invariant.1
 
-pub best-outside-spec : {M : Type 1} → statement M
-best-outside-spec =
+pub best_outside_spec : {M : Type 1} → statement M
+best_outside_spec =
     tie.close
     (tie.spec
     invariant-loop

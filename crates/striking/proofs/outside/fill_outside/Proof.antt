@@ -15,28 +15,28 @@ use Rattle.striking.proofs.Outer.{out_few, outside_more, outside_next, outside_f
 use Rattle.striking.proofs.outside.fill_outside.Statement.{statement}
 use Rattle.striking.proofs.outside.fill_outside.Tie as tie
 
-abbrev invariant-loop2 : tie.invariant-loop2
+abbrev invariant-loop2 : tie.invariant-loop-a
 invariant-loop2 names m pairs sums inner outer₀ w a₀ outer a =
     (a + w ≤ m + 1) × (length outer ≡ length outer₀)
     × ((lines : List ℕ) → RunSums names m 0 lines sums → InsideAll m lines inner → Outside m always (C lines) lines outer w a)
 
-abbrev decreases-loop2 : tie.decreases-loop2
+abbrev decreases-loop2 : tie.decreases-loop-a
 decreases-loop2 names m pairs sums inner outer₀ w a₀ outer a = m + 1 - (a + w)
 
-abbrev invariant-loop : tie.invariant-loop
+abbrev invariant-loop : tie.invariant-loop-w
 invariant-loop names m pairs sums inner outer₀ w₀ outer w =
     (w ≤ m) × (length outer ≡ length outer₀)
     × ((lines : List ℕ) → RunSums names m 0 lines sums → InsideAll m lines inner → Outside m always (C lines) lines outer w 0)
 
-abbrev decreases-loop : tie.decreases-loop
+abbrev decreases-loop : tie.decreases-loop-w
 decreases-loop names m pairs sums inner outer₀ w₀ outer w = w
 
 -- the call's start, from the outer loop
-abbrev start : tie.At-loop invariant-loop2 decreases-loop2 invariant-loop decreases-loop → tie.Start invariant-loop2 decreases-loop2 invariant-loop decreases-loop
+abbrev start : tie.At-loop-w invariant-loop2 decreases-loop2 invariant-loop decreases-loop → tie.Start invariant-loop2 decreases-loop2 invariant-loop decreases-loop
 start c = c.before.before.before.before.before
 
 -- what is known in the inner loop
-module _ (c : tie.In-loop2 invariant-loop2 decreases-loop2 invariant-loop decreases-loop) where
+module _ (c : tie.In-loop-a invariant-loop2 decreases-loop2 invariant-loop decreases-loop) where
   abbrev s : tie.Start invariant-loop2 decreases-loop2 invariant-loop decreases-loop
   s = start c.before.before.before
 
@@ -47,98 +47,98 @@ module _ (c : tie.In-loop2 invariant-loop2 decreases-loop2 invariant-loop decrea
   a = c.before.loop2.a
 
   room : s.args.m * s.args.m ≤ length c.before.loop2.outer
-  room = let (lines, k, i) = s.pre.0 in (c.before.loop2.invariant.2 lines k i).room
+  room = let (lines, k, i) = s.requires.0 in (c.before.loop2.invariant.2 lines k i).room
 
   place : a * s.args.m + (a + (w - 1)) < s.args.m * s.args.m
   place = place_lt s.args.m a w (omega arith) (omega arith)
 
   rack : s.args.m ≤ most_tips
-  rack = s.pre.0.1.rack
+  rack = s.requires.0.1.rack
 
   square : s.args.m * s.args.m ≤ most_tips * most_tips
   square = mul-le-mul rack rack
 
 -- the value is few
-few : (c : tie.After-best-outside invariant-loop2 decreases-loop2 invariant-loop decreases-loop) → c.best-outside.result ≤ most_tips * most_pairs
+few : (c : tie.After-best_outside-best invariant-loop2 decreases-loop2 invariant-loop decreases-loop) → c.best_outside-best.result ≤ most_tips * most_pairs
 few c =
     let b = c.before.before in
     let (lines, k, i) = (s b).requires.0 in
-    omega (arith, c.best-outside.ensures, out_few k i (b.before.loop2.invariant.2 lines k i) (omega arith) (omega arith))
+    omega (arith, c.best_outside-best.ensures, out_few k i (b.before.loop2.invariant.2 lines k i) (omega arith) (omega arith))
 
-loop-holds : tie.Need-loop-init invariant-loop2 decreases-loop2 invariant-loop decreases-loop
+loop-holds : tie.Need-loop-w-init invariant-loop2 decreases-loop2 invariant-loop decreases-loop
 loop-holds c =
     let b = c.before.before.before.before in
     (search rules, refl, λ lines k i. outside_first always (C lines) lines b.args.outer.now b.requires.1)
 
-loop2-holds : tie.Need-loop2-init invariant-loop2 decreases-loop2 invariant-loop decreases-loop
-loop2-holds c = (omega (arith, c.before.loop.invariant.0), refl, c.before.loop.invariant.2)
+loop2-holds : tie.Need-loop-a-init invariant-loop2 decreases-loop2 invariant-loop decreases-loop
+loop2-holds c = (omega (arith, c.before.loop-w.invariant.0), refl, c.before.loop-w.invariant.2)
 
-add-loop2 : tie.Need-overflow-add-loop2 invariant-loop2 decreases-loop2 invariant-loop decreases-loop
+add-loop2 : tie.Need-overflow_add-a invariant-loop2 decreases-loop2 invariant-loop decreases-loop
 add-loop2 c = search rules
 
-best-outside-requires : tie.Need-best-outside-requires invariant-loop2 decreases-loop2 invariant-loop decreases-loop
+best-outside-requires : tie.Need-best_outside-best-requires invariant-loop2 decreases-loop2 invariant-loop decreases-loop
 best-outside-requires c κs =
     let b = c.before in
     let (lines, k, i) = (s b).requires.0 in
     (ready k, rack b, i.room, room b, omega arith, (s b).requires.2)
 
-cast-outer : tie.Need-overflow-cast-outer invariant-loop2 decreases-loop2 invariant-loop decreases-loop
+cast-outer : tie.Need-overflow_cast-outer invariant-loop2 decreases-loop2 invariant-loop decreases-loop
 cast-outer c = record { fits = omega (arith, few c) }
 
-mul-outer : tie.Need-overflow-mul-outer invariant-loop2 decreases-loop2 invariant-loop decreases-loop
+mul-outer : tie.Need-overflow_mul-outer invariant-loop2 decreases-loop2 invariant-loop decreases-loop
 mul-outer c = record { fits = omega (arith, place c.before.before, rack c.before.before, square c.before.before) }
 
-sub-outer : tie.Need-overflow-sub-outer invariant-loop2 decreases-loop2 invariant-loop decreases-loop
+sub-outer : tie.Need-overflow_sub-outer invariant-loop2 decreases-loop2 invariant-loop decreases-loop
 sub-outer c = search rules
 
-add-outer : tie.Need-overflow-add-outer invariant-loop2 decreases-loop2 invariant-loop decreases-loop
+add-outer : tie.Need-overflow_add-outer invariant-loop2 decreases-loop2 invariant-loop decreases-loop
 add-outer c = search rules
 
-add-outer-2 : tie.Need-overflow-add-outer-2 invariant-loop2 decreases-loop2 invariant-loop decreases-loop
+add-outer-2 : tie.Need-overflow_add-outer-in-loop-a invariant-loop2 decreases-loop2 invariant-loop decreases-loop
 add-outer-2 c = record { fits = omega (arith, place c.before.before, square c.before.before) }
 
-mul-outer-2 : tie.Need-overflow-mul-outer-2 invariant-loop2 decreases-loop2 invariant-loop decreases-loop
+mul-outer-2 : tie.Need-offset_bounds-outer-a invariant-loop2 decreases-loop2 invariant-loop decreases-loop
 mul-outer-2 c = record { fits = omega (arith, place c.before.before, square c.before.before) }
 
-slice-write-outer : tie.Need-slice-write-outer invariant-loop2 decreases-loop2 invariant-loop decreases-loop
+slice-write-outer : tie.Need-bounds-outer-a invariant-loop2 decreases-loop2 invariant-loop decreases-loop
 slice-write-outer c = omega (arith, place c.before.before, room c.before.before)
 
-add_a : tie.Need-overflow-add-a invariant-loop2 decreases-loop2 invariant-loop decreases-loop
+add_a : tie.Need-overflow_add-a invariant-loop2 decreases-loop2 invariant-loop decreases-loop
 add_a c = search rules
 
-loop2-less : tie.Need-loop2-smaller invariant-loop2 decreases-loop2 invariant-loop decreases-loop
+loop2-less : tie.Need-loop-a-smaller invariant-loop2 decreases-loop2 invariant-loop decreases-loop
 loop2-less c = search rules
 
-loop2-again : tie.Need-loop2-preserved invariant-loop2 decreases-loop2 invariant-loop decreases-loop
+loop2-again : tie.Need-loop-a-preserved invariant-loop2 decreases-loop2 invariant-loop decreases-loop
 loop2-again c =
     let b = c.before.before in (
       search rules,
       rw length-set b.before.loop2.invariant.1,
-      λ lines k i. outside_more k i (b.before.loop2.invariant.2 lines k i) (omega arith) (omega arith) c.best-outside.ensures,
+      λ lines k i. outside_more k i (b.before.loop2.invariant.2 lines k i) (omega arith) (omega arith) c.best_outside-best.ensures,
     )
 
-sub-w : tie.Need-overflow-sub-w invariant-loop2 decreases-loop2 invariant-loop decreases-loop
+sub-w : tie.Need-overflow_sub-w invariant-loop2 decreases-loop2 invariant-loop decreases-loop
 sub-w c = search rules
 
-loop-less : tie.Need-loop-smaller invariant-loop2 decreases-loop2 invariant-loop decreases-loop
+loop-less : tie.Need-loop-w-smaller invariant-loop2 decreases-loop2 invariant-loop decreases-loop
 loop-less c = search rules
 
-loop-again : tie.Need-loop-preserved invariant-loop2 decreases-loop2 invariant-loop decreases-loop
+loop-again : tie.Need-loop-w-preserved invariant-loop2 decreases-loop2 invariant-loop decreases-loop
 loop-again c =
-    let p = c.before.before.loop-test.true in
-    let l = c.before.loop2 in
-    (search rules, l.invariant.1 ∙ c.before.before.before.loop.invariant.1, λ lines k i. outside_next p (omega arith) (l.invariant.2 lines k i))
+    let p = c.before.before.loop-w-test.true in
+    let l = c.before.loop-a in
+    (search rules, l.invariant.1 ∙ c.before.before.before.loop-w.invariant.1, λ lines k i. outside_next p (omega arith) (l.invariant.2 lines k i))
 
-same_length : tie.Need-same-length invariant-loop2 decreases-loop2 invariant-loop decreases-loop
-same_length c = c.before.loop.invariant.1
+same_length : tie.Need-shape_of-outer invariant-loop2 decreases-loop2 invariant-loop decreases-loop
+same_length c = c.before.loop-w.invariant.1
 
 returns : tie.Need-returns invariant-loop2 decreases-loop2 invariant-loop decreases-loop
 returns c =
-    let e : c.before.loop.w ≡ 0 = omega arith in
-    rw e at c.before.loop.invariant.2
+    let e : c.before.loop-w.w ≡ 0 = omega arith in
+    rw e at c.before.loop-w.invariant.2
 
-pub fill-outside-spec : {M : Type 1} → statement M
-fill-outside-spec =
+pub fill_outside_spec : {M : Type 1} → statement M
+fill_outside_spec =
     tie.close
     (tie.spec
     invariant-loop2

@@ -12,7 +12,7 @@ use Rattle.striking.proofs.reach.follow.Statement.{statement}
 use Rattle.striking.proofs.reach.follow.Tie as tie
 
 -- the call's start
-abbrev start : tie.After-best-outside → tie.Start
+abbrev start : tie.After-best_outside-outside → tie.Start
 start c = c.before.before.before.before.before.before
 
 -- the place of the interval
@@ -32,48 +32,48 @@ module _ (c : tie.Start) where
       let args = c.args in
       tips_by args.names args.m args.sums.now args.inner.now args.q args.set args.goal o args.a args.w
 
-best-outside-requires : tie.Need-best-outside-requires
+best-outside-requires : tie.Need-best_outside-outside-requires
 best-outside-requires c κs =
     let s = c.before.before.before.before.before in
     (ready_none s.requires.0, s.requires.1, s.requires.2, s.requires.3, s.requires.5, s.requires.7)
 
-cast-outer : tie.Need-overflow-cast-outer
+cast-outer : tie.Need-overflow_cast-outer
 cast-outer c = search rules
 
-mul-outer : tie.Need-overflow-mul-outer
+mul-outer : tie.Need-overflow_mul-outer
 mul-outer c = record { fits = omega (arith, within (start c), square (start c)) }
 
-sub-outer : tie.Need-overflow-sub-outer
+sub-outer : tie.Need-overflow_sub-outer
 sub-outer c = search rules
 
-add-outer : tie.Need-overflow-add-outer
+add-outer : tie.Need-overflow_add-outer
 add-outer c = search rules
 
-add-outer-2 : tie.Need-overflow-add-outer-2
+add-outer-2 : tie.Need-overflow_add-outer-2
 add-outer-2 c = record { fits = omega (arith, within (start c), square (start c)) }
 
-mul-outer-2 : tie.Need-overflow-mul-outer-2
+mul-outer-2 : tie.Need-offset_bounds-outer-a
 mul-outer-2 c = record { fits = omega (arith, within (start c), square (start c)) }
 
-slice-write-outer : tie.Need-slice-write-outer
+slice-write-outer : tie.Need-bounds-outer-a
 slice-write-outer c = omega (arith, within (start c), (start c).requires.3)
 
-ended-tips-requires : tie.Need-ended-tips-requires
+ended-tips-requires : tie.Need-ended_tips-requires
 ended-tips-requires c κs =
     let s = start c in
-    (s.pre.0, s.pre.1, s.pre.2, s.pre.5, omega (arith, c.best-outside.ensures, s.pre.6), s.pre.7, s.pre.8)
+    (s.requires.0, s.requires.1, s.requires.2, s.requires.5, omega (arith, c.best_outside-outside.ensures, s.requires.6), s.requires.7, s.requires.8)
 
-same_length : tie.Need-same-length
+same_length : tie.Need-shape_of-outer
 same_length c = search rules
 
 returns : tie.Need-returns
 returns c =
     let b = c.before in
     let s = start b in
-    (c.ended-tips.ensures ∙ ap (tips s) b.best-outside.ensures, ap (set s.args.outer.now (place s)) b.best-outside.ensures)
+    (c.ended_tips.ensures ∙ ap (tips s) b.best_outside-outside.ensures, ap (set s.args.outer.now (place s)) b.best_outside-outside.ensures)
 
-pub follow-spec : {M : Type 1} → statement M
-follow-spec =
+pub follow_spec : {M : Type 1} → statement M
+follow_spec =
     tie.close
     (tie.spec
     best-outside-requires

@@ -22,75 +22,75 @@ in-sums c = rw c.requires.size (
   digits_lt (omega arith) (omega arith),
 )
 
-add-width : tie.Need-overflow-add-width
+add-width : tie.Need-overflow_add-width
 add-width c = search rules
 
-add-end : tie.Need-overflow-add-end
+add-end : tie.Need-overflow_add-end
 add-end c = search rules
 
-add-last : tie.Need-overflow-add-last
+add-last : tie.Need-overflow_add-last
 add-last c = search rules
 
-mul-last : tie.Need-overflow-mul-last
+mul-last : tie.Need-overflow_mul-last
 mul-last c = record { fits = omega (arith, in-sums c) }
 
-mul-first : tie.Need-overflow-mul-first
+mul-first : tie.Need-overflow_mul-first
 mul-first c = record { fits = omega (arith, in-sums c) }
 
-mul_next : tie.Need-overflow-mul-next
+mul_next : tie.Need-overflow_mul-next
 mul_next c = record { fits = omega (arith, in-sums c) }
 
-add-result : tie.Need-overflow-add-result
+add-result : tie.Need-overflow_add-result
 add-result c = record { fits = omega (arith, in-sums c) }
 
-mul-result : tie.Need-overflow-mul-result
+mul-result : tie.Need-offset_bounds-sums-last
 mul-result c = record { fits = omega (arith, in-sums c) }
 
-shared-slice-read-result : tie.Need-shared-slice-read-result
+shared-slice-read-result : tie.Need-bounds-sums-last
 shared-slice-read-result c = omega (arith, in-sums c.before)
 
-add-result-2 : tie.Need-overflow-add-result-2
+add-result-2 : tie.Need-overflow_add-result-2
 add-result-2 c = record { fits = omega (arith, in-sums c.before) }
 
-mul-result-2 : tie.Need-overflow-mul-result-2
+mul-result-2 : tie.Need-offset_bounds-sums-first
 mul-result-2 c = record { fits = omega (arith, in-sums c.before) }
 
-shared-slice-read-result-2 : tie.Need-shared-slice-read-result-2
+shared-slice-read-result-2 : tie.Need-bounds-sums-first
 shared-slice-read-result-2 c = omega (arith, in-sums c.before.before)
 
-add-result-3 : tie.Need-overflow-add-result-3
+add-result-3 : tie.Need-overflow_add-result-3
 add-result-3 c = search rules
 
-add-result-4 : tie.Need-overflow-add-result-4
+add-result-4 : tie.Need-overflow_add-result-4
 add-result-4 c = record { fits = omega (arith, in-sums c.before.before) }
 
-mul-result-3 : tie.Need-overflow-mul-result-3
+mul-result-3 : tie.Need-offset_bounds-sums-first-2
 mul-result-3 c = record { fits = omega (arith, in-sums c.before.before) }
 
-shared-slice-read-result-3 : tie.Need-shared-slice-read-result-3
+shared-slice-read-result-3 : tie.Need-bounds-sums-first-2
 shared-slice-read-result-3 c = omega (arith, in-sums c.before.before.before)
 
-sub-result : tie.Need-overflow-sub-result
+sub-result : tie.Need-overflow_sub-result
 sub-result c = search rules
 
-add-result-5 : tie.Need-overflow-add-result-5
+add-result-5 : tie.Need-overflow_add-result-5
 add-result-5 c = record { fits = omega (arith, in-sums c.before.before.before) }
 
-mul-result-4 : tie.Need-overflow-mul-result-4
+mul-result-4 : tie.Need-offset_bounds-sums-next
 mul-result-4 c = record { fits = omega (arith, in-sums c.before.before.before) }
 
-shared-slice-read-result-4 : tie.Need-shared-slice-read-result-4
+shared-slice-read-result-4 : tie.Need-bounds-sums-next
 shared-slice-read-result-4 c = omega (arith, in-sums c.before.before.before.before)
 
-sub-result-2 : tie.Need-overflow-sub-result-2
+sub-result-2 : tie.Need-overflow_sub-result-2
 sub-result-2 c = search rules
 
 returns : tie.Need-returns
 unfolding meeting_by
 returns c = (refl, c.before.before.before.before.requires.few)
 
-pub meeting-at-spec : {M : Type 1} → statement M
-meeting-at-spec =
+pub meeting_at_spec : {M : Type 1} → statement M
+meeting_at_spec =
     tie.close
     (tie.spec
     add-width

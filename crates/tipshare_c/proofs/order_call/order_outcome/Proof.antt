@@ -4,13 +4,13 @@ use Rattle.tipshare_c.specs.Order.{order_outcome}
 use Rattle.tipshare_c.proofs.order_call.order_outcome.Statement.{statement}
 use Rattle.tipshare_c.proofs.order_call.order_outcome.Tie as tie
 
-returns : tie.Need-returns
+returns : tie.Need-returns-then-refusal-ne0
 unfolding order_outcome
-returns c = rw (ne_eqb c.before.before.args.refusal.number 0 (λ z. omega (arith, z, c.if1.true)))
+returns c = rw (ne_eqb c.before.before.args.refusal.number 0 (λ z. omega (arith, z, c.if-refusal-ne0.true)))
 
-returns-2 : tie.Need-returns-2
+returns-2 : tie.Need-returns
 unfolding order_outcome
 returns-2 c = rw (eq-eqb c.before.before.args.refusal.number 0 (omega arith))
 
-pub order-outcome-spec : {M : Type 1} → statement M
-order-outcome-spec = tie.close (tie.spec returns returns-2)
+pub order_outcome_spec : {M : Type 1} → statement M
+order_outcome_spec = tie.close (tie.spec returns returns-2)
