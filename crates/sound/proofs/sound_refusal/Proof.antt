@@ -41,21 +41,21 @@ in-range c =
     rw (passes d.before.rack_ok.ensures d.if-not-rack_ok.false-raw, le-leb _ 512 c.if-count-gt-MOST_LINES.false)
 
 slice-aggregate-line-refusal : tie.Need-slice_bounds-line_refusal-end
-slice-aggregate-line-refusal c = let a = (begun c.before).args in sym (length-take-le a.count a.sets.now (omega arith))
+slice-aggregate-line-refusal c = let a = (begun c).args in sym (length-take-le a.count a.sets.now (omega arith))
 
 slice-aggregate-line-refusal-2 : tie.Need-slice_bounds-line_refusal-end-2
-slice-aggregate-line-refusal-2 c = let a = (begun c.before.before).args in sym (length-take-le a.count a.quantities.now (omega arith))
+slice-aggregate-line-refusal-2 c = let a = (begun c).args in sym (length-take-le a.count a.quantities.now (omega arith))
 
 line-refusal-requires : tie.Need-line_refusal-bad_line-requires
 line-refusal-requires c κs =
-    let a = (begun c.before.before).args in
+    let a = (begun c).args in
     omega (arith, length-take a.count a.sets.now, length-take a.count a.quantities.now)
 
 returns-3 : tie.Need-returns-then-bad_line-ne0
 unfolding sound_refusal
 returns-3 c =
     let d = c.before.before in
-    or_next (in-range d.before.before.before) _ refl (or_first d.line_refusal-bad_line.ensures _ c.if-bad_line-ne0.true)
+    or_next (in-range d.before) _ refl (or_first d.line_refusal-bad_line.ensures _ c.if-bad_line-ne0.true)
 
 rest-refusal-requires : tie.Need-rest_refusal-requires
 rest-refusal-requires c κs = search rules
@@ -64,7 +64,7 @@ returns-4 : tie.Need-returns
 unfolding sound_refusal
 returns-4 c =
     let d = c.before.before.before in
-    or_next (in-range d.before.before.before) _ refl (or_next d.line_refusal-bad_line.ensures _ c.before.if-bad_line-ne0.false c.rest_refusal.ensures)
+    or_next (in-range d.before) _ refl (or_next d.line_refusal-bad_line.ensures _ c.before.if-bad_line-ne0.false c.rest_refusal.ensures)
 
 pub sound_refusal_spec : {M : Type 1} → statement M
 sound_refusal_spec =

@@ -65,7 +65,7 @@ add-found c =
     let l = looped w in
     let s = called l in
     let b = one_le (has (get_or s.args.sets.now w.wide.result 0) s.args.tip) true (λ _. tt) in
-    record { fits = omega (arith, c.one_if_has-found.ensures, l.loop-k.invariant.2.rising.most, s.good) }
+    record { fits = omega (arith, c.one_if_has-found.ensures, l.loop-k.invariant.2.rising.most, s.well_formed) }
 
 add-k : tie.Need-overflow_add-k invariant-loop decreases-loop
 add-k c = search rules
