@@ -52,7 +52,7 @@ table_is c =
 ready : (c : tie.After-fill_table)
     → let b = summed-2 c in
     let s = start b in
-    Ready s.args.m (placed s) b.sum_spans.last.1.1.1.0 c.fill_table.new.table
+    Ready s.args.m (placed s) b.sum_spans.new.sums c.fill_table.new.table
 ready c =
     let b = summed-2 c in
     let r = runs (start b) in
@@ -82,7 +82,7 @@ plan-lines-requires c κs =
     let b = summed-2 f in
     let s = start b in
     let p = s.requires in
-    ((placed s, ready f), p.0.good.domains, p.0.runs, b.before.before.pair_table-pairs.ensures, p.2, p.3)
+    ((placed s, ready f), p.0.good.domains, p.0.runs, b.pair_table-pairs.ensures, p.2, p.3)
 
 same_length : tie.Need-shape_of-sums
 same_length c = search rules
@@ -101,7 +101,7 @@ returns c =
     let planned = c.before.before.before.before in
     let f = filled-2 planned.before in
     let s = start (summed-2 f) in
-    (planned.plan_lines.ensures (placed s) (ready f) ∙ plan_placed s.requires.0 (on_head s.args.mounted), table_is f)
+    (planned.plan-lines.ensures (placed s) (ready f) ∙ plan_placed s.requires.0 (on_head s.args.mounted), table_is f)
 
 pub plan_in_spec : {M : Type 1} → statement M
 plan_in_spec =

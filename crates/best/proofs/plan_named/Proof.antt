@@ -114,9 +114,9 @@ returns c =
     let p = s.requires in
     let e = l.list_tips-r.ensures in
     let done = planned.plan_ranks.ensures in
-    steps p.0 p.1 e.0 e.1.0 e.1.1 (on_head s.args.mounted) planned.plan_ranks.last.1.1.1.1.1.0
+    steps p.0 p.1 e.0 e.1.0 e.1.1 (on_head s.args.mounted) planned.plan_ranks.new.table
     (renumbered-2 asked).renumber-lines.ensures (mounted asked).renumber-mounted.ensures done.0 done.1 tips.name_tips.ensures
-    spread.spread_table.ensures
+    spread.spread-table.ensures
 
 pub plan_named_spec : {M : Type 1} → statement M
 plan_named_spec =

@@ -18,10 +18,10 @@ module _ (c : tie.After-small_sums-sums) where
   sized = c.before.before
 
   few : (start sized).args.m ≤ 16
-  few = c.before.if1.true
+  few = c.if-m-le16.true
 
-  small-room : length (take sized.sums_size-size.result c.small-sums.result) ≡ sums_size (start sized).args.m
-  small-room = lent c.small-sums.result few c.small-sums.ensures sized.sums_size-size.ensures
+  small-room : length (take sized.sums_size-size.result c.small_sums-sums.result) ≡ sums_size (start sized).args.m
+  small-room = lent c.small_sums-sums.result few c.small_sums-sums.ensures sized.sums_size-size.ensures
 
 -- and so for any rack
 module _ (c : tie.After-most_sums-sums) where
@@ -31,8 +31,8 @@ module _ (c : tie.After-most_sums-sums) where
   narrow : (start begun).args.m ≤ 64
   narrow = (start begun).requires.0.good.most
 
-  most-room : length (take begun.sums_size-size.result c.most-sums.result) ≡ sums_size (start begun).args.m
-  most-room = lent c.most-sums.result narrow c.most-sums.ensures begun.sums_size-size.ensures
+  most-room : length (take begun.sums_size-size.result c.most_sums-sums.result) ≡ sums_size (start begun).args.m
+  most-room = lent c.most_sums-sums.result narrow c.most_sums-sums.ensures begun.sums_size-size.ensures
 
 sums-size-requires : tie.Need-sums_size-size-requires
 sums-size-requires c κs = search rules

@@ -35,16 +35,16 @@ returns-3 c =
     let bad = c.before in
     let numbered = bad.before in
     let room = numbered.before in
-    let e = numbered.line_number-number.ensures in
+    let e = numbered.line-number.ensures in
     c.refuse-then-number-ne0.ensures
     ∙ ap refuse e
-    ∙ add-line _ room.before.if-earlier-ne0.false _ _ _ _ _ room.if-count-eq-MOST_LINES.false (λ z. bad.if-number-ne0.true (e ∙ z))
+    ∙ add-line _ room.before.if1.false _ _ _ _ _ room.if2.false (λ z. bad.if3.true (e ∙ z))
 
 -- nothing is refused before the total: the lines are as many as the count, and their placements few
 lines : (d : tie.Else-number-ne0) →
-    let a = d.before.before.before.before.before.before.args in
+    let a = d.args in
     (a.count ≤ length a.quantities.now) × (total (take a.count a.quantities.now) ≤ most_placements)
-lines d = let free = d.before.before.before in free.before.before.before.requires free.if-earlier-ne0.false
+lines d = let free = d.before.before.before in free.before.before.before.requires free.if1.false
 
 slice-aggregate-total : tie.Need-slice_bounds-total-end
 slice-aggregate-total c = sym (length-take-le _ _ (lines c.before).0)

@@ -43,14 +43,14 @@ slice-aggregate-sums-fit-2 : tie.Need-slice_bounds-sums_fit-end-2
 slice-aggregate-sums-fit-2 c =
     let z = c.before.before in
     let s = start (claimed z) in
-    z.sums_size-size.ensures ∙ sym (lent z.before.most_sums-sums.result s.requires.0.good.most z.before.most_sums-sums.ensures z.sums_size-size.ensures)
+    z.sums-size.ensures ∙ sym (lent z.before.most-sums.result s.requires.0.good.most z.before.most-sums.ensures z.sums-size.ensures)
 
 sums-fit-requires : tie.Need-sums_fit-fits-requires
 sums-fit-requires c κs =
     let z = c.before.before in
     let s = start (claimed z) in
-    let room = lent z.before.most_sums-sums.result s.requires.0.good.most z.before.most_sums-sums.ensures z.sums_size-size.ensures in
-    (s.requires.0, s.requires.2, (claimed z).before.before.pair_table-pairs.ensures, room)
+    let room = lent z.before.most-sums.result s.requires.0.good.most z.before.most-sums.ensures z.sums-size.ensures in
+    (s.requires.0, s.requires.2, (claimed z).pair_table-pairs.ensures, room)
 
 refuse-when-requires : tie.Need-refuse_when-requires
 refuse-when-requires c κs = search rules
@@ -59,7 +59,7 @@ returns-2 : tie.Need-returns
 unfolding check_refusal
 returns-2 c =
     let z = c.before.before.before.before.before in
-    or_next (claimed z).claim_refusal-refusal.ensures _ z.before.before.if-refusal-ne0.false (c.refuse_when.ensures ∙ rw c.before.before.sums_fit-fits.ensures)
+    or_next (claimed z).claim_refusal-refusal.ensures _ z.before.before.if1.false (c.refuse_when.ensures ∙ rw c.before.before.sums_fit-fits.ensures)
 
 pub check_plan_spec : {M : Type 1} → statement M
 check_plan_spec =

@@ -45,9 +45,9 @@ returns : tie.Need-returns
 returns c =
     let b = c.before.before in
     let s = start b in
-    let counted = b.before.before.before.count_tips.ensures in
-    let tips = b.busiest_tips-busiest.ensures.1 ∙ tips-W counted s.args.rack (top-is b) in
-    (top-is b, (ap (λ n. n - b.busiest_tips-busiest.result.top) c.total.ensures, tips))
+    let counted = b.before.before.before.count-tips.ensures in
+    let tips = b.busiest-tips.ensures.1 ∙ tips-W counted s.args.rack (top-is b) in
+    (top-is b, (ap (λ n. n - b.busiest-tips.result.top) c.total.ensures, tips))
 
 pub common_tip_spec : {M : Type 1} → statement M
 common_tip_spec =

@@ -57,8 +57,8 @@ tips-with-requires c κs =
     let m = c.before.before in
     let b = m.before.before.before in
     let s = start b in
-    let n = m.before.before.total-n.ensures in
-    (b.before.before.before.count_tips.ensures.size, s.requires.0, omega (arith, c.least_count.ensures, n, s.requires.1.few))
+    let n = m.before.before.total.ensures in
+    (b.before.before.before.count-tips.ensures.size, s.requires.0, omega (arith, c.least_count.ensures, n, s.requires.1.few))
 
 returns : tie.Need-returns
 returns c =
@@ -68,12 +68,12 @@ returns c =
     let qs = s.args.quantities.now in
     let lines = s.args.lines.now in
     let k = s.args.k in
-    let counted = b.before.before.before.count_tips.ensures in
-    let all = m.before.before.total-n.ensures ∙ sym (length-repeated qs lines s.requires.1.same) in
+    let counted = b.before.before.before.count-tips.ensures in
+    let all = m.before.before.total.ensures ∙ sym (length-repeated qs lines s.requires.1.same) in
     let e = m.margin.ensures ∙ ap₂ (λ t x. margin_by t x k) (top-is b) all ∙ margin-by s.args.rack (repeated qs lines) k in (
       to_z-of_z w32 m.margin.result (rw e (margin_small s.args.rack k s.requires.1 s.fits.k.fits)) ∙ e,
       (
-        m.before.before.total-n.ensures,
+        m.before.before.total.ensures,
         c.tips_with.ensures ∙ least_common s.args.rack k counted (c.before.least_count.ensures ∙ ap (λ x. least_count x k) all),
       ),
     )

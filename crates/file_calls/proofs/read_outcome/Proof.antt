@@ -35,8 +35,8 @@ returns-2 : tie.Need-returns
 unfolding read_in
 returns-2 c =
     let d = c.before.before in
-    let asked = d.before.before.read_refusal-refusal.ensures in
-    rw (c.before.rack_in.ensures, c.count_in.ensures, asked, eq-eqb _ 0 (number_of asked d.if-refusal-ne0.false)) refl
+    let asked = d.before.before.read-refusal.ensures in
+    rw (c.before.rack_in.ensures, c.count_in.ensures, asked, eq-eqb _ 0 (number_of asked d.if1.false)) refl
 
 pub read_outcome_spec : {M : Type 1} → statement M
 read_outcome_spec =

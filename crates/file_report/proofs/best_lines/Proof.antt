@@ -42,7 +42,7 @@ returns c =
     let a = asked best.before in
     let (good, size) = (begun-2 best.before).requires in
     let (answer, (plan, _)) = best.best-laid.ensures in
-    best_is good a.refuse.ensures _ size a.before.table_buffer-table.ensures answer plan
+    best_is good a.refuse.ensures _ size a.table_buffer-table.ensures answer plan
 
 pub best_lines_spec : {M : Type 1} → statement M
 best_lines_spec =

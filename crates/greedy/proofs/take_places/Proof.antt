@@ -153,8 +153,8 @@ same-length-4 c = c.before.loop-k.invariant.2
 returns : tie.Need-returns invariant-loop decreases-loop
 returns c =
     let l = c.before in
-    let e : l.loop-k.k ≡ (called l).args.n = omega arith in
-    rw (← e) l.loop-k.invariant.3
+    let e : l.loop.k ≡ (called l).args.n = omega arith in
+    rw (← e) l.loop.invariant.3
 
 pub take_places_spec : {M : Type 1} → statement M
 take_places_spec =

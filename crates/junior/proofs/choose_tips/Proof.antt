@@ -91,7 +91,7 @@ module _ (l : tie.At-loop-i invariant-loop2 decreases-loop2 invariant-tips decre
       subst (λ x. Sought m qs lines (u * m + x) t.best) (sym l.loop-i.invariant.1) t.invariant.2
 
   -- no more placements are counted than there are
-  counts : (l.loop-i.with-u ≤ s.args.all) × (l.loop-i.with-v ≤ s.args.all) × (s.args.all ≤ most_placements)
+  counts : (l.loop-i.with_u ≤ s.args.all) × (l.loop-i.with_v ≤ s.args.all) × (s.args.all ≤ most_placements)
   counts = (
     omega (arith, s.requires.1, l.loop-i.invariant.3, part_le (λ t. has t u) qs lines i),
     omega (arith, s.requires.1, l.loop-i.invariant.4, part_le (λ t. has t v) qs lines i),
@@ -136,8 +136,8 @@ tips-again : tie.Need-tips-preserved-then-not-has_one invariant-loop2 decreases-
 tips-again c =
     let r = c.before.before.before in
     let l = r.before in
-    let gone = given_up (good l) (u l) (v l) (i l) (inside l) r.loop-i-test.true l.loop-i.invariant.2
-    (fails c.before.has_one.ensures c.if-not-has_one.true-raw) in
+    let gone = given_up (good l) (u l) (v l) (i l) (inside l) r.loop2-test.true l.loop2.invariant.2
+    (fails c.before.has_one.ensures c.if1.true) in
     (omega arith, search rules, rw (sym (next l)) (sought_stays (sought l) (omega (arith, gone))))
 
 shared-slice-read-placed :
@@ -151,7 +151,7 @@ add-with-u : tie.Need-overflow_add-with_u invariant-loop2 decreases-loop2 invari
 add-with-u c =
     let r = turn c in
     let l = r.before in
-    record { fits = omega (arith, (counted-more (good l) (u l) (v l) (i l) r.loop-i-test.taken (u l) l.loop-i.invariant.3 c.placed-with_u.ensures).1) }
+    record { fits = omega (arith, (counted-more (good l) (u l) (v l) (i l) r.loop-i-test.true (u l) l.loop-i.invariant.3 c.placed-with_u.ensures).1) }
 
 shared-slice-read-placed-2 :
     tie.Need-bounds-quantities-i-in-loop-i invariant-loop2 decreases-loop2 invariant-tips decreases-tips invariant-loop decreases-loop
@@ -164,7 +164,7 @@ add-with-v : tie.Need-overflow_add-with_v invariant-loop2 decreases-loop2 invari
 add-with-v c =
     let r = turn c.before.before in
     let l = r.before in
-    record { fits = omega (arith, (counted-more (good l) (u l) (v l) (i l) r.loop-i-test.taken (v l) l.loop-i.invariant.4 c.placed-with_v.ensures).1) }
+    record { fits = omega (arith, (counted-more (good l) (u l) (v l) (i l) r.loop-i-test.true (v l) l.loop-i.invariant.4 c.placed-with_v.ensures).1) }
 
 add-i : tie.Need-overflow_step-i invariant-loop2 decreases-loop2 invariant-tips decreases-tips invariant-loop decreases-loop
 add-i c = search rules
@@ -177,12 +177,12 @@ loop2-again c =
     let p = c.before.before in
     let r = turn p in
     let l = r.before in
-    let here = r.loop-i-test.taken in
-    let one = passes p.before.before.before.has_one.ensures p.before.before.if-not-has_one.false-raw in (
+    let here = r.loop-i-test.true in
+    let one = passes p.before.before.before.has_one.ensures p.before.before.if1.false in (
       search rules,
       l.loop-i.invariant.1,
       served-more (good l) (u l) (v l) (i l) here l.loop-i.invariant.2 one,
-      (counted-more (good l) (u l) (v l) (i l) here (u l) l.loop-i.invariant.3 p.placed-with_u.ensures).0,
+      (counted-more (good l) (u l) (v l) (i l) here (u l) l.loop-i.invariant.3 p.placed.ensures).0,
       (counted-more (good l) (u l) (v l) (i l) here (v l) l.loop-i.invariant.4 c.placed-with_v.ensures).0,
     )
 
@@ -211,17 +211,17 @@ tips-again-2 c =
     let p = a.before in
     let e = p.before.before in
     let l = e.before in
-    let inv = l.loop-i.invariant in
+    let inv = l.loop2.invariant in
     let all = (s l).requires.1 in
-    let last = e.loop-i-test.false in
+    let last = e.loop2-test.false in
     let is = passed_score (good l) (u l) (v l) (i l) last (inside l) (ordered l) all inv.2 inv.3 inv.4 in
-    let scored = a.score_of-score.ensures ∙ is in
+    let scored = a.score-of.ensures ∙ is in
     let side = passed_side (good l) (u l) (v l) (i l) last all inv.2 inv.3 inv.4 in (
       omega (arith, ordered l),
       omega (arith, inside l),
       rw (sym (next l)) (⊎_elim
           (λ w. rw w.1 (sought_moves (u l) (v l) (sought l) (inside l) scored w.0.taken
-          (rw (p.before.side_pairs-to_u.ensures, p.side_pairs-to_v.ensures) side)))
+          (rw (p.before.side-pairs.ensures, p.side-pairs2.ensures) side)))
           (λ w. rw w.1 (sought_stays (sought l) (omega (arith, scored, w.0.left))))
           c.if-best-score.branch),
     )

@@ -47,8 +47,8 @@ loop-again : tie.Need-loop-i-preserved invariant-loop decreases-loop
 loop-again c =
     let l = c.before.before.before in
     let a = (called l).args in
-    let more = map_more (prefer a.tip (λ s. a.other)) a.lines.now a.plan.now l.loop-i.i (omega arith) (omega arith) in
-    (search rules, simp length-set (omega arith), rw (c.tip_for.ensures, l.loop-i.invariant.2) more)
+    let more = map_more (prefer a.tip (λ s. a.other)) a.lines.now a.plan.now l.loop.i (omega arith) (omega arith) in
+    (search rules, simp length-set (omega arith), rw (c.tip_for.ensures, l.loop.invariant.2) more)
 
 same_length : tie.Need-shape_of-plan invariant-loop decreases-loop
 same_length c = c.before.loop-i.invariant.1

@@ -51,7 +51,7 @@ abbrev lay-tip-claims : ℕ → lay-tip-lts.Claims
 lay-tip-claims t = (own-runs-reads.Asked, own-runs-reads.Learnt, lay-interval-below t, lay-interval.Post)
 
 module _ (t : ℕ) where
-  abbrev interval : lay-interval-lts.After-slice_known-1 (lay-interval-claims t) (lay-interval-at t) lay-interval.Post
+  abbrev interval : lay-interval-lts.After-slice-known (lay-interval-claims t) (lay-interval-at t) lay-interval.Post
       → lay-interval-lts.Start (lay-interval-claims t) (lay-interval-at t) lay-interval.Post
   interval c = c.before.before.before.before
 
@@ -63,26 +63,26 @@ module _ (t : ℕ) where
       → lay-tip-lts.Start (lay-tip-claims t) (lay-tip-at t) lay-tip.Post
   tip c = c.before.before.before.before.before
 
-lay-interval-find-tip-requires : (t : ℕ) → lay-interval-lts.Need-find_tip-i-requires (lay-interval-claims t) (lay-interval-at t) lay-interval.Post
+lay-interval-find-tip-requires : (t : ℕ) → lay-interval-lts.Need-find-tip-requires (lay-interval-claims t) (lay-interval-at t) lay-interval.Post
 lay-interval-find-tip-requires t c κs =
     let (p, right) = (interval t c.before).requires.1 in
-    (p.filled, p.inside, c.if-w-gt0.true, right)
+    (p.filled, p.inside, c.if1.true, right)
 
-lay-interval-lay-tip-requires : (t : ℕ) → lay-interval-lts.Need-lay_tip-requires (lay-interval-claims t) (lay-interval-at t) lay-interval.Post
+lay-interval-lay-tip-requires : (t : ℕ) → lay-interval-lts.Need-lay-tip-requires (lay-interval-claims t) (lay-interval-at t) lay-interval.Post
 lay-interval-lay-tip-requires t c κs =
     let s = interval t c.before.before.before in
     let a = s.args in
-    let found = c.before.find_tip-i.ensures in
+    let found = c.before.find-tip.ensures in
     let l = pick_lt (on_head a.mounted) a.m a.sums.now a.table.now a.a a.w (omega arith) in
     (omega (arith, s.requires.0), (s.requires.1.0, omega (arith, found, l), found, s.requires.1.1))
 
-lay-interval-same-length : (t : ℕ) → lay-interval-lts.Need-shape_of-owner (lay-interval-claims t) (lay-interval-at t) lay-interval.Post
-lay-interval-same-length t c = c.before.before.lay_tip.auto.owner
+lay-interval-same-length : (t : ℕ) → lay-interval-lts.Need-same-length (lay-interval-claims t) (lay-interval-at t) lay-interval.Post
+lay-interval-same-length t c = c.before.before.lay-tip.auto.1.1.1.1.1.1.1.1.0
 
-lay-interval-returns : (t : ℕ) → lay-interval-lts.Need-returns-then-w-gt0 (lay-interval-claims t) (lay-interval-at t) lay-interval.Post
-lay-interval-returns t c = c.before.before.lay_tip.ensures
+lay-interval-returns : (t : ℕ) → lay-interval-lts.Need-returns (lay-interval-claims t) (lay-interval-at t) lay-interval.Post
+lay-interval-returns t c = c.before.before.lay-tip.ensures
 
-lay-interval-returns-2 : (t : ℕ) → lay-interval-lts.Need-returns-else-w-gt0 (lay-interval-claims t) (lay-interval-at t) lay-interval.Post
+lay-interval-returns-2 : (t : ℕ) → lay-interval-lts.Need-returns-2 (lay-interval-claims t) (lay-interval-at t) lay-interval.Post
 lay-interval-returns-2 t c =
     let s = interval t c.before in
     let a = s.args in
@@ -119,7 +119,7 @@ lay-tip-lay-interval-requires-2 t c κs =
     let first = c.before.before.before in
     let o = own t first.before in
     let (e, (p, inside, _, right)) = tip (t o.before).requires in
-    let size = first.lay_interval.auto.owner ∙ o.own_runs.kept.1.1.1.1.0 in
+    let size = first.lay-interval.auto.1.1.1.1.1.1.1.0 ∙ o.own_runs.kept.1.1.1.1.0 in
     (omega (arith, e), (record { filled = p.filled; inside = omega (arith, p.inside); places = rw size p.places }, right))
 
 lay-tip-same-length : (t : ℕ) → lay-tip-lts.Need-shape_of-owner (lay-tip-claims t) (lay-tip-at t) lay-tip.Post
@@ -127,7 +127,7 @@ lay-tip-same-length t c =
     let second = c.before.before in
     let first = second.before.before.before.before in
     let o = own t first.before in
-    second.lay_interval-2.auto.owner ∙ first.lay_interval.auto.owner ∙ o.own_runs.kept.1.1.1.1.0
+    second.lay-interval2.auto.1.1.1.1.1.1.1.0 ∙ first.lay-interval.auto.1.1.1.1.1.1.1.0 ∙ o.own_runs.kept.1.1.1.1.0
 
 lay-tip-returns : (t : ℕ) → lay-tip-lts.Need-returns (lay-tip-claims t) (lay-tip-at t) lay-tip.Post
 lay-tip-returns t c =
@@ -138,7 +138,7 @@ lay-tip-returns t c =
     let a = s.args in
     let pick = pick_by (on_head a.mounted) a.m a.sums.now a.table.now in
     let under = pick_lt (on_head a.mounted) a.m a.sums.now a.table.now in
-    rw (second.lay_interval-2.ensures, first.lay_interval.ensures, o.own_runs.ensures, s.requires.1.2)
+    rw (second.lay-interval2.ensures, first.lay-interval.ensures, o.own_runs.ensures, s.requires.1.2)
     (laid_step a.m s.requires.1.0.filled.1.good.some pick under a.a a.w a.owner.now (omega arith))
 
 pub +lay_interval_lay_tip_spec : {M : Type 1} → statement M

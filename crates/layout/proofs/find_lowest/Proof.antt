@@ -43,16 +43,16 @@ loop-again c =
     let b = c.before.before in
     let a = (start b).args in
     let p = (start b).requires in
-    let l = b.loop-i in
-    omega (arith, goes_on p.0.1 a.a a.w l.i p.1 l.invariant (omega (arith, c.before.split_at.ensures, b.before.most_at-most.ensures)))
+    let l = b.loop in
+    omega (arith, goes_on p.0.1 a.a a.w l.i p.1 l.invariant (omega (arith, c.before.split_at.ensures, b.before.most-at.ensures)))
 
 returns : tie.Need-returns invariant-loop decreases-loop
 returns c =
     let b = c.before.before in
     let a = (start b).args in
     let p = (start b).requires in
-    let l = b.loop-i in
-    ends p.0.1 a.a a.w l.i p.1 l.invariant p.2 (omega (arith, c.before.split_at.ensures, b.before.most_at-most.ensures))
+    let l = b.loop in
+    ends p.0.1 a.a a.w l.i p.1 l.invariant p.2 (omega (arith, c.before.split_at.ensures, b.before.most-at.ensures))
 
 pub find_lowest_spec : {M : Type 1} → statement M
 find_lowest_spec =

@@ -11,7 +11,7 @@ use Rattle.layout.proofs.most_at.Statement.{statement}
 use Rattle.layout.proofs.most_at.Tie as tie
 
 -- the interval has a place in the table
-room : (c : tie.Else-w-eq0) → let x = c.before.args in x.a * x.m + (x.a + x.w - 1) < length x.table.now
+room : (c : tie.Else-w-eq0) → let x = c.args in x.a * x.m + (x.a + x.w - 1) < length x.table.now
 room c =
     let x = c.before.args in
     omega (arith, most-room x.m x.a x.w c.before.requires.0 (pos_of_ne-zero c.if-w-eq0.false))

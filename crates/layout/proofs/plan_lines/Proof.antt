@@ -24,7 +24,7 @@ returns c =
     let s = laid.before.before.before.before.before.before.before.before in
     let p = s.requires in
     λ lines r.
-    planned.plan_owners.ensures
+    planned.plan-owners.ensures
     ∙ rw laid.lay-interval.ensures (plan_laid (on_head s.args.mounted) r s.args.owner.now p.4 p.1 p.2)
 
 pub plan_lines_spec : {M : Type 1} → statement M

@@ -82,7 +82,7 @@ returns-2 : tie.Need-returns
 returns-2 c =
     let laid = c.before.before.before.before.before.before in
     let d = laid.before.before.before.before.before in
-    let e = laid.plan_lines-pairs.ensures in
+    let e = laid.plan-lines.ensures in
     best_accepted _ _ _ _ _ _ _ d.before.before.best-refusal.ensures d.if1.false (good d) (count d) e.0 e.1.0 e.1.1
 
 pub best_spec : {M : Type 1} → statement M

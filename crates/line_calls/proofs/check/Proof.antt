@@ -35,7 +35,7 @@ returns : tie.Need-returns-then-refusal-ne0
 returns c =
     let b = c.before.before in
     let s = begun b in
-    let e = check_first _ _ _ _ _ _ _ b.best_refusal-refusal.ensures c.if-refusal-ne0.true in
+    let e = check_first _ _ _ _ _ _ _ b.best-refusal.ensures c.if-refusal-ne0.true in
     (e, check_rule _ _ _ _ _ _ _ s.requires.good e)
 
 slice-aggregate-lines : tie.Need-slice_bounds-lines-end

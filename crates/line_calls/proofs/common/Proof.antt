@@ -17,7 +17,7 @@ good : (d : tie.Else-earlier-ne0) → let a = (begun d).args in GoodLines a.rack
 good d = (begun d).requires.good d.if-earlier-ne0.false
 
 slice-aggregate-common-tip : tie.Need-slice_bounds-common_tip-end
-slice-aggregate-common-tip c = sym (length-take-le _ _ ((begun c.before).requires.room c.before.if1.false))
+slice-aggregate-common-tip c = sym (length-take-le _ _ ((begun c.before).requires.room c.before.if-earlier-ne0.false))
 
 slice-aggregate-common-tip-2 : tie.Need-slice_bounds-common_tip-end-2
 slice-aggregate-common-tip-2 c =

@@ -20,7 +20,7 @@ plan-refusal-requires c κs = search rules
 returns : tie.Need-returns-then-refusal-ne0
 returns c =
     let asked = c.before.before in
-    quick_refused _ _ _ _ _ _ asked.plan_refusal-refusal.ensures (size asked.before.before.before.before) c.if-refusal-ne0.true
+    quick_refused _ _ _ _ _ _ asked.plan-refusal.ensures (size asked.before.before.before.before) c.if-refusal-ne0.true
 
 abbrev begun : tie.Else-refusal-ne0 → tie.Start
 begun d = d.before.before.before.before.before.before
@@ -67,7 +67,7 @@ returns-2 : tie.Need-returns
 returns-2 c =
     let laid = c.before.before.before.before in
     let d = laid.before.before.before.before in
-    let e = laid.plan_lines-pairs.ensures in
+    let e = laid.plan-lines.ensures in
     let asked = d.before.before.plan-refusal in
     quick_accepted _ _ _ _ _ _ asked.ensures (size (begun d)) d.if1.false (count d) (good d) e.pairs_are e.plan_is
 

@@ -51,7 +51,7 @@ started w = (found w).before.before
 returns-2 : tie.Need-returns-then-refusal-ne0
 returns-2 c =
     let w = c.before.before in
-    write-refused _ _ _ _ _ w.write_refusal-refusal.ensures (found w).version_for-version.ensures (count (started w)) c.if-refusal-ne0.true
+    write-refused _ _ _ _ _ w.write-refusal.ensures (found w).version_for-version.ensures (count (started w)) c.if-refusal-ne0.true
 
 abbrev asked : tie.Else-refusal-ne0 → tie.After-write_refusal-refusal
 asked d = d.before.before
@@ -106,7 +106,7 @@ returns-3 c =
     let e = written.before.before.before.before in
     let w = asked (measured e) in
     write_accepted _ _ _ _ _ w.write_refusal-refusal.ensures (found w).version_for-version.ensures (count (started w)) (measured e).if-refusal-ne0.false
-    e.file-length.ensures written.write_file.ensures
+    e.file-length.ensures written.write-file.ensures
 
 pub write_spec : {M : Type 1} → statement M
 write_spec =

@@ -16,8 +16,8 @@ decreases-loop m a table₀ row next b₀ table b = m - b
 
 -- the place read, which is after the place written, is in the table, and tables are small
 known : (c : tie.In-loop-b invariant-loop decreases-loop) →
-    let a = c.before.before.args in
-    (a.a * a.m + a.m + c.before.loop-b.b < length c.before.loop-b.table) × (length c.before.loop-b.table ≤ 4096)
+    let a = c.args in
+    (a.a * a.m + a.m + c.loop-b.b < length c.loop-b.table) × (length c.loop-b.table ≤ 4096)
 known c =
     let s = c.before.before in
     let room = next_place s.args.m s.args.a c.before.loop-b.b s.requires.1 (omega arith) in

@@ -27,7 +27,7 @@ looped c = c.before.before.before.before.before
 -- the place written is in the table, and tables are small
 known : (c : tie.In-loop-b invariant-loop decreases-loop) →
     let a = (begun c.before).args in
-    let at = c.before.loop-b in
+    let at = c.loop-b in
     (a.a * a.m + (at.b - 1) < length at.table) × (length at.table ≤ 4096)
 known c =
     let s = begun c.before in

@@ -83,7 +83,7 @@ loop-again c =
     let e : at.a ≡ at.a - 1 + 1 = omega arith in (
       omega arith,
       omega (arith, ranked tip),
-      row.spread_next.ensures g.table.now (rw (← e) at.invariant.2),
+      row.spread-next.ensures g.table.now (rw (← e) at.invariant.2),
     )
 
 same_length : tie.Need-shape_of-table invariant-loop decreases-loop

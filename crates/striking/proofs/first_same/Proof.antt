@@ -40,8 +40,8 @@ returns : tie.Need-returns-then-quantities-j invariant-loop decreases-loop
 returns c =
     let equal = c.before.before.before in (
       omega arith,
-      record { set = equal.if-lines-j.true; quantity = eqb-true _ _ c.if-quantities-j.true-raw },
-      equal.before.before.before.before.loop-j.invariant.1,
+      record { set = equal.if1.true; quantity = eqb-true _ _ c.if2.true },
+      equal.before.before.before.before.loop.invariant.1,
     )
 
 add-j : tie.Need-overflow_add-j invariant-loop decreases-loop
@@ -57,7 +57,7 @@ loop-again c =
       λ k l same. ⊎_elim
           (λ h.
           let e : k ≡ j.j = omega arith in
-          ⊎_elim (λ (_, _, _, n). eqb-false _ _ n.left (rw e at same.quantity)) (λ n. n.left (rw e at same.set)) c.else-lines-j.branch)
+          ⊎_elim (λ (_, _, _, n). eqb-false _ _ n.left (rw e at same.quantity)) (λ n. n.left (rw e at same.set)) c.if1.branch)
           (λ h. j.invariant.1 k h same)
           (le_or_lt j.j k),
     )

@@ -26,21 +26,21 @@ module _ (c : tie.After-small_sums-rest) where
   sized = c.before.before.before
 
   few : (start sized).args.m ≤ 16
-  few = c.before.before.if-m-le16.true
+  few = c.if-m-le16.true
 
-  small-room : length (take sized.sums_size-size.result c.before.small-sums.result) ≡ sums_size (start sized).args.m
-  small-room = lent c.before.small-sums.result few c.before.small-sums.ensures sized.sums_size-size.ensures
+  small-room : length (take sized.sums_size-size.result c.small_sums-sums.result) ≡ sums_size (start sized).args.m
+  small-room = lent c.small_sums-sums.result few c.small_sums-sums.ensures sized.sums_size-size.ensures
 
-  small-room2 : length (take sized.sums_size-size.result c.small-sums2.result) ≡ sums_size (start sized).args.m
-  small-room2 = lent c.small-sums2.result few c.small-sums2.ensures sized.sums_size-size.ensures
+  small-room2 : length (take sized.sums_size-size.result c.small_sums-rest.result) ≡ sums_size (start sized).args.m
+  small-room2 = lent c.small_sums-rest.result few c.small_sums-rest.ensures sized.sums_size-size.ensures
 
 -- and so for any rack
 module _ (c : tie.After-most_sums-rest) where
   abbrev sized' : tie.After-sums_size-size
   sized' = c.before.before.before
 
-  most-room : length (take sized'.sums_size-size.result c.before.most_sums-sums.result) ≡ sums_size (start sized').args.m
-  most-room = lent c.before.most_sums-sums.result (start sized').requires.0.good.most c.before.most_sums-sums.ensures sized'.sums_size-size.ensures
+  most-room : length (take sized'.sums_size-size.result c.most_sums-sums.result) ≡ sums_size (start sized').args.m
+  most-room = lent c.most_sums-sums.result (start sized').requires.0.good.most c.most_sums-sums.ensures sized'.sums_size-size.ensures
 
   most-room2 : length (take sized'.sums_size-size.result c.most_sums-rest.result) ≡ sums_size (start sized').args.m
   most-room2 = lent c.most_sums-rest.result (start sized').requires.0.good.most c.most_sums-rest.ensures sized'.sums_size-size.ensures

@@ -74,7 +74,7 @@ mul-struck : tie.Need-offset_bounds-struck-i invariant-loop decreases-loop
 mul-struck c = record { fits = omega (arith, (at c).loop-i-test.true, (start (at c).before).requires.0.good.few-lines) }
 
 slice-write-struck : tie.Need-bounds-struck-i invariant-loop decreases-loop
-slice-write-struck c = omega (arith, (at c).loop-i-test.true, (at c).before.loop-i.invariant.3)
+slice-write-struck c = omega (arith, (at c).loop-i-test.true, (at c).loop-i.invariant.3)
 
 add-i : tie.Need-overflow_add-i invariant-loop decreases-loop
 add-i c = record { fits = omega (arith, (at c).loop-i-test.true, (start (at c).before).requires.0.good.few-lines) }
@@ -85,9 +85,9 @@ loop-less c = omega (arith, (at c).loop-i-test.true)
 loop-again : tie.Need-loop-i-preserved invariant-loop decreases-loop
 loop-again c =
     let b = at c in
-    let l = b.before.loop-i in
-    let below : l.i < length l.struck = omega (arith, b.loop-i-test.taken, l.invariant.3) in (
-      omega (arith, b.loop-i-test.taken),
+    let l = b.loop-i in
+    let below : l.i < length l.struck = omega (arith, b.loop-i-test.true, l.invariant.3) in (
+      omega (arith, b.loop-i-test.true),
       c.before.before.before.rest-1.given ∙ l.invariant.1,
       c.before.outer-1.given ∙ l.invariant.2,
       rw length-set l.invariant.3,

@@ -109,8 +109,8 @@ returns-2 c =
     let f = c.before.before in
     let s = found f in
     let args = s.args in
-    let j = f.first_same-j.result in
-    let (_, same, _) = f.first_same-j.ensures in
+    let j = f.first-same.result in
+    let (_, same, _) = f.first-same.ensures in
     let tips = goal_tips args.m args.quantities.now args.lines.now args.goal in
     struck-before tips args.struck.now args.i j c.before.if-j-i.true s.requires.3
     ∙ same_tips args.quantities.now args.lines.now s.requires.0.good.same (omega (arith, c.before.if-j-i.true, s.requires.2)) s.requires.2
@@ -129,7 +129,7 @@ sums-without-requires c κs =
 cast-kept-tips : tie.Need-overflow_cast-quantity
 cast-kept-tips c =
     let f = summed c in
-    record { fits = omega (arith, f.before.before.shared_slice_known-9-1.given (begun f).args.i) }
+    record { fits = omega (arith, f.shared_slice_known-9-1.given (begun f).args.i) }
 
 kept-tips-requires : tie.Need-kept_tips-requires
 kept-tips-requires c κs =
@@ -149,7 +149,7 @@ returns-3 c =
     let f = summed-2 kept.before in
     let s = begun f in
     kept-goal s.requires.0 s.args.i s.requires.2 (all-sums s.requires.0 s.requires.1) (sums-of f) s.requires.5 s.requires.6 s.args.goal _
-    (kept.kept_tips.ensures (placed s) (rest s) (known_of f))
+    (kept.kept-tips.ensures (placed s) (rest s) (known_of f))
 
 pub struck_set_spec : {M : Type 1} → statement M
 struck_set_spec =

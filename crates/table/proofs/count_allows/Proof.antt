@@ -17,8 +17,8 @@ decreases-loop m sums b allows₀ end c₀ allows c = end - c
 
 -- the places read in a turn are of the sums
 in-sums : (c : tie.In-loop-c invariant-loop decreases-loop)
-    → let m = c.before.before.args.m in
-    (c.before.loop-c.c + 1) * (m + 1) + (c.before.before.args.b + 1) < length c.before.before.args.sums.now
+    → let m = c.args.m in
+    (c.loop-c.c + 1) * (m + 1) + (c.args.b + 1) < length c.args.sums.now
 in-sums c =
     let p = c.before.before.requires in
     rw p.sums-size (digits_lt (omega arith) (omega arith))

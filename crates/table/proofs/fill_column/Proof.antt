@@ -32,18 +32,18 @@ module _ (c : tie.In-loop-a invariant-loop decreases-loop) where
   s = start f
 
   abbrev a : ℕ
-  a = c.before.loop.a - 1
+  a = c.loop-a.a - 1
 
-  allows-are : f.count_allows.last.1.1.1.0 ≡ allows_of s.args.m s.args.sums.now s.args.b zeros
+  allows-are : f.count_allows.new.allows ≡ allows_of s.args.m s.args.sums.now s.args.b zeros
   allows-are = f.count_allows.ensures ∙ ap (allows_of s.args.m s.args.sums.now s.args.b) f.before.before.zeros-allows.ensures
 
-  rows : RowsBy s.args.m s.args.sums.now c.before.loop.table c.before.loop.column s.args.b (a + 1)
+  rows : RowsBy s.args.m s.args.sums.now c.loop-a.table c.loop-a.column s.args.b (a + 1)
   rows =
-      let e : a + 1 ≡ c.before.loop.a = omega arith in
-      rw e c.before.loop.invariant.1
+      let e : a + 1 ≡ c.loop-a.a = omega arith in
+      rw e c.loop-a.invariant.1
 
-  ready : Cell s.args.m a s.args.b s.args.sums.now f.count_allows.last.1.1.1.0 c.before.loop.column
-      c.before.loop.table
+  ready : Cell s.args.m a s.args.b s.args.sums.now f.count_allows.new.allows c.loop-a.column
+      c.loop-a.table
   ready =
       let (lines, k) = s.requires.0 in
       cell_ready k s.args.b s.requires.1 allows-are a (omega arith) (rows lines k)

@@ -31,7 +31,7 @@ module _ (c : tie.In-loop-i invariant-loop decreases-loop) where
   s = start c.before
 
   abbrev i : ℕ
-  i = c.before.loop.i
+  i = c.loop-i.i
 
   abbrev lines : List ℕ
   lines = s.args.lines.now
@@ -53,48 +53,48 @@ module _ (c : tie.In-loop-i invariant-loop decreases-loop) where
 
   -- a set has 64 bits
   line-below : T (has (get_or lines i 0) tip) → tip < most_tips
-  line-below h = has-below 64 (get_or lines i 0) tip (c.before.before.before.before.before.shared-slice-known2.given i).fits h
+  line-below h = has-below 64 (get_or lines i 0) tip (c.shared_slice_known-2-1.given i).fits h
 
   -- the line is on a foreign tip
   refused : has (get_or lines i 0) tip ≡ false → refuse 19 ≡ claim_refusal qs lines plan s.args.claim
-  refused = foreign qs lines plan s.args.claim s.requires.1 i c.before.loop.invariant.1 c.loop-test.true
+  refused = foreign qs lines plan s.args.claim s.requires.1 i c.loop-i.invariant.1 c.loop-i-test.true
 
   module _ (l : tip < most_tips) where
     -- the placements on the tip so far
-    held : get_or c.before.loop.on tip 0 ≡ uses (placed qs plan i) tip
-    held = ap (λ on. get_or on tip 0) c.before.loop.invariant.2 ∙ on_at (placed qs plan i) tip l
+    held : get_or c.loop-i.on tip 0 ≡ uses (placed qs plan i) tip
+    held = ap (λ on. get_or on tip 0) c.loop-i.invariant.2 ∙ on_at (placed qs plan i) tip l
 
-    held-few : get_or c.before.loop.on tip 0 + get_or qs i 0 ≤ most_placements
+    held-few : get_or c.loop-i.on tip 0 + get_or qs i 0 ≤ most_placements
     held-few = rw held (few_on qs plan same s.requires.2 i below)
 
     -- the pairs grow by those of the tip
-    pairs-grow : pairs_of (placed qs plan (i + 1)) + choose2 (get_or c.before.loop.on tip 0)
-        ≡ c.before.loop.shared + choose2 (get_or c.before.loop.on tip 0 + get_or qs i 0)
+    pairs-grow : pairs_of (placed qs plan (i + 1)) + choose2 (get_or c.loop-i.on tip 0)
+        ≡ c.loop-i.shared + choose2 (get_or c.loop-i.on tip 0 + get_or qs i 0)
     pairs-grow = omega (
       arith,
       ap choose2 held,
       ap (λ p. choose2 (p + get_or qs i 0)) held,
-      c.before.loop.invariant.3,
+      c.loop-i.invariant.3,
       pairs-more qs plan same s.requires.2 i below,
     )
 
-    on-grow : set c.before.loop.on tip (get_or c.before.loop.on tip 0 + get_or qs i 0) ≡ on_tips (placed qs plan (i + 1))
+    on-grow : set c.loop-i.on tip (get_or c.loop-i.on tip 0 + get_or qs i 0) ≡ on_tips (placed qs plan (i + 1))
     on-grow =
-        ap (λ on. set on tip (get_or on tip 0 + get_or qs i 0)) c.before.loop.invariant.2
+        ap (λ on. set on tip (get_or on tip 0 + get_or qs i 0)) c.loop-i.invariant.2
         ∙ ap (λ p. set (on_tips (placed qs plan i)) tip (p + get_or qs i 0)) (on_at (placed qs plan i) tip l)
         ∙ on_more qs plan same s.requires.2 i below l
 
 -- the difference does not go below zero, the sum is that of the placements, and it is few
 grown : (c : tie.After-pairs_among-in-loop-i invariant-loop decreases-loop)
     → let b = c.before.before.before.before.before.before.before.before in
-    (c.pairs_among-in-loop-i.result ≤ c.before.pairs_among.result)
-    × (b.before.loop-i.shared + (c.before.pairs_among.result - c.pairs_among-in-loop-i.result) ≡ pairs_of (placed (qs b) (plan b) (i b + 1)))
+    (c.pairs_among-in-loop-i.result ≤ c.pairs_among.result)
+    × (b.loop-i.shared + (c.pairs_among.result - c.pairs_among-in-loop-i.result) ≡ pairs_of (placed (qs b) (plan b) (i b + 1)))
     × (pairs_of (placed (qs b) (plan b) (i b + 1)) ≤ most_pairs)
 grown c =
     let e = c.before.before.before.before.before.before in
     let b = e.before.before in
-    let p = get_or b.before.loop-i.on (tip b) 0 in
-    let more = pairs-grow b e.if-tip-ge-MOST_TIPS.false in
+    let p = get_or b.before.loop.on (tip b) 0 in
+    let more = pairs-grow b e.if1.false in
     let mono : choose2 p ≤ choose2 (p + get_or (qs b) (i b) 0) = choose2_mono (omega arith) in
     let first = c.before.pairs_among.ensures in
     let second = c.pairs_among-in-loop-i.ensures in
@@ -136,7 +136,7 @@ refuse-requires-2 c κs = search rules
 returns-2 : tie.Need-returns-then-not-has_tip invariant-loop decreases-loop
 returns-2 c =
     let b = c.before.before.before.before.before.before in
-    c.refuse-then-not-has_tip.ensures ∙ refused b (fails c.before.before.has_tip.ensures c.before.if-not-has_tip.true-raw)
+    c.refuse-then-not-has_tip.ensures ∙ refused b (fails c.before.before.has_tip.ensures c.before.if2.true)
 
 mul-before : tie.Need-offset_bounds-on-tip invariant-loop decreases-loop
 mul-before c = search rules
@@ -153,17 +153,17 @@ cast-after c = record { fits = omega (arith, c.shared_slice_known-in-loop-i-3-1.
 add-after : tie.Need-overflow_add-after invariant-loop decreases-loop
 add-after c =
     let e = c.before.before.before.before in
-    record { fits = omega (arith, held-few e.before.before e.if-tip-ge-MOST_TIPS.false) }
+    record { fits = omega (arith, held-few e.before.before e.if1.false) }
 
 pairs-among-requires : tie.Need-pairs_among-requires invariant-loop decreases-loop
 pairs-among-requires c κs =
     let e = c.before.before.before.before in
-    ((s e.before.before).requires.3, held-few e.before.before e.if-tip-ge-MOST_TIPS.false)
+    ((s e.before.before).requires.3, held-few e.before.before e.if1.false)
 
 pairs-among-requires-2 : tie.Need-pairs_among-requires-in-loop-i invariant-loop decreases-loop
 pairs-among-requires-2 c κs =
     let e = c.before.before.before.before.before in
-    ((s e.before.before).requires.3, omega (arith, held-few e.before.before e.if-tip-ge-MOST_TIPS.false))
+    ((s e.before.before).requires.3, omega (arith, held-few e.before.before e.if1.false))
 
 sub-shared : tie.Need-overflow_sub-shared invariant-loop decreases-loop
 sub-shared c = (grown c).0
@@ -188,10 +188,10 @@ loop-again c =
     let f = c.before.before.before in
     let e = f.before.before.before in
     let b = e.before.before in
-    let l = e.if-tip-ge-MOST_TIPS.false in (
+    let l = e.if1.false in (
       search rules,
-      own_more (qs b) (lines b) (plan b) (s b).args.claim (s b).requires.1 (i b) b.before.loop-i.invariant.1 b.loop-i-test.true
-          (passes f.before.has_tip.ensures f.if-not-has_tip.false-raw),
+      own_more (qs b) (lines b) (plan b) (s b).args.claim (s b).requires.1 (i b) b.before.loop.invariant.1 b.loop-test.true
+          (passes f.before.has-tip.ensures f.if2.false),
       on-grow b l,
       (grown c).1,
     )
@@ -205,11 +205,11 @@ returns-3 c =
     let s = start l in
     let qs = s.args.quantities.now in
     let plan = s.args.plan.now in
-    let i = l.loop-i.i in
+    let i = l.loop.i in
     let all = placed-all qs plan (omega arith) s.requires.2 i (omega arith) in
-    let e : l.loop-i.shared ≡ pairs_of (repeated qs plan) = l.loop-i.invariant.3 ∙ ap pairs_of all in
+    let e : l.loop.shared ≡ pairs_of (repeated qs plan) = l.loop.invariant.3 ∙ ap pairs_of all in
     c.refuse_when.ensures
-    ∙ rw e (own_all qs s.args.lines.now plan s.args.claim s.requires.1 i l.loop-i.invariant.1 c.before.loop-i-test.false)
+    ∙ rw e (own_all qs s.args.lines.now plan s.args.claim s.requires.1 i l.loop.invariant.1 c.before.loop-i-test.false)
 
 pub claim_refusal_spec : {M : Type 1} → statement M
 claim_refusal_spec =

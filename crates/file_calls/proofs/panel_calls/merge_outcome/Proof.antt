@@ -83,7 +83,7 @@ abbrev begun : tie.After-first_of → tie.Start
 begun of = (known of).before.before
 
 bytes : (of : tie.After-first_of) → Bytes (begun of).args.first.now
-bytes of = all_get_d 0 (begun of).args.first.now (λ i l. ((known of).before.shared_slice_known-1.given i).fits)
+bytes of = all_get_d 0 (begun of).args.first.now (λ i l. ((known of).shared_slice_known-1.given i).fits)
 
 second-bytes : (of : tie.After-first_of) → Bytes (begun of).args.second.now
 second-bytes of = all_get_d 0 (begun of).args.second.now (λ i l. ((known of).shared_slice_known-2-1.given i).fits)
@@ -142,7 +142,7 @@ returns c =
     let (f, (second-read, (_, others))) = (read-second of).read_lines-other.ensures in
     let g = of.first_of.ensures in
     let (h, (sets, quantities)) = joined.merge-refusal.ensures in
-    let (written, buffer) = wrote.write-written.ensures in
+    let (written, buffer) = wrote.write.ensures in
     let (outcome, out) =
     merge_in _ _ e f g lines others (λ z. same_lines (read z)) (λ z. same_lines (second-read z)) h sets quantities _ written buffer in
     (outcome, (out, rw (outcome, out) (merge_rule _ _ _ (bytes of) (second-bytes of))))

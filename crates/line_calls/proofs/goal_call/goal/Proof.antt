@@ -34,7 +34,7 @@ run-refusal-requires c κs = search rules
 returns-2 : tie.Need-returns-then-runs-ne0
 returns-2 c =
     let run = c.before.before in
-    goal-stopped _ _ _ _ _ _ (asked_runs _ _ (left run).if-earlier-ne0.false run.run_refusal-runs.ensures) c.if-runs-ne0.true
+    goal-stopped _ _ _ _ _ _ (asked_runs _ _ (left run).if-earlier-ne0.false run.run-refusal.ensures) c.if-runs-ne0.true
 
 names-of-requires : tie.Need-names_of-requires
 names-of-requires c κs = search rules

@@ -74,7 +74,7 @@ returns-2 c =
     let f = c.before.before.before.before in
     let d = f.before.before.before.before in
     let q = d.before.before in
-    let (is, plan) = f.plan_lines-found.ensures in
+    let (is, plan) = f.plan-lines.ensures in
     let told = c.refuse_when.ensures ∙ ap (λ x. when (not x.served) 31) is in
     junior_found _ _ _ _ _ (number_of (by_count q) d.if1.false) (good d) (count d) told is plan
 

@@ -26,12 +26,12 @@ returns c =
     let s = begun asked.before.before in
     let (g, (h, _)) = s.requires in
     let a = s.args in
-    let r = asked.merge_refusal-refusal.result in
+    let r = asked.merge-refusal.result in
     let f = c.if-refusal-ne0.true in (
-      merge_counts _ g h asked.merge_refusal-refusal.ensures,
+      merge_counts _ g h asked.merge-refusal.ensures,
       (
-        merge_stays r f (take a.count a.sets.now) (take a.other-count a.other-sets.now) a.sets.now,
-        merge_stays r f (take a.count a.quantities.now) (take a.other-count a.other-quantities.now) a.quantities.now,
+        merge_stays r f (take a.count a.sets.now) (take a.other_count a.other-sets.now) a.sets.now,
+        merge_stays r f (take a.count a.quantities.now) (take a.other_count a.other_quantities.now) a.quantities.now,
       ),
     )
 
@@ -40,9 +40,9 @@ abbrev start : tie.Else-refusal-ne0 → tie.Start
 start d = begun d.before.before.before.before
 
 record Known (a : tie.Start) : Type 0 where
-  room : a.args.other-count ≤ length a.args.other-sets.now
-  quantity-room : a.args.other-count ≤ length a.args.other-quantities.now
-  few : a.args.count + a.args.other-count ≤ most_lines
+  room : a.args.other_count ≤ length a.args.other-sets.now
+  quantity-room : a.args.other_count ≤ length a.args.other_quantities.now
+  few : a.args.count + a.args.other_count ≤ most_lines
   sets-full : length a.args.sets.now ≡ most_lines
   quantities-full : length a.args.quantities.now ≡ most_lines
 
@@ -82,7 +82,7 @@ put-sets-requires c κs =
       arith,
       k.few,
       k.sets-full,
-      length-take-le a.other-count a.other-sets.now k.room,
+      length-take-le a.other_count a.other-sets.now k.room,
       mid_len a.count (length a.sets.now) a.sets.now (omega arith),
     )
 
@@ -111,7 +111,7 @@ put-quantities-requires c κs =
       arith,
       k.few,
       k.quantities-full,
-      length-take-le a.other-count a.other-quantities.now k.quantity-room,
+      length-take-le a.other_count a.other_quantities.now k.quantity-room,
       mid_len a.count (length a.quantities.now) a.quantities.now (omega arith),
     )
 
@@ -135,7 +135,7 @@ returns-2 c =
       merge_counts _ g h asked.merge-refusal.ensures,
       (
         put-behind a.count _ a.sets.now (omega (arith, k.few, k.sets-full)) r z put-sets.put-sets.ensures,
-        put-behind a.count _ a.quantities.now (omega (arith, k.few, k.quantities-full)) r z put.put_quantities.ensures,
+        put-behind a.count _ a.quantities.now (omega (arith, k.few, k.quantities-full)) r z put.put-quantities.ensures,
       ),
     )
 

@@ -35,7 +35,7 @@ loop-again c =
     let loop = c.before.before.before in
     let args = loop.before.before.before.before.args in
     let f : ℕ → ℕ = split_by args.names args.m args.sums.now args.inner.now 0 args.a args.w in
-    (search rules, omega (arith, c.larger-best.ensures, c.before.split_at.ensures, loop.loop-i.invariant.1, largest-more f loop.loop-i.i))
+    (search rules, omega (arith, c.larger-best.ensures, c.before.split_at.ensures, loop.loop.invariant.1, largest-more f loop.loop.i))
 
 returns : tie.Need-returns invariant-loop decreases-loop
 returns c =

@@ -37,13 +37,13 @@ module _ (c : tie.In-loop-a invariant-loop2 decreases-loop2 invariant-loop decre
   s = start c.before.before.before
 
   abbrev w : ℕ
-  w = c.before.before.before.loop.w
+  w = c.loop-w.w
 
   abbrev a : ℕ
-  a = c.before.loop2.a
+  a = c.loop-a.a
 
-  room : s.args.m * s.args.m ≤ length c.before.loop2.inner
-  room = let (lines, k) = s.requires.0 in (c.before.loop2.invariant.2 lines k).room
+  room : s.args.m * s.args.m ≤ length c.loop-a.inner
+  room = let (lines, k) = s.requires.0 in (c.loop-a.invariant.2 lines k).room
 
   place : a * s.args.m + (a + (w - 1)) < s.args.m * s.args.m
   place = place_lt s.args.m a w (omega arith) (omega arith)

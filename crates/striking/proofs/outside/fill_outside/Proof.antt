@@ -41,13 +41,13 @@ module _ (c : tie.In-loop-a invariant-loop2 decreases-loop2 invariant-loop decre
   s = start c.before.before.before
 
   abbrev w : ℕ
-  w = c.before.before.before.loop.w
+  w = c.loop-w.w
 
   abbrev a : ℕ
-  a = c.before.loop2.a
+  a = c.loop-a.a
 
-  room : s.args.m * s.args.m ≤ length c.before.loop2.outer
-  room = let (lines, k, i) = s.requires.0 in (c.before.loop2.invariant.2 lines k i).room
+  room : s.args.m * s.args.m ≤ length c.loop-a.outer
+  room = let (lines, k, i) = s.requires.0 in (c.loop-a.invariant.2 lines k i).room
 
   place : a * s.args.m + (a + (w - 1)) < s.args.m * s.args.m
   place = place_lt s.args.m a w (omega arith) (omega arith)

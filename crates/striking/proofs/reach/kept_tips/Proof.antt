@@ -59,13 +59,13 @@ module _ (c : tie.In-loop-a invariant-loop2 decreases-loop2 invariant-loop decre
   s = start (looped c.before).before
 
   abbrev w : ℕ
-  w = (looped c.before).before.loop-w.w
+  w = (looped c.before).loop-w.w
 
   abbrev a : ℕ
-  a = c.before.loop-a.a
+  a = c.loop-a.a
 
   some : 0 < w
-  some = (looped c.before).loop-w-test.taken
+  some = (looped c.before).loop-w-test.true
 
 loop-holds : tie.Need-loop-w-init invariant-loop2 decreases-loop2 invariant-loop decreases-loop
 loop-holds c =
@@ -80,9 +80,9 @@ next-open-requires c κs =
       k.others.rack,
       k.inside.room,
       k.outside.room,
-      (l.loop-w.invariant.2 lines rest k).table.room,
+      (l.loop.invariant.2 lines rest k).table.room,
       c.before.loop-w-test.true,
-      omega (arith, l.loop-w.invariant.0),
+      omega (arith, l.loop.invariant.0),
       (start l).requires.2,
     )
 
@@ -100,7 +100,7 @@ follow-requires c κs =
     let b = c.before in
     let t = s b in
     let (lines, rest, k) = t.requires.0 in
-    let f = b.before.loop-a.invariant.3 lines rest k in (
+    let f = b.before.loop2.invariant.3 lines rest k in (
       ready k.others,
       k.others.rack,
       k.inside.room,
@@ -125,7 +125,7 @@ next-open-requires-2 c κs =
       k.others.rack,
       k.inside.room,
       k.outside.room,
-      rw (f.follow-kept.ensures.1, length-set) (b.before.loop-a.invariant.3 lines rest k).table.room,
+      rw (f.follow-kept.ensures.1, length-set) (b.loop-a.invariant.3 lines rest k).table.room,
       some b,
       omega arith,
       t.requires.2,
@@ -142,9 +142,9 @@ loop2-again c =
     let f = followed next.before in
     let r = f.follow-kept in
     let b = f.before.before in
-    let v = b.before.loop-a.invariant in
+    let v = b.loop-a.invariant in
     let t = s b in
-    let kept = bit_or b.before.loop-a.kept r.result in
+    let kept = bit_or b.loop-a.kept r.result in
     let (ends, (found, past)) = next.next_open-a-in-loop-a.ensures in (
       ends.1,
       c.before.outer-in-loop-a-2-1.given ∙ (lent next.before).outer-in-loop-a-1.given ∙ v.1,
@@ -166,8 +166,8 @@ loop-again c =
     let b = looped c.before in
     let t = start b.before in (
       search rules,
-      l.invariant.1 ∙ c.before.before.before.outer-1.given ∙ b.before.loop-w.invariant.1,
-      λ lines rest k. follow_next k t.args.set t.args.goal b.loop-w-test.taken (omega arith) (l.invariant.3 lines rest k),
+      l.invariant.1 ∙ c.before.before.before.outer-1.given ∙ b.loop-w.invariant.1,
+      λ lines rest k. follow_next k t.args.set t.args.goal b.loop-w-test.true (omega arith) (l.invariant.3 lines rest k),
     )
 
 same_length : tie.Need-shape_of-outer invariant-loop2 decreases-loop2 invariant-loop decreases-loop

@@ -67,11 +67,11 @@ add-result : tie.Need-overflow_add-result
 add-result c = record { fits = omega (arith, more c, own c) }
 
 add-result-2 : tie.Need-overflow_add-result-2
-add-result-2 c = record { fits = omega (arith, more c, own c, (among-2 c).before.entry_at-inside.ensures.1) }
+add-result-2 c = record { fits = omega (arith, more c, own c, (among-2 c).entry_at-inside.ensures.1) }
 
 add-result-3 : tie.Need-overflow_add-result-3
 add-result-3 c =
-    record { fits = omega (arith, more c, own c, (among-2 c).before.entry_at-inside.ensures.1, (among-2 c).before.before.entry_at-outside.ensures.1) }
+    record { fits = omega (arith, more c, own c, (among-2 c).entry_at-inside.ensures.1, (among-2 c).entry_at-outside.ensures.1) }
 
 returns : tie.Need-returns
 unfolding limit_by
@@ -79,8 +79,8 @@ returns c =
     let s = start-2 c in
     omega (
       arith,
-      (among-2 c).before.before.entry_at-outside.ensures.0,
-      (among-2 c).before.entry_at-inside.ensures.0,
+      (among-2 c).entry_at-outside.ensures.0,
+      (among-2 c).entry_at-inside.ensures.0,
       (among-2 c).pairs_among-own.ensures,
       ap (λ n. s.args.q * n) (rw (c.before.highest.ensures, c.before.before.lowest.ensures) at c.meeting_at-meeting.ensures.0),
     )

@@ -33,7 +33,7 @@ module _ (c : tie.In-loop-a invariant-loop decreases-loop) where
   s = start c.before
 
   abbrev a : ℕ
-  a = c.before.loop.a
+  a = c.loop-a.a
 
   within : a * s.args.m + (a + (s.args.w - 1)) < s.args.m * s.args.m
   within = place_lt s.args.m a s.args.w s.requires.5 (omega arith)
@@ -86,7 +86,7 @@ loop-again : tie.Need-loop-a-preserved invariant-loop decreases-loop
 loop-again c =
     let b = c.before.before in
     let args = (s b).args in
-    let v = b.before.loop-a.invariant in
+    let v = b.before.loop.invariant in
     let closed = sym c.before.is_open.ensures ∙ c.if-is_open.false in (
       search rules,
       search rules,
