@@ -101,7 +101,7 @@ returns c =
     let planned = c.before.before.before.before in
     let f = filled-2 planned.before in
     let s = start (summed-2 f) in
-    (planned.plan-lines.ensures (placed s) (ready f) ∙ plan_placed s.requires.0 (on_head s.args.mounted), table_is f)
+    (planned.plan_lines.ensures (placed s) (ready f) ∙ plan_placed s.requires.0 (on_head s.args.mounted), table_is f)
 
 pub plan_in_spec : {M : Type 1} → statement M
 plan_in_spec =

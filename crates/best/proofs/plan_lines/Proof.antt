@@ -55,7 +55,7 @@ plan-runs-requires c κs =
     let full = c.before.before.before in
     let union = united c in
     let p = (begun union).requires in
-    (all_full p.0 union.names_of-names.ensures (full.if1.true ∙ full.before.between.ensures), p.1, p.2)
+    (all_full p.0 union.names_of-names.ensures (c.if-names-between.true ∙ full.between.ensures), p.1, p.2)
 
 sub-result : tie.Need-overflow_sub-result
 sub-result c = search rules

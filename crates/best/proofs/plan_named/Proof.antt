@@ -116,7 +116,7 @@ returns c =
     let done = planned.plan_ranks.ensures in
     steps p.0 p.1 e.0 e.1.0 e.1.1 (on_head s.args.mounted) planned.plan_ranks.new.table
     (renumbered-2 asked).renumber-lines.ensures (mounted asked).renumber-mounted.ensures done.0 done.1 tips.name_tips.ensures
-    spread.spread-table.ensures
+    spread.spread_table.ensures
 
 pub plan_named_spec : {M : Type 1} → statement M
 plan_named_spec =

@@ -34,7 +34,7 @@ slice-aggregate-plan-runs c = sym (length-take-le _ _ (begun-2 c).requires.room)
 plan-runs-requires : tie.Need-plan_runs-requires
 plan-runs-requires c κs =
     let p = (begun-2 c).requires in
-    (p.runs (pos_of_ne-zero c.before.before.if-r-eq0.false), p.size, length-take-le _ _ p.room)
+    (p.runs (pos_of_ne-zero c.if-r-eq0.false), p.size, length-take-le _ _ p.room)
 
 same_length : tie.Need-shape_of-plan
 same_length c = search rules
@@ -46,7 +46,7 @@ returns-2 : tie.Need-returns
 returns-2 c =
     let laid = c.before.before.before.before in
     let a = (begun-2 laid.before).args in
-    let e = laid.plan-runs.ensures in
+    let e = laid.plan_runs.ensures in
     (e.0, rw e.1 (table-front a.r (repeated a.quantities.now a.sets.now) _))
 
 pub plan_ranks_spec : {M : Type 1} → statement M

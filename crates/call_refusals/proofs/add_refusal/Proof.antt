@@ -22,7 +22,7 @@ refuse-requires : tie.Need-refuse-requires
 refuse-requires c κs = search rules
 
 returns-2 : tie.Need-returns-then-count-eq-MOST_LINES
-returns-2 c = c.refuse.ensures ∙ add_full _ c.before.before.if-earlier-ne0.false _ _ _ _ _ c.before.if-count-eq-MOST_LINES.true
+returns-2 c = c.refuse.ensures ∙ add_full _ c.if-earlier-ne0.false _ _ _ _ _ c.if-count-eq-MOST_LINES.true
 
 line-number-requires : tie.Need-line_number-number-requires
 line-number-requires c κs = search rules
@@ -35,16 +35,16 @@ returns-3 c =
     let bad = c.before in
     let numbered = bad.before in
     let room = numbered.before in
-    let e = numbered.line-number.ensures in
+    let e = numbered.line_number-number.ensures in
     c.refuse-then-number-ne0.ensures
     ∙ ap refuse e
-    ∙ add-line _ room.before.if1.false _ _ _ _ _ room.if2.false (λ z. bad.if3.true (e ∙ z))
+    ∙ add-line _ room.if-earlier-ne0.false _ _ _ _ _ room.if-count-eq-MOST_LINES.false (λ z. bad.if-number-ne0.true (e ∙ z))
 
 -- nothing is refused before the total: the lines are as many as the count, and their placements few
 lines : (d : tie.Else-number-ne0) →
     let a = d.args in
     (a.count ≤ length a.quantities.now) × (total (take a.count a.quantities.now) ≤ most_placements)
-lines d = let free = d.before.before.before in free.before.before.before.requires free.if1.false
+lines d = let free = d.before.before.before in free.requires free.if-earlier-ne0.false
 
 slice-aggregate-total : tie.Need-slice_bounds-total-end
 slice-aggregate-total c = sym (length-take-le _ _ (lines c.before).0)
@@ -63,10 +63,10 @@ returns-4 c =
     let good = c.before.before.before in
     let numbered = good.before in
     let room = numbered.before in
-    let a = room.before.before.before.before.args in
+    let a = room.args in
     c.refuse_when.ensures
-    ∙ ap (λ t. when (ltb most_placements (t + a.quantity)) 30) c.before.total-placements.ensures
-    ∙ add_over _ room.before.if1.false _ _ _ _ _ room.if2.false (sym numbered.line-number.ensures ∙ good.if3.false)
+    ∙ ap (λ t. when (ltb most_placements (t + a.quantity)) 30) c.total-placements.ensures
+    ∙ add_over _ room.if-earlier-ne0.false _ _ _ _ _ c.if-count-eq-MOST_LINES.false (sym c.line_number-number.ensures ∙ c.if-number-ne0.false)
 
 pub add_refusal_spec : {M : Type 1} → statement M
 add_refusal_spec =

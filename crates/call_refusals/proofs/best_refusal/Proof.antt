@@ -23,10 +23,10 @@ refuse-requires c κs = search rules
 returns-2 : tie.Need-returns-then-room-count
 returns-2 c =
     let d = c.before.before in
-    c.refuse.ensures ∙ best-short _ d.if1.false _ _ _ _ (omega (arith, lines d, c.before.if-room-count.true))
+    c.refuse.ensures ∙ best-short _ d.if-earlier-ne0.false _ _ _ _ (omega (arith, lines d, c.if-room-count.true))
 
 mul-if3 : tie.Need-overflow_mul-rack
-mul-if3 c = let d = c.before in omega (arith, square_most (d.before.before.before.requires d.if1.false).0)
+mul-if3 c = let d = c.before in omega (arith, square_most (d.requires d.if-earlier-ne0.false).0)
 
 refuse-requires-2 : tie.Need-refuse-requires-then-places-rack
 refuse-requires-2 c κs = search rules
@@ -34,7 +34,7 @@ refuse-requires-2 c κs = search rules
 returns-3 : tie.Need-returns-then-places-rack
 returns-3 c =
     let d = c.before.before.before in
-    c.refuse-then-places-rack.ensures ∙ best_few _ d.if1.false _ _ _ _ (omega (arith, lines d, c.before.before.if-room-count.false)) c.before.if-places-rack.true
+    c.refuse-then-places-rack.ensures ∙ best_few _ d.if-earlier-ne0.false _ _ _ _ (omega (arith, lines d, c.if-room-count.false)) c.if-places-rack.true
 
 slice-aggregate-run-refusal : tie.Need-slice_bounds-run_refusal-end
 slice-aggregate-run-refusal c = sym (lines c.before.before.before)
@@ -45,8 +45,8 @@ run-refusal-requires c κs = search rules
 returns-4 : tie.Need-returns
 returns-4 c =
     let d = c.before.before.before.before in
-    let e = c.before.before.before.if-room-count.false in
-    c.run_refusal.ensures ∙ best-run _ d.if1.false _ _ _ _ (omega (arith, lines d, e)) c.before.before.if-places-rack.false
+    let e = c.if-room-count.false in
+    c.run_refusal.ensures ∙ best-run _ c.if-earlier-ne0.false _ _ _ _ (omega (arith, lines d, e)) c.if-places-rack.false
 
 pub best_refusal_spec : {M : Type 1} → statement M
 best_refusal_spec =

@@ -12,7 +12,7 @@ returns : tie.Need-returns-in-Nothing
 returns c = search rules
 
 returns-2 : tie.Need-returns-in-Tip
-returns-2 c = rw c.before.mounted-1.given.1
+returns-2 c = rw c.in-Tip.is
 
 pub is_outside_spec : {M : Type 1} → statement M
 is_outside_spec = tie.close (tie.spec enum_told enum-known-mounted returns returns-2)

@@ -19,7 +19,7 @@ unfolding keep_refusal
 returns-2 c =
     let asked = c.before in
     let s = asked.before.before in
-    or_next refl _ asked.if1.false (c.refuse_when.ensures ∙ ap (λ t. when t 26) (sign_test _ s.ranges.margin))
+    or_next refl _ asked.if-earlier-ne0.false (c.refuse_when.ensures ∙ ap (λ t. when t 26) (sign_test _ s.ranges.margin))
 
 pub keep_refusal_spec : {M : Type 1} → statement M
 keep_refusal_spec = tie.close (tie.spec returns refuse-when-requires returns-2)

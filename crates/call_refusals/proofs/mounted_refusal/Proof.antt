@@ -17,10 +17,10 @@ returns-2 : tie.Need-returns-then-is_outside
 returns-2 c =
     let taken = c.before in
     let outside = taken.before in
-    c.refuse.ensures ∙ mounted_outside _ _ _ outside.before.if1.false (sym outside.is-outside.ensures ∙ taken.if2.true)
+    c.refuse.ensures ∙ mounted_outside _ _ _ outside.if-earlier-ne0.false (sym outside.is_outside.ensures ∙ taken.if-is_outside.true)
 
 returns-3 : tie.Need-returns
-returns-3 c = mounted_inside _ _ _ (sym c.before.is_outside.ensures ∙ c.if-is_outside.false)
+returns-3 c = mounted_inside _ _ _ (sym c.is_outside.ensures ∙ c.if-is_outside.false)
 
 pub mounted_refusal_spec : {M : Type 1} → statement M
 mounted_refusal_spec = tie.close (tie.spec returns is-outside-requires refuse-requires returns-2 returns-3)

@@ -14,7 +14,7 @@ refuse-when-requires c κs = search rules
 
 returns-2 : tie.Need-returns
 unfolding plan_refusal
-returns-2 c = or_next refl _ c.before.if-earlier-ne0.false c.refuse_when.ensures
+returns-2 c = or_next refl _ c.if-earlier-ne0.false c.refuse_when.ensures
 
 pub plan_refusal_spec : {M : Type 1} → statement M
 plan_refusal_spec = tie.close (tie.spec returns refuse-when-requires returns-2)

@@ -11,7 +11,7 @@ refuse-at-requires c κs = search rules
 
 returns : tie.Need-returns
 unfolding scan
-returns c = rw (← c.before.first_not_run.ensures) c.refuse_at.ensures
+returns c = rw (← c.first_not_run.ensures) c.refuse_at.ensures
 
 pub run_refusal_spec : {M : Type 1} → statement M
 run_refusal_spec = tie.close (tie.spec first-not-run-requires refuse-at-requires returns)

@@ -36,19 +36,19 @@ refuse-requires-4 c κs = search rules
 
 returns : tie.Need-returns-in-Open-stage
 unfolding stage_refusal
-returns c = c.refuse.ensures ∙ rw (c.before.before.before.enum_told-1.given.1, c.before.enum_told-in-Open-stage-1.given.1)
+returns c = c.refuse.ensures ∙ rw (c.in-Open.is, c.in-Open-stage.is)
 
 returns-2 : tie.Need-returns-in-Closed-stage
 unfolding stage_refusal
-returns-2 c = c.refuse-in-Closed-stage.ensures ∙ rw (c.before.before.before.enum_told-1.given.1, c.before.enum_told-in-Closed-stage-1.given.1)
+returns-2 c = c.refuse-in-Closed-stage.ensures ∙ rw (c.in-Open.is, c.in-Closed-stage.is)
 
 returns-3 : tie.Need-returns-in-Open-stage-2
 unfolding stage_refusal
-returns-3 c = c.refuse-in-Open-stage-2.ensures ∙ rw (c.before.before.before.enum_told-in-Closed-1.given.1, c.before.enum_told-in-Open-stage-2-1.given.1)
+returns-3 c = c.refuse-in-Open-stage-2.ensures ∙ rw (c.in-Closed.is, c.in-Open-stage-2.is)
 
 returns-4 : tie.Need-returns-in-Closed-stage-2
 unfolding stage_refusal
-returns-4 c = c.refuse-in-Closed-stage-2.ensures ∙ rw (c.before.before.before.enum_told-in-Closed-1.given.1, c.before.enum_told-in-Closed-stage-2-1.given.1)
+returns-4 c = c.refuse-in-Closed-stage-2.ensures ∙ rw (c.in-Closed.is, c.in-Closed-stage-2.is)
 
 pub stage_refusal_spec : {M : Type 1} → statement M
 stage_refusal_spec =

@@ -21,7 +21,7 @@ refuse-when-requires c κs = search rules
 
 returns-2 : tie.Need-returns
 unfolding write_refusal
-returns-2 c = or_next refl _ c.before.before.if-earlier-ne0.false (rw (← c.before.file_length.ensures) c.refuse_when.ensures)
+returns-2 c = or_next refl _ c.if-earlier-ne0.false (rw (← c.file_length.ensures) c.refuse_when.ensures)
 
 pub write_refusal_spec : {M : Type 1} → statement M
 write_refusal_spec = tie.close (tie.spec returns file-length-requires refuse-when-requires returns-2)

@@ -23,7 +23,7 @@ claim-refusal-requires c κs = search rules
 
 returns : tie.Need-returns-then-refusal-ne0
 unfolding check_refusal
-returns c = or_first c.before.before.claim_refusal-refusal.ensures _ c.if-refusal-ne0.true
+returns c = or_first c.claim_refusal-refusal.ensures _ c.if-refusal-ne0.true
 
 most-sums-requires : tie.Need-most_sums-sums-requires
 most-sums-requires c κs = search rules
@@ -37,19 +37,19 @@ slice-aggregate-sums-fit c = search rules
 array-borrow-prefix-sums : tie.Need-slice_bounds-sums-end
 array-borrow-prefix-sums c =
     let s = start (claimed c.before) in
-    omega (arith, c.before.sums_size-size.ensures, c.before.before.most_sums-sums.ensures, sums_mono s.requires.0.good.most)
+    omega (arith, c.sums_size-size.ensures, c.most_sums-sums.ensures, sums_mono s.requires.0.good.most)
 
 slice-aggregate-sums-fit-2 : tie.Need-slice_bounds-sums_fit-end-2
 slice-aggregate-sums-fit-2 c =
     let z = c.before.before in
     let s = start (claimed z) in
-    z.sums-size.ensures ∙ sym (lent z.before.most-sums.result s.requires.0.good.most z.before.most-sums.ensures z.sums-size.ensures)
+    z.sums_size-size.ensures ∙ sym (lent z.most_sums-sums.result s.requires.0.good.most z.most_sums-sums.ensures z.sums_size-size.ensures)
 
 sums-fit-requires : tie.Need-sums_fit-fits-requires
 sums-fit-requires c κs =
     let z = c.before.before in
     let s = start (claimed z) in
-    let room = lent z.before.most-sums.result s.requires.0.good.most z.before.most-sums.ensures z.sums-size.ensures in
+    let room = lent z.most_sums-sums.result s.requires.0.good.most z.most_sums-sums.ensures z.sums_size-size.ensures in
     (s.requires.0, s.requires.2, (claimed z).pair_table-pairs.ensures, room)
 
 refuse-when-requires : tie.Need-refuse_when-requires
@@ -59,7 +59,7 @@ returns-2 : tie.Need-returns
 unfolding check_refusal
 returns-2 c =
     let z = c.before.before.before.before.before in
-    or_next (claimed z).claim_refusal-refusal.ensures _ z.before.before.if1.false (c.refuse_when.ensures ∙ rw c.before.before.sums_fit-fits.ensures)
+    or_next (claimed z).claim_refusal-refusal.ensures _ z.if-refusal-ne0.false (c.refuse_when.ensures ∙ rw c.sums_fit-fits.ensures)
 
 pub check_plan_spec : {M : Type 1} → statement M
 check_plan_spec =

@@ -32,12 +32,12 @@ shared-slice-read-result c = omega (arith, place c.before.before (omega arith))
 
 cast-result : tie.Need-overflow_cast-result
 cast-result c =
-    let args = c.before.before.args in
+    let args = c.args in
     record { fits = omega (arith, c.shared_slice_known-1.given (args.a * args.m + (args.a + (args.w - 1)))) }
 
 returns-2 : tie.Need-returns
 returns-2 c =
-    let args = c.before.before.args in (
+    let args = c.args in (
       sym (entry_some args.m args.table.now args.a args.w (omega arith)),
       omega (arith, c.shared_slice_known-1.given (args.a * args.m + (args.a + (args.w - 1)))),
     )

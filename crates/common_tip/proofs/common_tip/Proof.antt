@@ -15,7 +15,7 @@ start c = c.before.before.before.before.before.before.before
 top-is : (c : tie.After-busiest_tips-busiest)
     → let s = (start c).args in
     c.busiest_tips-busiest.result.top ≡ top s.rack (repeated s.quantities.now s.lines.now)
-top-is c = c.busiest_tips-busiest.ensures.0 ∙ largest-top c.before.before.before.count_tips.ensures (start c).args.rack
+top-is c = c.busiest_tips-busiest.ensures.0 ∙ largest-top c.count_tips.ensures (start c).args.rack
 
 slice-aggregate-count-tips : tie.Need-slice_bounds-count_tips-end
 slice-aggregate-count-tips c = search rules
@@ -45,9 +45,9 @@ returns : tie.Need-returns
 returns c =
     let b = c.before.before in
     let s = start b in
-    let counted = b.before.before.before.count-tips.ensures in
-    let tips = b.busiest-tips.ensures.1 ∙ tips-W counted s.args.rack (top-is b) in
-    (top-is b, (ap (λ n. n - b.busiest-tips.result.top) c.total.ensures, tips))
+    let counted = b.count_tips.ensures in
+    let tips = b.busiest_tips-busiest.ensures.1 ∙ tips-W counted s.args.rack (top-is b) in
+    (top-is b, (ap (λ n. n - b.busiest_tips-busiest.result.top) c.total.ensures, tips))
 
 pub common_tip_spec : {M : Type 1} → statement M
 common_tip_spec =

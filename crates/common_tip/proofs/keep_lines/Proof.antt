@@ -52,10 +52,10 @@ returns-2 c =
     let s = start w in
     let qs = s.args.quantities.now in
     let lines = s.args.lines.now in
-    let t = ap (λ z. lt_z z (pos 0)) (sym (margin-is w)) ∙ e.if1.false in (
+    let t = ap (λ z. lt_z z (pos 0)) (sym (margin-is w)) ∙ e.if-margin-lt0.false in (
       margin-is w,
       rw t (
-          c.before.before.prune.ensures ∙ ap₂ (λ v z. zip_with (kept_by v z) qs lines) w.within.ensures.1.1 (margin-is w)
+          c.prune.ensures ∙ ap₂ (λ v z. zip_with (kept_by v z) qs lines) w.within-bound.ensures.1.1 (margin-is w)
           ∙ prune-by s.args.rack qs lines s.args.k
           ),
     )

@@ -25,7 +25,7 @@ narrow-requires c κs = search rules
 returns : tie.Need-returns-then-margin-quantity
 unfolding kept_by
 returns c =
-    let t = below c.before.before ∙ c.before.if-margin-quantity.true in
+    let t = below c.before.before ∙ c.if-margin-quantity.true in
     rw t c.narrow.ensures
 
 returns-2 : tie.Need-returns

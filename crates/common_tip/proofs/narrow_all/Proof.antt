@@ -41,9 +41,9 @@ loop-less c = search rules
 loop-again : tie.Need-loop-i-preserved invariant-loop decreases-loop
 loop-again c =
     let l = c.before.before.before in
-    let a = l.before.before.args in
-    let more = mapped-more (narrow_by a.v) a.lines.now l.loop.i (omega arith) in
-    (search rules, simp length-set (omega arith), rw (c.narrow.ensures, l.loop.invariant.2, more))
+    let a = l.args in
+    let more = mapped-more (narrow_by a.v) a.lines.now l.loop-i.i (omega arith) in
+    (search rules, simp length-set (omega arith), rw (c.narrow.ensures, l.loop-i.invariant.2, more))
 
 same_length : tie.Need-shape_of-lines invariant-loop decreases-loop
 same_length c = search rules
@@ -51,8 +51,8 @@ same_length c = search rules
 returns : tie.Need-returns invariant-loop decreases-loop
 returns c =
     let l = c.before in
-    let a = l.before.before.args in
-    l.loop.invariant.2 ∙ mapped-all (narrow_by a.v) a.lines.now l.loop.i (omega arith)
+    let a = l.args in
+    l.loop-i.invariant.2 ∙ mapped-all (narrow_by a.v) a.lines.now l.loop-i.i (omega arith)
 
 pub narrow_all_spec : {M : Type 1} → statement M
 narrow_all_spec =

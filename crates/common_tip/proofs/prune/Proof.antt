@@ -36,14 +36,14 @@ returns : tie.Need-returns-then-margin-lt1 invariant-loop decreases-loop
 returns c =
     let t = c.before.before.before.before in
     let s = t.before.before.before in
-    let below = ap (λ z. lt_z z (pos 1)) (sym (held s)) ∙ t.if1.true in
-    c.before.before.narrow_all.ensures ∙ prune-each s.args.v s.args.margin s.requires.2 s.args.lines.now s.requires.1 below
+    let below = ap (λ z. lt_z z (pos 1)) (sym (held s)) ∙ t.if-margin-lt1.true in
+    c.narrow_all.ensures ∙ prune-each s.args.v s.args.margin s.requires.2 s.args.lines.now s.requires.1 below
 
 returns-2 : tie.Need-returns-then-n-lines invariant-loop decreases-loop
 returns-2 c =
     let t = c.before in
     let s = t.before.before.before in
-    let above = ap (λ z. lt_z z (pos 1)) (sym (held s)) ∙ t.if1.false in
+    let above = ap (λ z. lt_z z (pos 1)) (sym (held s)) ∙ t.if-margin-lt1.false in
     prune-none s.args.v s.args.margin s.requires.2 s.args.lines.now s.requires.1 above (omega (arith, c.if-n-lines.true, s.requires.0, s.requires.1))
 
 loop-holds : tie.Need-loop-i-init invariant-loop decreases-loop
@@ -79,9 +79,9 @@ loop-again c =
     let turn = c.before.before.before in
     let s = turn.before.before.before.before.before.before in
     let f = kept_by s.args.v (to_z w32 (of_z w32 s.args.margin)) in
-    let i = turn.before.loop.i in
+    let i = turn.loop-i.i in
     let more = zipped-more f s.args.quantities.now s.args.lines.now i s.requires.1 (omega arith) in
-    (search rules, simp length-set (omega arith), rw (c.kept.ensures, turn.before.loop.invariant.2) more)
+    (search rules, simp length-set (omega arith), rw (c.kept.ensures, turn.loop-i.invariant.2) more)
 
 same-length-2 : tie.Need-shape_of-lines invariant-loop decreases-loop
 same-length-2 c = search rules
@@ -92,7 +92,7 @@ returns-3 c =
     let f = kept_by s.args.v in
     let qs = s.args.quantities.now in
     let lines = s.args.lines.now in
-    c.before.loop-i.invariant.2 ∙ zipped-all (f (to_z w32 (of_z w32 s.args.margin))) qs lines c.before.loop-i.i s.requires.1 (omega arith)
+    c.loop-i.invariant.2 ∙ zipped-all (f (to_z w32 (of_z w32 s.args.margin))) qs lines c.loop-i.i s.requires.1 (omega arith)
     ∙ ap (λ z. zip_with (f z) qs lines) (held s)
 
 pub prune_spec : {M : Type 1} → statement M

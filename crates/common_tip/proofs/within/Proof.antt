@@ -18,7 +18,7 @@ start c = c.before.before.before.before.before.before.before
 top-is : (c : tie.After-busiest_tips-busiest)
     → let s = (start c).args in
     c.busiest_tips-busiest.result.top ≡ top s.rack (repeated s.quantities.now s.lines.now)
-top-is c = c.busiest_tips-busiest.ensures.0 ∙ largest-top c.before.before.before.count_tips.ensures (start c).args.rack
+top-is c = c.busiest_tips-busiest.ensures.0 ∙ largest-top c.count_tips.ensures (start c).args.rack
 
 slice-aggregate-count-tips : tie.Need-slice_bounds-count_tips-end
 slice-aggregate-count-tips c = search rules
@@ -42,7 +42,7 @@ margin-requires : tie.Need-margin-requires
 margin-requires c κs =
     let b = c.before.before in
     let s = start b in
-    let n = c.before.total-n.ensures in
+    let n = c.total-n.ensures in
     (omega (arith, top-is b, top-total s.args.rack s.requires.1), omega (arith, n, s.requires.1.few))
 
 slice-aggregate-tips-with : tie.Need-slice_bounds-tips_with-end
@@ -57,8 +57,8 @@ tips-with-requires c κs =
     let m = c.before.before in
     let b = m.before.before.before in
     let s = start b in
-    let n = m.before.before.total.ensures in
-    (b.before.before.before.count-tips.ensures.size, s.requires.0, omega (arith, c.least_count.ensures, n, s.requires.1.few))
+    let n = m.total-n.ensures in
+    (b.count_tips.ensures.size, s.requires.0, omega (arith, c.least_count.ensures, n, s.requires.1.few))
 
 returns : tie.Need-returns
 returns c =
@@ -68,13 +68,13 @@ returns c =
     let qs = s.args.quantities.now in
     let lines = s.args.lines.now in
     let k = s.args.k in
-    let counted = b.before.before.before.count-tips.ensures in
-    let all = m.before.before.total.ensures ∙ sym (length-repeated qs lines s.requires.1.same) in
+    let counted = b.count_tips.ensures in
+    let all = m.total-n.ensures ∙ sym (length-repeated qs lines s.requires.1.same) in
     let e = m.margin.ensures ∙ ap₂ (λ t x. margin_by t x k) (top-is b) all ∙ margin-by s.args.rack (repeated qs lines) k in (
       to_z-of_z w32 m.margin.result (rw e (margin_small s.args.rack k s.requires.1 s.fits.k.fits)) ∙ e,
       (
-        m.before.before.total.ensures,
-        c.tips_with.ensures ∙ least_common s.args.rack k counted (c.before.least_count.ensures ∙ ap (λ x. least_count x k) all),
+        m.total-n.ensures,
+        c.tips_with.ensures ∙ least_common s.args.rack k counted (c.least_count.ensures ∙ ap (λ x. least_count x k) all),
       ),
     )
 

@@ -33,8 +33,8 @@ slice-aggregate-best-2 c = search rules
 best-requires : tie.Need-best-requires
 best-requires c κs =
     let mounted = c.before.before.before.before in
-    let (_, (_, (_, lines))) = mounted.before.before.before.read-lines.ensures in
-    later (λ z. (mounted_none _ _ _ (number_of mounted.mounted-refusal.ensures z)).0) lines
+    let (_, (_, (_, lines))) = mounted.read_lines-read.ensures in
+    later (λ z. (mounted_none _ _ _ (number_of mounted.mounted_refusal-refusal.ensures z)).0) lines
 
 plan-outcome-requires : tie.Need-plan_outcome-requires
 plan-outcome-requires c κs = search rules
@@ -49,9 +49,9 @@ returns : tie.Need-returns
 returns c =
     let laid = c.before.before.before.before.before.before in
     let mounted = laid.before.before.before.before.before in
-    let (e, (lines, _)) = mounted.before.before.before.read-lines.ensures in
+    let (e, (lines, _)) = mounted.read_lines-read.ensures in
     let (answer, (plan, (table, rule))) = laid.best.ensures in
-    let asked = mounted.mounted-refusal.ensures in
+    let asked = mounted.mounted_refusal-refusal.ensures in
     rw c.plan_outcome.ensures (best-in _ e (λ z. same_lines (lines z)) _ asked _ _ answer plan table rule)
 
 pub best_outcome_spec : {M : Type 1} → statement M

@@ -29,7 +29,7 @@ check-requires c κs = search rules
 
 returns : tie.Need-returns
 returns c =
-    let (e, (lines, (_, given))) = c.before.before.before.before.before.read_lines-read.ensures in
+    let (e, (lines, (_, given))) = c.read_lines-read.ensures in
     check-in _ e (λ z. same_lines (lines z)) given.good _ _ _ c.check-refusal.ensures.0
 
 pub check_outcome_spec : {M : Type 1} → statement M

@@ -30,8 +30,8 @@ common-requires c κs = search rules
 returns : tie.Need-returns
 returns c =
     let answered = c.before in
-    let (e, (lines, _)) = answered.before.before.before.before.before.read-lines.ensures in
-    let (answer, rule) = answered.common.ensures in
+    let (e, (lines, _)) = answered.read_lines-read.ensures in
+    let (answer, rule) = answered.common-found.ensures in
     common-in _ e (λ z. same_lines (lines z)) answer rule
 
 pub common_outcome_spec : {M : Type 1} → statement M

@@ -8,7 +8,7 @@ use Rattle.file_calls.proofs.keep_outcome.Statement.{statement}
 use Rattle.file_calls.proofs.keep_outcome.Tie as tie
 
 bytes : (c : tie.After-shared_slice_known-1) → Bytes c.args.file.now
-bytes c = all_get_d 0 c.before.args.file.now (λ i l. (c.shared_slice_known-1.given i).fits)
+bytes c = all_get_d 0 c.args.file.now (λ i l. (c.shared_slice_known-1.given i).fits)
 
 no-sets-requires : tie.Need-no_sets-sets-requires
 no-sets-requires c κs = search rules
@@ -43,9 +43,9 @@ slice-aggregate-write-2 c = search rules
 write-requires : tie.Need-write-written-requires
 write-requires c κs =
     let kept = c.before.before.before.before in
-    let (_, (_, (_, given))) = kept.before.before.before.before.before.read-lines.ensures in
-    let (answer, sets) = kept.keep.ensures in
-    given-kept given _ answer sets kept.keep.auto.1.1.1.0
+    let (_, (_, (_, given))) = kept.read_lines-read.ensures in
+    let (answer, sets) = kept.keep-kept.ensures in
+    given-kept given _ answer sets kept.keep-kept.auto.sets
 
 keep-outcome-of-requires : tie.Need-keep_outcome_of-requires
 keep-outcome-of-requires c κs = search rules
@@ -58,9 +58,9 @@ returns c =
     let wrote = c.before.before.before in
     let kept = wrote.before.before.before.before.before in
     let read = kept.before.before.before.before.before in
-    let (e, (lines, (_, given))) = read.read-lines.ensures in
-    let (answer, sets) = kept.keep.ensures in
-    let (written, buffer) = wrote.write.ensures in
+    let (e, (lines, (_, given))) = read.read_lines-read.ensures in
+    let (answer, sets) = kept.keep-kept.ensures in
+    let (written, buffer) = wrote.write-written.ensures in
     let (outcome, out) = keep-in _ e given (λ z. same_lines (lines z)) _ answer sets _ written buffer in
     let o = c.keep_outcome_of.ensures ∙ outcome in
     (o, (out, rw (o, out) (keep-rule _ _ _ (bytes read.before.before.before.before.before.before))))

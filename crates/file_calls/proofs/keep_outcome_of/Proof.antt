@@ -19,8 +19,8 @@ begun c = c.before.before.before.before.before
 returns-2 : tie.Need-returns-else-refusal-eq11
 returns-2 c =
     let margin = (begun c).args.kept.margin in
-    let same = to_z-of_z w32 margin (record { sfits = c.before.struct_told-1.given.1.0.1 }) in
-    rw (c.twos_complement-first.ensures, same, ne_eqb _ 11 c.before.before.if-refusal-eq11.false) refl
+    let same = to_z-of_z w32 margin (record { sfits = c.struct_told-1.given.1.0.1 }) in
+    rw (c.twos_complement-first.ensures, same, ne_eqb _ 11 c.if-refusal-eq11.false) refl
 
 pub keep_outcome_of_spec : {M : Type 1} → statement M
 keep_outcome_of_spec = tie.close (tie.spec twos-complement-requires returns returns-2)

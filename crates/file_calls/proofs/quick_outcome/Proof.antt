@@ -33,8 +33,8 @@ slice-aggregate-quick-2 c = search rules
 quick-requires : tie.Need-quick-requires
 quick-requires c κs =
     let mounted = c.before.before.before in
-    let (_, (_, (_, lines))) = mounted.before.before.before.read-lines.ensures in
-    later (λ z. (mounted_none _ _ _ (number_of mounted.mounted-refusal.ensures z)).0) lines
+    let (_, (_, (_, lines))) = mounted.read_lines-read.ensures in
+    later (λ z. (mounted_none _ _ _ (number_of mounted.mounted_refusal-refusal.ensures z)).0) lines
 
 plan-outcome-requires : tie.Need-plan_outcome-requires
 plan-outcome-requires c κs = search rules
@@ -46,9 +46,9 @@ returns : tie.Need-returns
 returns c =
     let laid = c.before.before.before.before in
     let mounted = laid.before.before.before.before in
-    let (e, (lines, _)) = mounted.before.before.before.read-lines.ensures in
+    let (e, (lines, _)) = mounted.read_lines-read.ensures in
     let (answer, (plan, rule)) = laid.quick.ensures in
-    rw c.plan_outcome.ensures (quick-in _ e (λ z. same_lines (lines z)) _ mounted.mounted-refusal.ensures _ answer plan rule)
+    rw c.plan_outcome.ensures (quick-in _ e (λ z. same_lines (lines z)) _ mounted.mounted_refusal-refusal.ensures _ answer plan rule)
 
 pub quick_outcome_spec : {M : Type 1} → statement M
 quick_outcome_spec =

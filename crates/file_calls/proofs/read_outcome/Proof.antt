@@ -15,7 +15,7 @@ read-refusal-requires c κs = search rules
 returns : tie.Need-returns-then-refusal-ne0
 unfolding read_in
 returns c =
-    let asked = c.before.before.read_refusal-refusal.ensures in
+    let asked = c.read_refusal-refusal.ensures in
     rw (asked, ne_eqb _ 0 (number_not asked c.if-refusal-ne0.true)) refl
 
 abbrev begun : tie.Else-refusal-ne0 → tie.Start
@@ -23,7 +23,7 @@ begun d = d.before.before.before.before
 
 -- the file is accepted, so its header is good
 good : (d : tie.Else-refusal-ne0) → GoodHeader (begun d).args.file.now
-good d = header_good _ (read_header _ (number_of d.before.before.read_refusal-refusal.ensures d.if-refusal-ne0.false))
+good d = header_good _ (read_header _ (number_of d.read_refusal-refusal.ensures d.if-refusal-ne0.false))
 
 rack-in-requires : tie.Need-rack_in-requires
 rack-in-requires c κs = (good c).start.long
@@ -35,8 +35,8 @@ returns-2 : tie.Need-returns
 unfolding read_in
 returns-2 c =
     let d = c.before.before in
-    let asked = d.before.before.read-refusal.ensures in
-    rw (c.before.rack_in.ensures, c.count_in.ensures, asked, eq-eqb _ 0 (number_of asked d.if1.false)) refl
+    let asked = d.read_refusal-refusal.ensures in
+    rw (c.rack_in.ensures, c.count_in.ensures, asked, eq-eqb _ 0 (number_of asked d.if-refusal-ne0.false)) refl
 
 pub read_outcome_spec : {M : Type 1} → statement M
 read_outcome_spec =

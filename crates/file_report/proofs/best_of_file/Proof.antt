@@ -61,10 +61,10 @@ slice-aggregate-best-lines : tie.Need-slice_bounds-best_lines-end-2
 slice-aggregate-best-lines c = sym (size c.before)
 
 slice-reshare-prefix-best-lines : tie.Need-slice_bounds-best_lines-end-3
-slice-reshare-prefix-best-lines c = let d = c.before in (given d).quantity-room d.if1.false
+slice-reshare-prefix-best-lines c = let d = c.before in (given d).quantity-room d.if-refusal-ne0.false
 
 slice-aggregate-best-lines-2 : tie.Need-slice_bounds-best_lines-end-4
-slice-aggregate-best-lines-2 c = let d = c.before.before in sym (length-take-le _ _ ((given d).quantity-room d.if1.false))
+slice-aggregate-best-lines-2 c = let d = c.before.before in sym (length-take-le _ _ ((given d).quantity-room c.if-refusal-ne0.false))
 
 slice-relend-prefix-best-lines-2 : tie.Need-slice_bounds-best_lines-end-5
 slice-relend-prefix-best-lines-2 c = bytes c.before.before
@@ -89,8 +89,8 @@ returns-2 c =
     let laid = c.before.before.before.before in
     let d = laid.before.before.before.before in
     let (e, (lines, _)) = (read d).read_lines-read.ensures in (
-      λ _. told-file (lines d.if1.false) _ _ (laid.best-lines.auto.1.1.1.0 ∙ length-take-le _ _ (bytes d)) laid.best-lines.ensures,
-      λ n. absurd (n (number_of e d.if1.false)),
+      λ _. told-file (lines c.if-refusal-ne0.false) _ _ (laid.best_lines.auto.plan ∙ length-take-le _ _ (bytes d)) laid.best_lines.ensures,
+      λ n. absurd (n (number_of e c.if-refusal-ne0.false)),
     )
 
 pub best_of_file_spec : {M : Type 1} → statement M

@@ -13,7 +13,7 @@ taken-size-requires : tie.Need-taken_size-size-requires
 taken-size-requires c κs = search rules
 
 slice-aggregate-write-file : tie.Need-slice_bounds-write_file-end
-slice-aggregate-write-file c = sym (length-take-le _ _ (rw c.before.taken_size-size.ensures (min-le_left _ _)))
+slice-aggregate-write-file c = sym (length-take-le _ _ (rw c.taken_size-size.ensures (min-le_left _ _)))
 
 write-file-requires : tie.Need-write_file-requires
 write-file-requires c κs = search rules
@@ -25,7 +25,7 @@ returns-2 : tie.Need-returns
 returns-2 c =
     let written = c.before.before in
     let taken = written.before.before.before in
-    rw (summary_text _ _ taken.before.if1.false taken.taken_size.ensures) written.write-file.ensures
+    rw (summary_text _ _ taken.if-out-lt-ROOM.false c.taken_size-size.ensures) written.write_file.ensures
 
 pub summarize_spec : {M : Type 1} → statement M
 summarize_spec =

@@ -77,7 +77,7 @@ returns : tie.Need-returns-then-refusal-ne0
 returns c =
     let written = c.before.before in
     let refused = written.before.before in
-    rw (text_refused _ (told refused.before).read_lines-read.ensures.0 refused.if1.true) written.write-refused.ensures
+    rw (text_refused _ (told refused.before).read_lines-read.ensures.0 refused.if-refusal-ne0.true) written.write_refused.ensures
 
 plan-buffer-requires-2 : tie.Need-plan_buffer-quick-requires
 plan-buffer-requires-2 c κs = search rules
@@ -108,18 +108,18 @@ best-bytes d =
     omega (arith, few d, laid.best_of_file-shared.kept.1.1.1.0, (best-buffer laid).plan_buffer-best.ensures)
 
 array-borrow-prefix-sets : tie.Need-slice_bounds-sets-end
-array-borrow-prefix-sets c = let d = c.before in (given d).room d.if1.false
+array-borrow-prefix-sets c = let d = c.before in (given d).room d.if-refusal-ne0.false
 
 slice-aggregate-write-lines : tie.Need-slice_bounds-write_lines-end
 slice-aggregate-write-lines c = sym (size c.before.before)
 
 array-share-prefix-quantities : tie.Need-slice_bounds-quantities-end
-array-share-prefix-quantities c = let d = c.before.before in (given d).quantity-room d.if1.false
+array-share-prefix-quantities c = let d = c.before.before in (given d).quantity-room d.if-refusal-ne0.false
 
 slice-aggregate-write-lines-2 : tie.Need-slice_bounds-write_lines-end-2
 slice-aggregate-write-lines-2 c =
     let d = c.before.before.before in
-    sym (length-take-le _ _ ((given d).quantity-room d.if1.false))
+    sym (length-take-le _ _ ((given d).quantity-room d.if-refusal-ne0.false))
 
 array-borrow-prefix-quick : tie.Need-slice_bounds-quick-end
 array-borrow-prefix-quick c = quick-bytes c.before.before
@@ -153,7 +153,7 @@ returns-2 c =
     let written = c.before.before.before.before in
     let d = (quick-buffer-2 written.before).before in
     let (e, (lines, _)) = (read d).read_lines-read.ensures in
-    rw (text_accepted _ e d.if-refusal-ne0.left (lines d.if-refusal-ne0.left)) written.write-lines.ensures
+    rw (text_accepted _ e d.if-refusal-ne0.left (lines d.if-refusal-ne0.left)) written.write_lines.ensures
 
 pub write_file_spec : {M : Type 1} → statement M
 write_file_spec =

@@ -55,7 +55,7 @@ returns c =
     let good = s.requires.0.0 in
     let off = common_is good busiest.refuse.ensures busiest.common-common.ensures.0 in
     let pairs = quick_is good free.refuse2.ensures _ s.requires.1.0.0 quick_answer plan in
-    rw (← (same_report s.args.rack s.args.quantities.now s.args.lines.now off pairs s.requires.1.1)) written.write-report.ensures
+    rw (← (same_report s.args.rack s.args.quantities.now s.args.lines.now off pairs s.requires.1.1)) written.write_report.ensures
 
 pub write_lines_spec : {M : Type 1} → statement M
 write_lines_spec =

@@ -139,22 +139,22 @@ loop-again c =
     )
 
 same_length : tie.Need-shape_of-left invariant-loop decreases-loop
-same_length c = c.before.loop-k.invariant.3.left_size
+same_length c = c.loop-k.invariant.3.left_size
 
 same-length-2 : tie.Need-shape_of-plan invariant-loop decreases-loop
-same-length-2 c = c.before.loop-k.invariant.3.plan_size
+same-length-2 c = c.loop-k.invariant.3.plan_size
 
 same-length-3 : tie.Need-shape_of-sets invariant-loop decreases-loop
-same-length-3 c = c.before.loop-k.invariant.1
+same-length-3 c = c.loop-k.invariant.1
 
 same-length-4 : tie.Need-shape_of-taken invariant-loop decreases-loop
-same-length-4 c = c.before.loop-k.invariant.2
+same-length-4 c = c.loop-k.invariant.2
 
 returns : tie.Need-returns invariant-loop decreases-loop
 returns c =
     let l = c.before in
-    let e : l.loop.k ≡ (called l).args.n = omega arith in
-    rw (← e) l.loop.invariant.3
+    let e : l.loop-k.k ≡ (called l).args.n = omega arith in
+    rw (← e) l.loop-k.invariant.3
 
 pub take_places_spec : {M : Type 1} → statement M
 take_places_spec =

@@ -72,7 +72,7 @@ chosen : (c : tie.After-choose-tip invariant-loop decreases-loop)
 chosen c =
     let b = counted c in
     let mounted = on_head (called (looped b)).args.mounted in
-    record { begun = begun b; lines_left = c.before.if-busiest-eq0.false; is_tip = c.choose-tip.ensures ∙ ap (chosen_of mounted) b.busiest_tips-busiest.ensures.1 }
+    record { begun = begun b; lines_left = c.if-busiest-eq0.false; is_tip = c.choose-tip.ensures ∙ ap (chosen_of mounted) b.busiest_tips-busiest.ensures.1 }
 
 list-all-requires : tie.Need-list_all-requires invariant-loop decreases-loop
 list-all-requires c κs =
@@ -97,7 +97,7 @@ loop-holds c =
 busiest-tips-requires : tie.Need-busiest_tips-busiest-requires invariant-loop decreases-loop
 busiest-tips-requires c κs =
     let l = c.before in
-    (l.loop.invariant.0.counts_are.size, (called l).requires.0.shareable.good.most)
+    (c.loop-mounted.invariant.0.counts_are.size, (called l).requires.0.shareable.good.most)
 
 same_length : tie.Need-shape_of-list-then-busiest-eq0 invariant-loop decreases-loop
 same_length c = search rules

@@ -109,8 +109,8 @@ loop-holds c =
 
 tips-holds : tie.Need-tips-init invariant-loop2 decreases-loop2 invariant-tips decreases-tips invariant-loop decreases-loop
 tips-holds c =
-    let u = c.before.loop-u.u in
-    (search rules, search rules, sought_skip u u c.loop-u-test.true (le_refl u) c.before.loop-u.invariant.1)
+    let u = c.loop-u.u in
+    (search rules, search rules, sought_skip u u c.loop-u-test.true (le_refl u) c.loop-u.invariant.1)
 
 loop2-holds : tie.Need-loop-i-init invariant-loop2 decreases-loop2 invariant-tips decreases-tips invariant-loop decreases-loop
 unfolding weighted
@@ -136,8 +136,8 @@ tips-again : tie.Need-tips-preserved-then-not-has_one invariant-loop2 decreases-
 tips-again c =
     let r = c.before.before.before in
     let l = r.before in
-    let gone = given_up (good l) (u l) (v l) (i l) (inside l) r.loop2-test.true l.loop2.invariant.2
-    (fails c.before.has_one.ensures c.if1.true) in
+    let gone = given_up (good l) (u l) (v l) (i l) (inside l) r.loop-i-test.true l.loop-i.invariant.2
+    (fails c.has_one.ensures c.if-not-has_one.true-raw) in
     (omega arith, search rules, rw (sym (next l)) (sought_stays (sought l) (omega (arith, gone))))
 
 shared-slice-read-placed :
@@ -178,11 +178,11 @@ loop2-again c =
     let r = turn p in
     let l = r.before in
     let here = r.loop-i-test.true in
-    let one = passes p.before.before.before.has_one.ensures p.before.before.if1.false in (
+    let one = passes p.has_one.ensures p.if-not-has_one.false-raw in (
       search rules,
       l.loop-i.invariant.1,
       served-more (good l) (u l) (v l) (i l) here l.loop-i.invariant.2 one,
-      (counted-more (good l) (u l) (v l) (i l) here (u l) l.loop-i.invariant.3 p.placed.ensures).0,
+      (counted-more (good l) (u l) (v l) (i l) here (u l) l.loop-i.invariant.3 p.placed-with_u.ensures).0,
       (counted-more (good l) (u l) (v l) (i l) here (v l) l.loop-i.invariant.4 c.placed-with_v.ensures).0,
     )
 
@@ -197,7 +197,7 @@ side-pairs-requires-2 c κs = let l = c.before.before in ((s l).requires.2, (cou
 score-of-requires : tie.Need-score_of-score-requires invariant-loop2 decreases-loop2 invariant-tips decreases-tips invariant-loop decreases-loop
 score-of-requires c κs =
     let (p, q, n) = counts c.before.before.before in
-    (c.before.side_pairs-to_u.ensures, c.side_pairs-to_v.ensures, p, q, n)
+    (c.side_pairs-to_u.ensures, c.side_pairs-to_v.ensures, p, q, n)
 
 add-v-2 : tie.Need-overflow_step-v-in-tips invariant-loop2 decreases-loop2 invariant-tips decreases-tips invariant-loop decreases-loop
 add-v-2 c = search rules
@@ -211,17 +211,17 @@ tips-again-2 c =
     let p = a.before in
     let e = p.before.before in
     let l = e.before in
-    let inv = l.loop2.invariant in
+    let inv = l.loop-i.invariant in
     let all = (s l).requires.1 in
-    let last = e.loop2-test.false in
+    let last = e.loop-i-test.false in
     let is = passed_score (good l) (u l) (v l) (i l) last (inside l) (ordered l) all inv.2 inv.3 inv.4 in
-    let scored = a.score-of.ensures ∙ is in
+    let scored = a.score_of-score.ensures ∙ is in
     let side = passed_side (good l) (u l) (v l) (i l) last all inv.2 inv.3 inv.4 in (
       omega (arith, ordered l),
       omega (arith, inside l),
       rw (sym (next l)) (⊎_elim
           (λ w. rw w.1 (sought_moves (u l) (v l) (sought l) (inside l) scored w.0.taken
-          (rw (p.before.side-pairs.ensures, p.side-pairs2.ensures) side)))
+          (rw (p.side_pairs-to_u.ensures, p.side_pairs-to_v.ensures) side)))
           (λ w. rw w.1 (sought_stays (sought l) (omega (arith, scored, w.0.left))))
           c.if-best-score.branch),
     )
@@ -234,7 +234,7 @@ loop-less c = search rules
 
 loop-again : tie.Need-loop-u-preserved invariant-loop2 decreases-loop2 invariant-tips decreases-tips invariant-loop decreases-loop
 loop-again c =
-    let t = c.before.tips in
+    let t = c.tips in
     let l = lower c.before in
     let u = l.loop-u.u in
     let m = (begun l.before).args.m in
@@ -245,8 +245,8 @@ loop-again c =
 returns : tie.Need-returns invariant-loop2 decreases-loop2 invariant-tips decreases-tips invariant-loop decreases-loop
 returns c =
     let s = begun c.before.before in
-    let e : c.before.loop-u.u ≡ s.args.m = omega arith in
-    sought_all s.requires.0.some (rw e at c.before.loop-u.invariant.1)
+    let e : c.loop-u.u ≡ s.args.m = omega arith in
+    sought_all s.requires.0.some (rw e at c.loop-u.invariant.1)
 
 pub choose_tips_spec : {M : Type 1} → statement M
 choose_tips_spec =

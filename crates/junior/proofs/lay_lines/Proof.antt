@@ -47,16 +47,16 @@ loop-again : tie.Need-loop-i-preserved invariant-loop decreases-loop
 loop-again c =
     let l = c.before.before.before in
     let a = (called l).args in
-    let more = map_more (prefer a.tip (λ s. a.other)) a.lines.now a.plan.now l.loop.i (omega arith) (omega arith) in
-    (search rules, simp length-set (omega arith), rw (c.tip_for.ensures, l.loop.invariant.2) more)
+    let more = map_more (prefer a.tip (λ s. a.other)) a.lines.now a.plan.now l.loop-i.i (omega arith) (omega arith) in
+    (search rules, simp length-set (omega arith), rw (c.tip_for.ensures, l.loop-i.invariant.2) more)
 
 same_length : tie.Need-shape_of-plan invariant-loop decreases-loop
-same_length c = c.before.loop-i.invariant.1
+same_length c = c.loop-i.invariant.1
 
 returns : tie.Need-returns invariant-loop decreases-loop
 unfolding gathered
 returns c =
-    let l = c.before.loop-i in
+    let l = c.loop-i in
     let a = (called c.before).args in
     let all = take_all l.i a.lines.now (omega arith) in
     l.invariant.2 ∙ rw (all, drop_of_length-le a.plan.now {i = l.i} (omega arith), append-nil)

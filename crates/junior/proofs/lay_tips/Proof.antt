@@ -13,13 +13,13 @@ same_length : tie.Need-shape_of-plan-then-tips
 same_length c = search rules
 
 returns : tie.Need-returns-then-tips
-returns c = c.before.before.lay_lines.ensures ∙ rw c.before.before.before.before.if-tips.true
+returns c = c.lay_lines.ensures ∙ rw c.if-tips.true
 
 same-length-2 : tie.Need-shape_of-plan-else-tips
 same-length-2 c = search rules
 
 returns-2 : tie.Need-returns-else-tips
-returns-2 c = c.before.before.lay_lines-else-tips.ensures ∙ rw c.before.before.before.before.if-tips.false
+returns-2 c = c.lay_lines-else-tips.ensures ∙ rw c.if-tips.false
 
 pub lay_tips_spec : {M : Type 1} → statement M
 lay_tips_spec =

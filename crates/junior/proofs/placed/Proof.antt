@@ -7,10 +7,10 @@ has-tip-requires : tie.Need-has_tip-requires
 has-tip-requires c κs = search rules
 
 returns : tie.Need-returns-then-has_tip
-returns c = rw (sym c.before.has_tip.ensures ∙ c.if-has_tip.true)
+returns c = rw (sym c.has_tip.ensures ∙ c.if-has_tip.true)
 
 returns-2 : tie.Need-returns
-returns-2 c = rw (sym c.before.has_tip.ensures ∙ c.if-has_tip.false)
+returns-2 c = rw (sym c.has_tip.ensures ∙ c.if-has_tip.false)
 
 pub placed_spec : {M : Type 1} → statement M
 placed_spec = tie.close (tie.spec has-tip-requires returns returns-2)

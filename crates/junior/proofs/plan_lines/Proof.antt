@@ -31,7 +31,7 @@ returns : tie.Need-returns-then-tips-eq0
 returns c =
     let t = c.before.before in
     let a = (begun-2 t).args in
-    let told = t.choose-tips.ensures in (
+    let told = t.choose_tips-tips.ensures in (
       answer-none a.m a.quantities.now a.lines.now told c.if-tips-eq0.true,
       plan_none a.m a.quantities.now a.lines.now told c.if-tips-eq0.true a.plan.now,
     )
@@ -41,7 +41,7 @@ lay-tips-requires c κs =
     let e = c.before in
     let t = e.before.before in
     let s = begun-2 t in
-    let (u, v) = tips-inside s.args.m s.args.quantities.now s.args.lines.now t.choose-tips.ensures s.requires.0 e.if1.false in
+    let (u, v) = tips-inside s.args.m s.args.quantities.now s.args.lines.now t.choose_tips-tips.ensures s.requires.0 e.if-tips-eq0.false in
     (omega (arith, s.requires.0.most), omega (arith, s.requires.0.most), search rules)
 
 sub-t16 : tie.Need-overflow_sub-result
@@ -57,9 +57,9 @@ returns-2 c =
     let t = e.before.before in
     let s = begun-2 t in
     let a = s.args in
-    let told = t.choose-tips.ensures in (
-      answer_some a.m a.quantities.now a.lines.now told s.requires.0 e.if1.false,
-      l.lay-tips.ensures ∙ plan_some a.m a.quantities.now a.lines.now told s.requires.0 e.if1.false a.plan.now,
+    let told = t.choose_tips-tips.ensures in (
+      answer_some a.m a.quantities.now a.lines.now told s.requires.0 e.if-tips-eq0.false,
+      l.lay_tips.ensures ∙ plan_some a.m a.quantities.now a.lines.now told s.requires.0 e.if-tips-eq0.false a.plan.now,
     )
 
 pub plan_lines_spec : {M : Type 1} → statement M

@@ -12,19 +12,19 @@ use Rattle.junior.proofs.score_of.Tie as tie
 choice : (c : tie.Joined-not-same) → let a = c.args in (a.same ≡ true) ⊎ ((a.with_u < a.all) × (a.with_v < a.all))
 choice c =
     ⊎_elim
-    (λ w. inr (omega (arith, c.before.requires, w.1.left), omega (arith, c.before.requires, w.2.left)))
+    (λ w. inr (omega (arith, c.requires, w.1.left), omega (arith, c.requires, w.2.left)))
     (λ w. inl (passes refl w.left))
-    c.if1.branch
+    c.if-not-same.branch
 
 returns : tie.Need-returns-then-with_u-all
 returns c =
-    let a = c.before.before.args in
-    score_full a.all a.with_u a.with_v (fails refl c.before.if1.true) (inl c.if-with_u-all.true)
+    let a = c.args in
+    score_full a.all a.with_u a.with_v (fails refl c.if-not-same.true-raw) (inl c.if-with_u-all.true)
 
 returns-2 : tie.Need-returns-then-with_v-all
 returns-2 c =
-    let a = c.before.before.before.args in
-    score_full a.all a.with_u a.with_v (fails refl c.before.before.if1.true) (inr c.if-with_v-all.true)
+    let a = c.args in
+    score_full a.all a.with_u a.with_v (fails refl c.if-not-same.true-raw) (inr c.if-with_v-all.true)
 
 add-result : tie.Need-overflow_add-result
 add-result c =

@@ -17,7 +17,7 @@ pairs-among-requires-2 c κs = search rules
 returns : tie.Need-returns
 unfolding side_pairs
 returns c =
-    let first = c.before.pairs_among.ensures in
+    let first = c.pairs_among.ensures in
     let second = c.pairs_among-2.ensures in
     rw (first, second)
 
@@ -25,7 +25,7 @@ add-result : tie.Need-overflow_add-result
 unfolding side_pairs
 add-result c =
     let s = c.before.before.before in
-    let first = c.before.pairs_among.ensures in
+    let first = c.pairs_among.ensures in
     let second = c.pairs_among-2.ensures in
     record { fits = omega (arith, first, second, side_few s.args.all s.args.on s.requires.1 s.requires.2) }
 

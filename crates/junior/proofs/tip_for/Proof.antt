@@ -10,13 +10,13 @@ cast-result : tie.Need-overflow_cast-result
 cast-result c = search rules
 
 returns : tie.Need-returns-then-has_tip
-returns c = rw (sym c.before.has_tip.ensures ∙ c.if-has_tip.true)
+returns c = rw (sym c.has_tip.ensures ∙ c.if-has_tip.true)
 
 cast-result-2 : tie.Need-overflow_cast-result-2
 cast-result-2 c = search rules
 
 returns-2 : tie.Need-returns
-returns-2 c = rw (sym c.before.has_tip.ensures ∙ c.if-has_tip.false)
+returns-2 c = rw (sym c.has_tip.ensures ∙ c.if-has_tip.false)
 
 pub tip_for_spec : {M : Type 1} → statement M
 tip_for_spec = tie.close (tie.spec has-tip-requires cast-result returns cast-result-2 returns-2)

@@ -22,7 +22,7 @@ inside c =
     omega (arith, c.loop-i.invariant, lowest-by_lt a.m a.sums.now a.table.now a.a a.w (start c).requires.2)
 
 most-at-requires : tie.Need-most_at-most-requires invariant-loop decreases-loop
-most-at-requires c κs = (omega arith, table_size c.before.before.before.requires.0.1)
+most-at-requires c κs = (omega arith, table_size c.requires.0.1)
 
 loop-holds : tie.Need-loop-i-init invariant-loop decreases-loop
 loop-holds c = zero-le
@@ -43,16 +43,16 @@ loop-again c =
     let b = c.before.before in
     let a = (start b).args in
     let p = (start b).requires in
-    let l = b.loop in
-    omega (arith, goes_on p.0.1 a.a a.w l.i p.1 l.invariant (omega (arith, c.before.split_at.ensures, b.before.most-at.ensures)))
+    let l = b.loop-i in
+    omega (arith, goes_on p.0.1 a.a a.w l.i p.1 l.invariant (omega (arith, c.split_at.ensures, b.most_at-most.ensures)))
 
 returns : tie.Need-returns invariant-loop decreases-loop
 returns c =
     let b = c.before.before in
     let a = (start b).args in
     let p = (start b).requires in
-    let l = b.loop in
-    ends p.0.1 a.a a.w l.i p.1 l.invariant p.2 (omega (arith, c.before.split_at.ensures, b.before.most-at.ensures))
+    let l = b.loop-i in
+    ends p.0.1 a.a a.w l.i p.1 l.invariant p.2 (omega (arith, c.split_at.ensures, b.most_at-most.ensures))
 
 pub find_lowest_spec : {M : Type 1} → statement M
 find_lowest_spec =

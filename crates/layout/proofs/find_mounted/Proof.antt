@@ -47,7 +47,7 @@ returns-3 c =
     let a = (called split).args in
     let p = (called split).requires in
     loses p.0.1 a.on a.a a.w p.1 c.find_lowest-then-split_at-most_at.ensures
-    (λ x y. omega (arith, split.split_at.ensures, most.most-at.ensures))
+    (λ x y. omega (arith, split.split_at.ensures, most.most_at.ensures))
 
 returns-4 : tie.Need-returns
 returns-4 c =
@@ -56,7 +56,7 @@ returns-4 c =
     let a = (called split).args in
     let p = (called split).requires in
     wins p.0.1 a.on a.a a.w p.1 (omega arith) (omega arith)
-    (omega (arith, split.split_at.ensures, most.most-at.ensures))
+    (omega (arith, split.split_at.ensures, most.most_at.ensures))
 
 pub find_mounted_spec : {M : Type 1} → statement M
 find_mounted_spec =

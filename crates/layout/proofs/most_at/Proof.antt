@@ -13,8 +13,8 @@ use Rattle.layout.proofs.most_at.Tie as tie
 -- the interval has a place in the table
 room : (c : tie.Else-w-eq0) → let x = c.args in x.a * x.m + (x.a + x.w - 1) < length x.table.now
 room c =
-    let x = c.before.args in
-    omega (arith, most-room x.m x.a x.w c.before.requires.0 (pos_of_ne-zero c.if-w-eq0.false))
+    let x = c.args in
+    omega (arith, most-room x.m x.a x.w c.requires.0 (pos_of_ne-zero c.if-w-eq0.false))
 
 returns : tie.Need-returns-then-w-eq0
 unfolding most_by
@@ -39,7 +39,7 @@ shared-slice-read-result : tie.Need-bounds-table-a
 shared-slice-read-result c = omega (arith, room c.before)
 
 returns-2 : tie.Need-returns
-returns-2 c = sym (most-place _ _ _ _ (pos_of_ne-zero c.before.if-w-eq0.false))
+returns-2 c = sym (most-place _ _ _ _ (pos_of_ne-zero c.if-w-eq0.false))
 
 pub most_at_spec : {M : Type 1} → statement M
 most_at_spec =

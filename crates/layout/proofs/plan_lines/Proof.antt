@@ -24,8 +24,8 @@ returns c =
     let s = laid.before.before.before.before.before.before.before.before in
     let p = s.requires in
     λ lines r.
-    planned.plan-owners.ensures
-    ∙ rw laid.lay-interval.ensures (plan_laid (on_head s.args.mounted) r s.args.owner.now p.4 p.1 p.2)
+    planned.plan_owners.ensures
+    ∙ rw c.lay_interval.ensures (plan_laid (on_head s.args.mounted) r s.args.owner.now p.4 p.1 p.2)
 
 pub plan_lines_spec : {M : Type 1} → statement M
 plan_lines_spec =

@@ -18,7 +18,7 @@ same_length : tie.Need-shape_of-sets-then-refusal-ne0
 same_length c = search rules
 
 returns : tie.Need-returns-then-refusal-ne0
-returns c = best-refused _ _ _ _ _ _ _ c.before.before.best_refusal-refusal.ensures c.if-refusal-ne0.true
+returns c = best-refused _ _ _ _ _ _ _ c.best_refusal-refusal.ensures c.if-refusal-ne0.true
 
 abbrev begun : tie.Else-refusal-ne0 → tie.Start
 begun d = d.before.before.before.before.before.before.before.before
@@ -27,7 +27,7 @@ begun d = d.before.before.before.before.before.before.before.before
 asked : (d : tie.Else-refusal-ne0) →
     let a = (begun d).args in
     Bestable a.earlier a.rack (take a.count a.sets.now) (length a.plan.now) (length a.table.now)
-asked d = best_none _ _ _ _ _ (number_of d.before.before.best_refusal-refusal.ensures d.if-refusal-ne0.false)
+asked d = best_none _ _ _ _ _ (number_of d.best_refusal-refusal.ensures d.if-refusal-ne0.false)
 
 good : (d : tie.Else-refusal-ne0) → let a = (begun d).args in GoodLines a.rack (take a.count a.quantities.now) (take a.count a.sets.now)
 good d = (begun d).requires.good (asked d).free
@@ -82,8 +82,8 @@ returns-2 : tie.Need-returns
 returns-2 c =
     let laid = c.before.before.before.before.before.before in
     let d = laid.before.before.before.before.before in
-    let e = laid.plan-lines.ensures in
-    best_accepted _ _ _ _ _ _ _ d.before.before.best-refusal.ensures d.if1.false (good d) (count d) e.0 e.1.0 e.1.1
+    let e = laid.plan_lines-pairs.ensures in
+    best_accepted _ _ _ _ _ _ _ d.best_refusal-refusal.ensures c.if-refusal-ne0.false (good d) (count d) e.0 e.1.0 e.1.1
 
 pub best_spec : {M : Type 1} → statement M
 best_spec =

@@ -35,7 +35,7 @@ returns : tie.Need-returns-then-refusal-ne0
 returns c =
     let b = c.before.before in
     let s = begun b in
-    let e = check_first _ _ _ _ _ _ _ b.best-refusal.ensures c.if-refusal-ne0.true in
+    let e = check_first _ _ _ _ _ _ _ b.best_refusal-refusal.ensures c.if-refusal-ne0.true in
     (e, check_rule _ _ _ _ _ _ _ s.requires.good e)
 
 slice-aggregate-lines : tie.Need-slice_bounds-lines-end
@@ -56,7 +56,7 @@ check-plan-requires : tie.Need-check_plan-requires
 check-plan-requires c κs =
     let named = c.before.before in
     let d = named.before.before in (
-      record { good = (begun (asked d)).requires.good (free d).free; runs = (free d).runs; all = named.names_of.ensures },
+      record { good = (begun (asked d)).requires.good (free d).free; runs = (free d).runs; all = c.names_of.ensures },
       length-take-le _ _ (bytes d) ∙ count d,
       (free d).cells,
     )
@@ -65,7 +65,7 @@ returns-2 : tie.Need-returns
 returns-2 c =
     let d = c.before.before.before.before.before in
     let s = begun (asked d) in
-    let e = check_next _ _ _ _ _ _ _ (asked d).best_refusal-refusal.ensures d.if1.false (count d) c.check_plan.ensures in
+    let e = check_next _ _ _ _ _ _ _ (asked d).best_refusal-refusal.ensures c.if-refusal-ne0.false (count d) c.check_plan.ensures in
     (e, check_rule _ _ _ _ _ _ _ s.requires.good e)
 
 pub check_spec : {M : Type 1} → statement M

@@ -17,12 +17,12 @@ good : (d : tie.Else-earlier-ne0) → let a = (begun d).args in GoodLines a.rack
 good d = (begun d).requires.good d.if-earlier-ne0.false
 
 slice-aggregate-common-tip : tie.Need-slice_bounds-common_tip-end
-slice-aggregate-common-tip c = sym (length-take-le _ _ ((begun c.before).requires.room c.before.if-earlier-ne0.false))
+slice-aggregate-common-tip c = sym (length-take-le _ _ ((begun c.before).requires.room c.if-earlier-ne0.false))
 
 slice-aggregate-common-tip-2 : tie.Need-slice_bounds-common_tip-end-2
 slice-aggregate-common-tip-2 c =
     let d = c.before.before in
-    sym (length-take-le _ _ ((begun d).requires.quantity-room d.if1.false))
+    sym (length-take-le _ _ ((begun d).requires.quantity-room c.if-earlier-ne0.false))
 
 common-tip-requires : tie.Need-common_tip-found-requires
 common-tip-requires c κs = let g = good c.before.before in (g.most, record { same = g.same; few = g.few })
@@ -31,7 +31,7 @@ returns-2 : tie.Need-returns
 returns-2 c =
     let d = c.before.before.before in
     let found = c.common_tip-found.ensures in
-    common_accepted _ _ _ _ d.if1.false (good d) found.0 found.1.0 found.1.1
+    common_accepted _ _ _ _ c.if-earlier-ne0.false (good d) found.0 found.1.0 found.1.1
 
 pub common_spec : {M : Type 1} → statement M
 common_spec = tie.close (tie.spec returns slice-aggregate-common-tip slice-aggregate-common-tip-2 common-tip-requires returns-2)

@@ -20,14 +20,14 @@ plan-refusal-requires c κs = search rules
 returns : tie.Need-returns-then-refusal-ne0
 returns c =
     let asked = c.before.before in
-    quick_refused _ _ _ _ _ _ asked.plan-refusal.ensures (size asked.before.before.before.before) c.if-refusal-ne0.true
+    quick_refused _ _ _ _ _ _ asked.plan_refusal-refusal.ensures (size asked.before.before.before.before) c.if-refusal-ne0.true
 
 abbrev begun : tie.Else-refusal-ne0 → tie.Start
 begun d = d.before.before.before.before.before.before
 
 -- nothing is refused: the plan has a byte a line, and the lines are good
 asked : (d : tie.Else-refusal-ne0) → let a = (begun d).args in (a.earlier.number ≡ 0) × (a.count ≤ length a.plan.now)
-asked d = plan_none _ _ _ (number_of d.before.before.plan_refusal-refusal.ensures d.if-refusal-ne0.false)
+asked d = plan_none _ _ _ (number_of d.plan_refusal-refusal.ensures d.if-refusal-ne0.false)
 
 good : (d : tie.Else-refusal-ne0) → let a = (begun d).args in GoodLines a.rack (take a.count a.quantities.now) (take a.count a.sets.now)
 good d = (begun d).requires.good (asked d).0
@@ -67,9 +67,9 @@ returns-2 : tie.Need-returns
 returns-2 c =
     let laid = c.before.before.before.before in
     let d = laid.before.before.before.before in
-    let e = laid.plan-lines.ensures in
-    let asked = d.before.before.plan-refusal in
-    quick_accepted _ _ _ _ _ _ asked.ensures (size (begun d)) d.if1.false (count d) (good d) e.pairs_are e.plan_is
+    let e = laid.plan_lines-pairs.ensures in
+    let asked = d.plan_refusal-refusal in
+    quick_accepted _ _ _ _ _ _ asked.ensures (size (begun d)) c.if-refusal-ne0.false (count d) (good d) e.pairs_are e.plan_is
 
 pub quick_spec : {M : Type 1} → statement M
 quick_spec =

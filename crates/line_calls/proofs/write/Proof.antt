@@ -33,7 +33,7 @@ few d = omega (arith, count d, (good d).few-lines)
 slice-aggregate-version-for : tie.Need-slice_bounds-version_for-end
 slice-aggregate-version-for c =
     let d = c.before in
-    sym (length-take-le _ _ ((begun d).requires.quantity-room d.if1.false))
+    sym (length-take-le _ _ ((begun d).requires.quantity-room c.if-earlier-ne0.false))
 
 version-for-requires : tie.Need-version_for-version-requires
 version-for-requires c κs = search rules
@@ -51,7 +51,7 @@ started w = (found w).before.before
 returns-2 : tie.Need-returns-then-refusal-ne0
 returns-2 c =
     let w = c.before.before in
-    write-refused _ _ _ _ _ w.write-refusal.ensures (found w).version_for-version.ensures (count (started w)) c.if-refusal-ne0.true
+    write-refused _ _ _ _ _ w.write_refusal-refusal.ensures (found w).version_for-version.ensures (count (started w)) c.if-refusal-ne0.true
 
 abbrev asked : tie.Else-refusal-ne0 → tie.After-write_refusal-refusal
 asked d = d.before.before
@@ -94,7 +94,7 @@ write-file-requires c κs =
     let e = c.before.before.before in
     let w = asked (measured e) in
     let d = started w in
-    let bytes = length-take-le _ _ (room e) ∙ e.file-length.ensures in
+    let bytes = length-take-le _ _ (room e) ∙ c.file_length-bytes.ensures in
     ((good d).same, bytes ∙ ap₂ file_length (found w).version_for-version.ensures (count d))
 
 same_length : tie.Need-shape_of-out
@@ -106,7 +106,7 @@ returns-3 c =
     let e = written.before.before.before.before in
     let w = asked (measured e) in
     write_accepted _ _ _ _ _ w.write_refusal-refusal.ensures (found w).version_for-version.ensures (count (started w)) (measured e).if-refusal-ne0.false
-    e.file-length.ensures written.write-file.ensures
+    c.file_length-bytes.ensures written.write_file.ensures
 
 pub write_spec : {M : Type 1} → statement M
 write_spec =

@@ -20,8 +20,8 @@ known : (c : tie.In-loop-b invariant-loop decreases-loop) →
     (a.a * a.m + a.m + c.loop-b.b < length c.loop-b.table) × (length c.loop-b.table ≤ 4096)
 known c =
     let s = c.before.before in
-    let room = next_place s.args.m s.args.a c.before.loop-b.b s.requires.1 (omega arith) in
-    (omega (arith, room, s.requires.2, c.before.loop-b.invariant.1.size), omega (arith, square_few s.requires.0, s.requires.2, c.before.loop-b.invariant.1.size))
+    let room = next_place s.args.m s.args.a c.loop-b.b s.requires.1 (omega arith) in
+    (omega (arith, room, s.requires.2, c.loop-b.invariant.1.size), omega (arith, square_few s.requires.0, s.requires.2, c.loop-b.invariant.1.size))
 
 mul-row : tie.Need-overflow_mul-row invariant-loop decreases-loop
 mul-row c = omega (arith, next_place c.args.m c.args.a 0 c.requires.1 (omega arith), square_few c.requires.0)
@@ -59,17 +59,17 @@ loop-less c = search rules
 loop-again : tie.Need-loop-b-preserved invariant-loop decreases-loop
 loop-again c =
     let s = c.before.before.before in
-    let at = c.before.before.loop-b in
+    let at = c.loop-b in
     let room = next_place s.args.m s.args.a at.b s.requires.1 (omega arith) in
     (omega arith, copied_more s.args.m s.args.a s.args.table.now at.b (omega arith) at.invariant.1 (omega (arith, room, s.requires.2)))
 
 same_length : tie.Need-shape_of-table invariant-loop decreases-loop
-same_length c = c.before.loop-b.invariant.1.size
+same_length c = c.loop-b.invariant.1.size
 
 returns : tie.Need-returns invariant-loop decreases-loop
 returns c =
-    let e : c.before.loop-b.b ≡ c.before.before.args.m = omega arith in
-    rw e at c.before.loop-b.invariant.1
+    let e : c.loop-b.b ≡ c.args.m = omega arith in
+    rw e at c.loop-b.invariant.1
 
 pub copy_row_spec : {M : Type 1} → statement M
 copy_row_spec =

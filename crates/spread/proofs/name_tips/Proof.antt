@@ -21,12 +21,12 @@ slice-read-plan : tie.Need-bounds-plan-i invariant-loop decreases-loop
 slice-read-plan c = search rules
 
 cast-plan : tie.Need-overflow_cast-plan invariant-loop decreases-loop
-cast-plan c = omega (arith, c.slice_known-1.given c.before.before.loop-i.i)
+cast-plan c = omega (arith, c.slice_known-1.given c.loop-i.i)
 
 shared-slice-read-plan : tie.Need-bounds-list-plan invariant-loop decreases-loop
 shared-slice-read-plan c =
     let s = c.before.before.before.before in
-    let l = c.before.before.before.loop-i in
+    let l = c.loop-i in
     rw (l.invariant.2, mapped_next (λ t. get_or s.args.list.now t 0) s.args.plan.now l.i) (all-at 0 s.requires l.i (omega arith))
 
 slice-write-plan : tie.Need-bounds-plan-i-in-loop-i invariant-loop decreases-loop
@@ -40,8 +40,8 @@ loop-less c = search rules
 
 loop-again : tie.Need-loop-i-preserved invariant-loop decreases-loop
 loop-again c =
-    let g = c.before.before.before.before.args in
-    let l = c.before.before.before.loop-i in (
+    let g = c.args in
+    let l = c.loop-i in (
       search rules,
       simp length-set (omega arith),
       rw (l.invariant.2, mapped-more (λ t. get_or g.list.now t 0) g.plan.now l.i (omega arith)),
@@ -52,8 +52,8 @@ same_length c = search rules
 
 returns : tie.Need-returns invariant-loop decreases-loop
 returns c =
-    let g = c.before.before.args in
-    c.before.loop-i.invariant.2 ∙ mapped-all (λ t. get_or g.list.now t 0) g.plan.now c.before.loop-i.i (omega arith)
+    let g = c.args in
+    c.loop-i.invariant.2 ∙ mapped-all (λ t. get_or g.list.now t 0) g.plan.now c.loop-i.i (omega arith)
 
 pub name_tips_spec : {M : Type 1} → statement M
 name_tips_spec =

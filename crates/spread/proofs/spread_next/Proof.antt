@@ -22,8 +22,8 @@ returns c = λ old done.
     let unnamed = copied.before.before in
     let inner = unnamed.before.before in
     let s = inner.before.before in
-    rows_copied s.args.set s.args.m s.args.r s.requires.named old s.args.a done inner.if1.true
-    (fails unnamed.before.has-tip.ensures unnamed.if2.true) copied.copy-row.ensures
+    rows_copied s.args.set s.args.m s.args.r s.requires.named old s.args.a done inner.if-a-m.true
+    (fails unnamed.has_tip.ensures unnamed.if-not-has_tip.true-raw) copied.copy_row.ensures
 
 spread-row-requires : tie.Need-spread_row-requires
 spread-row-requires c κs = search rules

@@ -31,7 +31,7 @@ known : (c : tie.In-loop-b invariant-loop decreases-loop) →
     (a.a * a.m + (at.b - 1) < length at.table) × (length at.table ≤ 4096)
 known c =
     let s = begun c.before in
-    let at = c.before.loop-b in
+    let at = c.loop-b in
     let room = place s.args.m s.args.a at.b s.requires.inside (omega arith) at.invariant.0 in (
       omega (arith, room, s.requires.size, at.invariant.2.size),
       omega (arith, square_few s.requires.rack, s.requires.size, at.invariant.2.size),
@@ -44,8 +44,8 @@ mul-row c =
 
 loop-holds : tie.Need-loop-b-init invariant-loop decreases-loop
 loop-holds c =
-    let g = c.before.args in
-    let p = c.before.requires in
+    let g = c.args in
+    let p = c.requires in
     (omega arith, p.named, row-none g.set g.m g.r g.a p.named g.table.now)
 
 sub-b : tie.Need-overflow_sub-b invariant-loop decreases-loop
@@ -55,7 +55,7 @@ cell-at-requires : tie.Need-cell_at-requires invariant-loop decreases-loop
 cell-at-requires c κs = λ inside.
     let l = c.before.before in
     let s = begun l in
-    let at = l.loop in
+    let at = c.loop-b in
     let room = read_room (has s.args.set) s.args.m s.args.a at.b s.requires.inside (omega arith) at.invariant.0 in
     omega (arith, (rw (← s.requires.below, ← s.requires.named, ← at.invariant.1) at room) inside, at.invariant.2.size, s.requires.size)
 
@@ -86,7 +86,7 @@ ended c =
       arith,
       at.invariant.1,
       c.one-end.ensures,
-      ap {B = ℕ} (λ x. cond x 1 0) c.before.has_tip.ensures,
+      ap {B = ℕ} (λ x. cond x 1 0) c.has_tip.ensures,
       rank_back (has a.set) at.b (omega arith),
     )
 
@@ -112,12 +112,12 @@ loop-again c =
     )
 
 same_length : tie.Need-shape_of-table invariant-loop decreases-loop
-same_length c = c.before.loop-b.invariant.2.size
+same_length c = c.loop-b.invariant.2.size
 
 returns : tie.Need-returns invariant-loop decreases-loop
 returns c =
-    let e : c.before.loop-b.b ≡ 0 = omega arith in
-    rw e at c.before.loop-b.invariant.2
+    let e : c.loop-b.b ≡ 0 = omega arith in
+    rw e at c.loop-b.invariant.2
 
 pub spread_row_spec : {M : Type 1} → statement M
 spread_row_spec =

@@ -25,8 +25,8 @@ looped c = c.before.before.before
 
 loop-holds : tie.Need-loop-a-init invariant-loop decreases-loop
 loop-holds c =
-    let g = c.before.args in
-    let p = c.before.requires in
+    let g = c.args in
+    let p = c.requires in
     (omega arith, p.1, rows_none g.set g.m g.r p.1 g.table.now)
 
 sub-a : tie.Need-overflow_sub-a invariant-loop decreases-loop
@@ -50,7 +50,7 @@ ranked c =
       arith,
       at.invariant.1,
       c.one-first.ensures,
-      ap {B = ℕ} (λ x. cond x 1 0) c.before.has_tip.ensures,
+      ap {B = ℕ} (λ x. cond x 1 0) c.has_tip.ensures,
       rank_back (has a.set) at.a (omega arith),
     )
 
@@ -83,19 +83,19 @@ loop-again c =
     let e : at.a ≡ at.a - 1 + 1 = omega arith in (
       omega arith,
       omega (arith, ranked tip),
-      row.spread-next.ensures g.table.now (rw (← e) at.invariant.2),
+      row.spread_next.ensures g.table.now (rw (← e) at.invariant.2),
     )
 
 same_length : tie.Need-shape_of-table invariant-loop decreases-loop
-same_length c = c.before.loop-a.invariant.2.size
+same_length c = c.loop-a.invariant.2.size
 
 returns : tie.Need-returns invariant-loop decreases-loop
 returns c =
     let s = begun c.before in
     let g = s.args in
     let p = s.requires in
-    let e : c.before.loop-a.a ≡ 0 = omega arith in
-    rows_all g.set g.m g.r p.1 g.table.now p.2 (rw e at c.before.loop-a.invariant.2)
+    let e : c.loop-a.a ≡ 0 = omega arith in
+    rows_all g.set g.m g.r p.1 g.table.now p.2 (rw e at c.loop-a.invariant.2)
 
 pub spread_table_spec : {M : Type 1} → statement M
 spread_table_spec =

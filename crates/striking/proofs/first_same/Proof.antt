@@ -40,8 +40,8 @@ returns : tie.Need-returns-then-quantities-j invariant-loop decreases-loop
 returns c =
     let equal = c.before.before.before in (
       omega arith,
-      record { set = equal.if1.true; quantity = eqb-true _ _ c.if2.true },
-      equal.before.before.before.before.loop.invariant.1,
+      record { set = equal.if-lines-j.true; quantity = eqb-true _ _ c.if-quantities-j.true-raw },
+      equal.loop-j.invariant.1,
     )
 
 add-j : tie.Need-overflow_add-j invariant-loop decreases-loop
@@ -52,18 +52,18 @@ loop-less c = search rules
 
 loop-again : tie.Need-loop-j-preserved invariant-loop decreases-loop
 loop-again c =
-    let j = c.before.before.before.before.loop-j in (
+    let j = c.loop-j in (
       search rules,
       λ k l same. ⊎_elim
           (λ h.
           let e : k ≡ j.j = omega arith in
-          ⊎_elim (λ (_, _, _, n). eqb-false _ _ n.left (rw e at same.quantity)) (λ n. n.left (rw e at same.set)) c.if1.branch)
+          ⊎_elim (λ (_, _, _, n). eqb-false _ _ n.left (rw e at same.quantity)) (λ n. n.left (rw e at same.set)) c.else-lines-j.branch)
           (λ h. j.invariant.1 k h same)
           (le_or_lt j.j k),
     )
 
 returns-2 : tie.Need-returns invariant-loop decreases-loop
-returns-2 c = (omega arith, record { set = refl; quantity = refl }, λ k l. c.before.loop-j.invariant.1 k (omega (arith, l)))
+returns-2 c = (omega arith, record { set = refl; quantity = refl }, λ k l. c.loop-j.invariant.1 k (omega (arith, l)))
 
 pub first_same_spec : {M : Type 1} → statement M
 first_same_spec =

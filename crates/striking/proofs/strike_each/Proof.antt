@@ -88,25 +88,25 @@ loop-again c =
     let l = b.loop-i in
     let below : l.i < length l.struck = omega (arith, b.loop-i-test.true, l.invariant.3) in (
       omega (arith, b.loop-i-test.true),
-      c.before.before.before.rest-1.given ∙ l.invariant.1,
-      c.before.outer-1.given ∙ l.invariant.2,
+      c.rest-1.given ∙ l.invariant.1,
+      c.outer-1.given ∙ l.invariant.2,
       rw length-set l.invariant.3,
       filled_more (tips b.before) l.struck l.i _ below l.invariant.4 (found c).struck_set-kept.ensures,
     )
 
 same_length : tie.Need-shape_of-rest invariant-loop decreases-loop
-same_length c = c.before.loop-i.invariant.1 ∙ sym (start c.before).requires.4
+same_length c = c.loop-i.invariant.1 ∙ sym (start c.before).requires.4
 
 same-length-2 : tie.Need-shape_of-outer invariant-loop decreases-loop
-same-length-2 c = c.before.loop-i.invariant.2
+same-length-2 c = c.loop-i.invariant.2
 
 same-length-3 : tie.Need-shape_of-struck invariant-loop decreases-loop
-same-length-3 c = c.before.loop-i.invariant.3 ∙ sym (start c.before).requires.6
+same-length-3 c = c.loop-i.invariant.3 ∙ sym (start c.before).requires.6
 
 returns : tie.Need-returns invariant-loop decreases-loop
 unfolding strike
 returns c =
-    let l = c.before.loop-i in
+    let l = c.loop-i in
     let n : l.i ≡ length (start c.before).args.lines.now = omega arith in
     let all : take l.i l.struck ≡ l.struck = take_all l.i l.struck (omega (arith, l.invariant.3)) in
     sym all ∙ l.invariant.4 ∙ ap (list_of (tips c.before)) n

@@ -128,7 +128,7 @@ returns c =
     let e = c.before.before in
     let args = (start (summed-2 (inside-2 e))).args in
     let missed = goal_missed args.m args.quantities.now args.lines.now args.goal args.struck-1.now in
-    let by = missed (omega (arith, most e, c.before.if-entry_at-goal.true)) in
+    let by = missed (omega (arith, most e, c.if-entry_at-goal.true)) in
     (c.refuse.ensures ∙ by.0, by.1)
 
 slice-aggregate-fill-outside : tie.Need-slice_bounds-fill_outside-end

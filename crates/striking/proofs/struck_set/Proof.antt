@@ -89,7 +89,7 @@ returns c =
     let h = c.before in
     let p = (start h).requires in
     let args = (start h).args in
-    one-tip p.0 args.i p.2 args.goal p.10 (omega (arith, c.if-lowest-highest.true, h.highest.ensures, h.before.lowest.ensures))
+    one-tip p.0 args.i p.2 args.goal p.10 (omega (arith, c.if-lowest-highest.true, h.highest.ensures, h.lowest.ensures))
 
 first-same-requires : tie.Need-first_same-j-requires
 first-same-requires c κs =
@@ -102,18 +102,18 @@ mul-result c =
     record { fits = omega (arith, c.if-j-i.true, p.2, p.0.good.few-lines) }
 
 shared-slice-read-result : tie.Need-bounds-struck-j
-shared-slice-read-result c = omega (arith, c.before.if-j-i.true, (found c.before.before).requires.4)
+shared-slice-read-result c = omega (arith, c.if-j-i.true, (found c.before.before).requires.4)
 
 returns-2 : tie.Need-returns-then-j-i
 returns-2 c =
     let f = c.before.before in
     let s = found f in
     let args = s.args in
-    let j = f.first-same.result in
-    let (_, same, _) = f.first-same.ensures in
+    let j = f.first_same-j.result in
+    let (_, same, _) = f.first_same-j.ensures in
     let tips = goal_tips args.m args.quantities.now args.lines.now args.goal in
-    struck-before tips args.struck.now args.i j c.before.if-j-i.true s.requires.3
-    ∙ same_tips args.quantities.now args.lines.now s.requires.0.good.same (omega (arith, c.before.if-j-i.true, s.requires.2)) s.requires.2
+    struck-before tips args.struck.now args.i j c.if-j-i.true s.requires.3
+    ∙ same_tips args.quantities.now args.lines.now s.requires.0.good.same (omega (arith, c.if-j-i.true, s.requires.2)) s.requires.2
     same.quantity same.set args.m args.goal
 
 shared-slice-read-quantity : tie.Need-bounds-quantities-i
@@ -149,7 +149,7 @@ returns-3 c =
     let f = summed-2 kept.before in
     let s = begun f in
     kept-goal s.requires.0 s.args.i s.requires.2 (all-sums s.requires.0 s.requires.1) (sums-of f) s.requires.5 s.requires.6 s.args.goal _
-    (kept.kept-tips.ensures (placed s) (rest s) (known_of f))
+    (kept.kept_tips.ensures (placed s) (rest s) (known_of f))
 
 pub struck_set_spec : {M : Type 1} → statement M
 struck_set_spec =

@@ -137,12 +137,12 @@ largest-split-requires : tie.Need-largest_split-requires
 largest-split-requires c κs =
     let f = c.before.before.before.before in
     let given = (start f.before).requires in
-    (f.split-of.ensures.1, split_lists given.0, given.1)
+    (f.split_of-first.ensures.1, split_lists given.0, given.1)
 
 returns : tie.Need-returns
 returns c =
     let f = c.before.before.before.before.before in
-    by_parts (start f.before).requires.0 f.split-of.ensures.0 c.largest_split.ensures
+    by_parts (start f.before).requires.0 f.split_of-first.ensures.0 c.largest_split.ensures
 
 pub cell_spec : {M : Type 1} → statement M
 cell_spec =

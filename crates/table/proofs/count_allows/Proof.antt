@@ -20,7 +20,7 @@ in-sums : (c : tie.In-loop-c invariant-loop decreases-loop)
     → let m = c.args.m in
     (c.loop-c.c + 1) * (m + 1) + (c.args.b + 1) < length c.args.sums.now
 in-sums c =
-    let p = c.before.before.requires in
+    let p = c.requires in
     rw p.sums-size (digits_lt (omega arith) (omega arith))
 
 add-end : tie.Need-overflow_add-end invariant-loop decreases-loop
@@ -57,7 +57,7 @@ shared-slice-read-allows-2 : tie.Need-bounds-sums-next-in-loop-c invariant-loop 
 shared-slice-read-allows-2 c = omega (arith, in-sums c.before.before)
 
 sub-allows : tie.Need-overflow_sub-allows invariant-loop decreases-loop
-sub-allows c = c.before.before.before.before.requires.covers c.before.before.before.loop-c.c (omega arith)
+sub-allows c = c.requires.covers c.loop-c.c (omega arith)
 
 mul-allows-3 : tie.Need-offset_bounds-allows-c invariant-loop decreases-loop
 mul-allows-3 c = search rules
@@ -73,10 +73,10 @@ loop-less c = search rules
 
 loop-again : tie.Need-loop-c-preserved invariant-loop decreases-loop
 loop-again c =
-    let args = c.before.before.before.before.args in
-    let i = c.before.before.before.loop-c.c in
+    let args = c.args in
+    let i = c.loop-c.c in
     let more = listed_more (allow args.m args.sums.now args.b) i args.allows.now (omega arith) in
-    (search rules, simp length-set (omega arith), rw c.before.before.before.loop-c.invariant.2 more)
+    (search rules, simp length-set (omega arith), rw c.loop-c.invariant.2 more)
 
 same_length : tie.Need-shape_of-allows invariant-loop decreases-loop
 same_length c = search rules
@@ -84,8 +84,8 @@ same_length c = search rules
 returns : tie.Need-returns invariant-loop decreases-loop
 unfolding allows_of
 returns c =
-    let e : c.before.loop-c.c ≡ c.before.before.args.b + 1 = omega arith in
-    rw e at c.before.loop-c.invariant.2
+    let e : c.loop-c.c ≡ c.args.b + 1 = omega arith in
+    rw e at c.loop-c.invariant.2
 
 pub count_allows_spec : {M : Type 1} → statement M
 count_allows_spec =

@@ -64,7 +64,7 @@ slice-aggregate-count-allows c = search rules
 count-allows-requires : tie.Need-count_allows-requires invariant-loop decreases-loop
 count-allows-requires c κs =
     let b = c.before.before.before.before.before in
-    rw c.before.zeros-allows.ensures (allows_ready b.requires.0.1 b.args.b b.requires.1)
+    rw c.zeros-allows.ensures (allows_ready b.requires.0.1 b.args.b b.requires.1)
 
 zeros-requires-2 : tie.Need-zeros-column-requires invariant-loop decreases-loop
 zeros-requires-2 c κs = search rules
@@ -128,13 +128,13 @@ same_length : tie.Need-shape_of-table invariant-loop decreases-loop
 same_length c =
     let b = start (counted c.before) in
     let (lines, k) = b.requires.0 in
-    (c.before.loop-a.invariant.1 lines k).columns.size ∙ sym (b.requires.2 lines k).size
+    (c.loop-a.invariant.1 lines k).columns.size ∙ sym (b.requires.2 lines k).size
 
 returns : tie.Need-returns invariant-loop decreases-loop
 returns c =
-    let e : c.before.loop-a.a ≡ 0 = omega arith in
+    let e : c.loop-a.a ≡ 0 = omega arith in
     let b = start (counted c.before) in
-    λ lines k. rows_all k b.args.b b.requires.1 (rw e at (c.before.loop-a.invariant.1 lines k))
+    λ lines k. rows_all k b.args.b b.requires.1 (rw e at (c.loop-a.invariant.1 lines k))
 
 pub fill_column_spec : {M : Type 1} → statement M
 fill_column_spec =

@@ -26,13 +26,13 @@ clear-requires c κs = search rules
 loop-holds : tie.Need-loop-b-init invariant-loop decreases-loop
 loop-holds c =
     let s = cleared c in
-    (search rules, λ lines k. rw c.before.before.clear.ensures (columns_first s.args.table.now s.requires.1))
+    (search rules, λ lines k. rw c.clear.ensures (columns_first s.args.table.now s.requires.1))
 
 fill-column-requires : tie.Need-fill_column-requires invariant-loop decreases-loop
 fill-column-requires c κs =
     let t = c.before in
     let l = t.before in
-    ((start l).requires.0, t.loop-test.true, l.loop.invariant.1, (start l).requires.2)
+    ((start l).requires.0, t.loop-b-test.true, l.loop-b.invariant.1, (start l).requires.2)
 
 add-b : tie.Need-overflow_add-b invariant-loop decreases-loop
 add-b c = search rules
@@ -41,19 +41,19 @@ loop-less : tie.Need-loop-b-smaller invariant-loop decreases-loop
 loop-less c = search rules
 
 loop-again : tie.Need-loop-b-preserved invariant-loop decreases-loop
-loop-again c = (search rules, c.before.before.fill_column.ensures)
+loop-again c = (search rules, c.fill_column.ensures)
 
 same_length : tie.Need-shape_of-table invariant-loop decreases-loop
 same_length c =
     let l = c.before in
     let (lines, k) = (start l).requires.0 in
-    (l.loop.invariant.1 lines k).size ∙ sym (start l).requires.1
+    (l.loop-b.invariant.1 lines k).size ∙ sym (start l).requires.1
 
 returns : tie.Need-returns invariant-loop decreases-loop
 returns c =
     let l = c.before in
-    let e : l.loop.b ≡ (start l).args.m = omega arith in
-    λ lines k. columns_all k.runs.good.some (rw e at (l.loop.invariant.1 lines k))
+    let e : l.loop-b.b ≡ (start l).args.m = omega arith in
+    λ lines k. columns_all k.runs.good.some (rw e at (l.loop-b.invariant.1 lines k))
 
 pub fill_table_spec : {M : Type 1} → statement M
 fill_table_spec =

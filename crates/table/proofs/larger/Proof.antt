@@ -25,15 +25,15 @@ cast-if1-2 c = search rules
 
 returns : tie.Need-returns-then-x-y
 returns c =
-    let a = c.before.args in
-    let p = c.before.requires in
+    let a = c.args in
+    let p = c.requires in
     let e : ltb a.x a.y ≡ true = sym (signed_test a.x a.y p.0 p.1) ∙ c.if-x-y.true in
     omega (arith, ltb-true a.x a.y e)
 
 returns-2 : tie.Need-returns-else-x-y
 returns-2 c =
-    let a = c.before.args in
-    let p = c.before.requires in
+    let a = c.args in
+    let p = c.requires in
     let e : ltb a.x a.y ≡ false = sym (signed_test a.x a.y p.0 p.1) ∙ c.if-x-y.false in
     omega (arith, ltb-false a.x a.y e)
 

@@ -48,7 +48,7 @@ larger-requires c κs = search rules
 larger-requires-2 : tie.Need-larger-best-requires invariant-loop decreases-loop
 larger-requires-2 c κs =
     let t = c.before in
-    ((looped t).loop-k.invariant.1, omega (arith, t.split-at2.ensures.1, t.before.split_at.ensures.1, c.larger.ensures))
+    ((looped t).loop-k.invariant.1, omega (arith, t.split_at-next.ensures.1, t.split_at-here.ensures.1, c.larger.ensures))
 
 add-k : tie.Need-overflow_add-k invariant-loop decreases-loop
 add-k c = search rules
@@ -64,17 +64,17 @@ loop-again c =
     let f = split_at args.base args.allows.now args.sums.now args.lefts.now args.rights.now in
     let i = 2 * l.loop-k.k in
     let e : i + 1 + 1 ≡ 2 * (l.loop-k.k + 1) = omega arith in
-    let here = t.before.split_at.ensures in
-    let next = t.split-at2.ensures in
+    let here = t.split_at-here.ensures in
+    let next = t.split_at-next.ensures in
     let best = l.loop-k.invariant in (
       search rules,
-      omega (arith, best.1, here.1, next.1, c.before.larger.ensures, c.larger-best.ensures),
+      omega (arith, best.1, here.1, next.1, c.larger.ensures, c.larger-best.ensures),
       omega (
         arith,
         best.2,
         here.0,
         next.0,
-        c.before.larger.ensures,
+        c.larger.ensures,
         c.larger-best.ensures,
         largest-more f i,
         rw e at (largest-more f (i + 1)),
@@ -98,16 +98,16 @@ returns c =
     let l = c.before.before.before.before in
     let args = (start l).args in
     let f = split_at args.base args.allows.now args.sums.now args.lefts.now args.rights.now in
-    let i = 2 * l.loop.k in
-    let h : l.loop.k ≡ length args.allows.now / 2 = omega arith in
+    let i = 2 * l.loop-k.k in
+    let h : l.loop-k.k ≡ length args.allows.now / 2 = omega arith in
     let e : length args.allows.now ≡ i + 1 = omega arith in
-    rw e (omega (arith, l.loop.invariant.2, rw (← h) at c.before.split_at.ensures.0, c.larger-best-then-half-n.ensures, largest-more f i))
+    rw e (omega (arith, l.loop-k.invariant.2, rw (← h) at c.split_at.ensures.0, c.larger-best-then-half-n.ensures, largest-more f i))
 
 returns-2 : tie.Need-returns-else-half-n invariant-loop decreases-loop
 returns-2 c =
     let l = c.before.before in
-    let e : length (start l).args.allows.now ≡ 2 * l.loop.k = omega arith in
-    rw e l.loop.invariant.2
+    let e : length (start l).args.allows.now ≡ 2 * l.loop-k.k = omega arith in
+    rw e l.loop-k.invariant.2
 
 pub largest_split_spec : {M : Type 1} → statement M
 largest_split_spec =

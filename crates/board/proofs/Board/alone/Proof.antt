@@ -64,7 +64,7 @@ alone-requires c κs =
     let arrays = second.before in
     let first = asked arrays in
     let e = first.state_refusal-first.ensures in
-    let f = second.state-refusal2.ensures in
+    let f = second.state_refusal-second.ensures in
     let g = of.first_of.ensures in
     (given-first _ _ (full first.before) (other arrays) e f g, given_second _ _ (full first.before) (other arrays) e f g)
 
@@ -79,10 +79,10 @@ returns c =
     let arrays = second.before in
     let first = asked arrays in
     let e = first.state_refusal-first.ensures in
-    let f = second.state-refusal2.ensures in
+    let f = second.state_refusal-second.ensures in
     let g = of.first_of.ensures in
     let old = (begun first.before).args.plan.now in
-    let (answer, (buffer, rule)) = laid.alone.ensures in
+    let (answer, (buffer, rule)) = laid.alone-laid.ensures in
     let (same_answer, same-plan) = alone_answer _ _ (full first.before) (other arrays) e f g old answer buffer in
     (same_answer, (same-plan, rule))
 

@@ -34,7 +34,7 @@ best-requires : tie.Need-best-laid-requires
 best-requires c κs =
     let mounted = c.before.before.before.before in
     let state = mounted.before in
-    mounted_given _ _ state.state-refusal.ensures mounted.mounted-refusal.ensures (full state.before)
+    mounted_given _ _ state.state_refusal-state.ensures mounted.mounted_refusal-refusal.ensures (full state.before)
 
 same_length : tie.Need-shape_of-plan
 same_length c = search rules
@@ -48,10 +48,10 @@ returns c =
     let mounted = laid.before.before.before.before.before in
     let state = mounted.before in
     let a = (begun state.before).args in
-    let e = state.state-refusal.ensures in
-    let (answer, (buffer, (cells, rule))) = laid.best.ensures in
+    let e = state.state_refusal-state.ensures in
+    let (answer, (buffer, (cells, rule))) = laid.best-laid.ensures in
     let (same_answer, (same-plan, same_table)) =
-    best-answer _ _ e mounted.mounted-refusal.ensures a.plan.now a.table.now answer buffer cells in
+    best-answer _ _ e mounted.mounted_refusal-refusal.ensures a.plan.now a.table.now answer buffer cells in
     (same_answer, (same-plan, (same_table, rule)))
 
 pub best_spec : {M : Type 1} → statement M

@@ -29,7 +29,7 @@ returns c =
     let state = c.before in
     let a = (begun state.before).args in
     let (told, rule) = c.check-refusal.ensures in
-    check_answer a.self state.state-refusal.ensures a.plan.now a.claim a.table.now told rule
+    check_answer a.self state.state_refusal-state.ensures a.plan.now a.claim a.table.now told rule
 
 pub check_spec : {M : Type 1} → statement M
 check_spec =

@@ -24,7 +24,7 @@ state-refusal-requires c κs = search rules
 junior-requires : tie.Need-junior-laid-requires
 junior-requires c κs =
     let state = c.before in
-    given Closed (begun state.before).args.self (full state.before) state.state-refusal.ensures
+    given Closed (begun state.before).args.self (full state.before) state.state_refusal-state.ensures
 
 same_length : tie.Need-shape_of-plan
 same_length c = search rules
@@ -34,8 +34,8 @@ returns c =
     let laid = c.before.before in
     let state = laid.before.before in
     let a = (begun state.before).args in
-    let (answer, (buffer, rule)) = laid.junior.ensures in
-    junior_answer a.self state.state-refusal.ensures a.plan.now answer buffer rule
+    let (answer, (buffer, rule)) = laid.junior-laid.ensures in
+    junior_answer a.self state.state_refusal-state.ensures a.plan.now answer buffer rule
 
 pub junior_spec : {M : Type 1} → statement M
 junior_spec =

@@ -60,13 +60,13 @@ first-lines : (of : tie.After-first_of) → let a = (begun (other-lent (arrays o
     Given of.first_of.result a.rack a.count a.quantities-1 a.sets-1
 first-lines of =
     given-first _ _ (all of) (other (other-lent (arrays of)))
-    of.before.before.state_refusal-first.ensures of.before.state_refusal-second.ensures of.first_of.ensures
+    of.state_refusal-first.ensures of.state_refusal-second.ensures of.first_of.ensures
 
 second-lines : (of : tie.After-first_of) → let b = (begun (other-lent (arrays of))).args.other in
     Given of.first_of.result b.rack b.count b.quantities-1 b.sets-1
 second-lines of =
     given_second _ _ (all of) (other (other-lent (arrays of)))
-    of.before.before.state_refusal-first.ensures of.before.state_refusal-second.ensures of.first_of.ensures
+    of.state_refusal-first.ensures of.state_refusal-second.ensures of.first_of.ensures
 
 merge-requires : tie.Need-merge-refusal-requires
 merge-requires c κs =
@@ -86,12 +86,12 @@ returns c =
     let of = done.before.before.before in
     let lent = other-lent (arrays of) in
     let a = (begun lent).args in
-    let e = of.before.before.state-refusal.ensures in
-    let f = of.before.state-refusal2.ensures in
+    let e = of.state_refusal-first.ensures in
+    let f = of.state_refusal-second.ensures in
     let g = of.first_of.ensures in
-    let n = refused.if1.true in
-    let h = done.merge.ensures.0 in (
-      merge_refused _ _ (all of) (other lent) e f g h n (c.before.no_sets.ensures ∙ no-sets) (c.no_quantities.ensures ∙ no-quantities),
+    let n = refused.if-refusal-ne0.true in
+    let h = done.merge-refusal.ensures.0 in (
+      merge_refused _ _ (all of) (other lent) e f g h n (c.no_sets.ensures ∙ no-sets) (c.no_quantities.ensures ∙ no-quantities),
       refused-rule a.self a.other (all of) (other lent) e f g h n _,
     )
 
@@ -101,17 +101,17 @@ add-count c =
     let of = done.before.before.before in
     omega (
       arith,
-      few _ _ (all of) (other (other-lent (arrays of))) of.before.before.state-refusal.ensures
-          of.before.state-refusal2.ensures of.first_of.ensures done.merge.ensures.0 c.before.if-refusal-ne0.false,
+      few _ _ (all of) (other (other-lent (arrays of))) of.state_refusal-first.ensures
+          of.state_refusal-second.ensures of.first_of.ensures done.merge-refusal.ensures.0 c.if-refusal-ne0.false,
     )
 
 returns-2 : tie.Need-returns
 returns-2 c =
     let done = c.before.before.before.before.before in
     let of = done.before.before.before in
-    let (h, (sets, quantities)) = done.merge.ensures in
-    merge_accepted _ _ (all of) (other (other-lent (arrays of))) of.before.before.state-refusal.ensures
-    of.before.state-refusal2.ensures of.first_of.ensures h c.before.if-refusal-ne0.false sets quantities
+    let (h, (sets, quantities)) = done.merge-refusal.ensures in
+    merge_accepted _ _ (all of) (other (other-lent (arrays of))) of.state_refusal-first.ensures
+    of.state_refusal-second.ensures of.first_of.ensures h c.if-refusal-ne0.false sets quantities
 
 pub merge_spec : {M : Type 1} → statement M
 merge_spec =

@@ -14,7 +14,7 @@ refuse-requires : tie.Need-refuse-requires
 refuse-requires c κs = search rules
 
 returns-2 : tie.Need-returns-then-count-gt-JUNIOR_LINES
-returns-2 c = c.refuse.ensures ∙ junior_long _ _ _ _ c.before.before.if-earlier-ne0.false c.before.if-count-gt-JUNIOR_LINES.true
+returns-2 c = c.refuse.ensures ∙ junior_long _ _ _ _ c.if-earlier-ne0.false c.if-count-gt-JUNIOR_LINES.true
 
 refuse-requires-2 : tie.Need-refuse-requires-then-rack-gt-JUNIOR_TIPS
 refuse-requires-2 c κs = search rules
@@ -22,7 +22,7 @@ refuse-requires-2 c κs = search rules
 returns-3 : tie.Need-returns-then-rack-gt-JUNIOR_TIPS
 returns-3 c =
     let d = c.before.before in
-    c.refuse-then-rack-gt-JUNIOR_TIPS.ensures ∙ junior_wide _ _ _ _ d.before.if1.false d.if2.false c.before.if-rack-gt-JUNIOR_TIPS.true
+    c.refuse-then-rack-gt-JUNIOR_TIPS.ensures ∙ junior_wide _ _ _ _ d.if-earlier-ne0.false d.if-count-gt-JUNIOR_LINES.false c.if-rack-gt-JUNIOR_TIPS.true
 
 refuse-when-requires : tie.Need-refuse_when-requires
 refuse-when-requires c κs = search rules
@@ -30,7 +30,7 @@ refuse-when-requires c κs = search rules
 returns-4 : tie.Need-returns
 returns-4 c =
     let d = c.before.before in
-    c.refuse_when.ensures ∙ junior_short _ _ _ _ d.before.if1.false d.if2.false c.before.if-rack-gt-JUNIOR_TIPS.false
+    c.refuse_when.ensures ∙ junior_short _ _ _ _ d.if-earlier-ne0.false d.if-count-gt-JUNIOR_LINES.false c.if-rack-gt-JUNIOR_TIPS.false
 
 pub junior_refusal_spec : {M : Type 1} → statement M
 junior_refusal_spec =

@@ -93,10 +93,10 @@ grown : (c : tie.After-pairs_among-in-loop-i invariant-loop decreases-loop)
 grown c =
     let e = c.before.before.before.before.before.before in
     let b = e.before.before in
-    let p = get_or b.before.loop.on (tip b) 0 in
-    let more = pairs-grow b e.if1.false in
+    let p = get_or b.loop-i.on (tip b) 0 in
+    let more = pairs-grow b e.if-tip-ge-MOST_TIPS.false in
     let mono : choose2 p ≤ choose2 (p + get_or (qs b) (i b) 0) = choose2_mono (omega arith) in
-    let first = c.before.pairs_among.ensures in
+    let first = c.pairs_among.ensures in
     let second = c.pairs_among-in-loop-i.ensures in
     (omega arith, omega arith, placed-pairs (qs b) (plan b) (same b) (s b).requires.2 (i b + 1))
 
@@ -119,7 +119,7 @@ refuse-requires c κs = search rules
 returns : tie.Need-returns-then-tip-ge-MOST_TIPS invariant-loop decreases-loop
 returns c =
     let b = c.before.before.before in
-    c.refuse.ensures ∙ refused b (false_not _ (λ h. omega (arith, line-below b h, c.before.if-tip-ge-MOST_TIPS.true)))
+    c.refuse.ensures ∙ refused b (false_not _ (λ h. omega (arith, line-below b h, c.if-tip-ge-MOST_TIPS.true)))
 
 mul-has-tip : tie.Need-offset_bounds-lines-i invariant-loop decreases-loop
 mul-has-tip c = search rules
@@ -136,7 +136,7 @@ refuse-requires-2 c κs = search rules
 returns-2 : tie.Need-returns-then-not-has_tip invariant-loop decreases-loop
 returns-2 c =
     let b = c.before.before.before.before.before.before in
-    c.refuse-then-not-has_tip.ensures ∙ refused b (fails c.before.before.has_tip.ensures c.before.if2.true)
+    c.refuse-then-not-has_tip.ensures ∙ refused b (fails c.has_tip.ensures c.if-not-has_tip.true-raw)
 
 mul-before : tie.Need-offset_bounds-on-tip invariant-loop decreases-loop
 mul-before c = search rules
@@ -153,17 +153,17 @@ cast-after c = record { fits = omega (arith, c.shared_slice_known-in-loop-i-3-1.
 add-after : tie.Need-overflow_add-after invariant-loop decreases-loop
 add-after c =
     let e = c.before.before.before.before in
-    record { fits = omega (arith, held-few e.before.before e.if1.false) }
+    record { fits = omega (arith, held-few e.before.before e.if-tip-ge-MOST_TIPS.false) }
 
 pairs-among-requires : tie.Need-pairs_among-requires invariant-loop decreases-loop
 pairs-among-requires c κs =
     let e = c.before.before.before.before in
-    ((s e.before.before).requires.3, held-few e.before.before e.if1.false)
+    ((s e.before.before).requires.3, held-few e.before.before e.if-tip-ge-MOST_TIPS.false)
 
 pairs-among-requires-2 : tie.Need-pairs_among-requires-in-loop-i invariant-loop decreases-loop
 pairs-among-requires-2 c κs =
     let e = c.before.before.before.before.before in
-    ((s e.before.before).requires.3, omega (arith, held-few e.before.before e.if1.false))
+    ((s e.before.before).requires.3, omega (arith, held-few e.before.before e.if-tip-ge-MOST_TIPS.false))
 
 sub-shared : tie.Need-overflow_sub-shared invariant-loop decreases-loop
 sub-shared c = (grown c).0
@@ -188,10 +188,10 @@ loop-again c =
     let f = c.before.before.before in
     let e = f.before.before.before in
     let b = e.before.before in
-    let l = e.if1.false in (
+    let l = e.if-tip-ge-MOST_TIPS.false in (
       search rules,
-      own_more (qs b) (lines b) (plan b) (s b).args.claim (s b).requires.1 (i b) b.before.loop.invariant.1 b.loop-test.true
-          (passes f.before.has-tip.ensures f.if2.false),
+      own_more (qs b) (lines b) (plan b) (s b).args.claim (s b).requires.1 (i b) b.loop-i.invariant.1 b.loop-i-test.true
+          (passes f.has_tip.ensures f.if-not-has_tip.false-raw),
       on-grow b l,
       (grown c).1,
     )
@@ -205,11 +205,11 @@ returns-3 c =
     let s = start l in
     let qs = s.args.quantities.now in
     let plan = s.args.plan.now in
-    let i = l.loop.i in
+    let i = l.loop-i.i in
     let all = placed-all qs plan (omega arith) s.requires.2 i (omega arith) in
-    let e : l.loop.shared ≡ pairs_of (repeated qs plan) = l.loop.invariant.3 ∙ ap pairs_of all in
+    let e : l.loop-i.shared ≡ pairs_of (repeated qs plan) = l.loop-i.invariant.3 ∙ ap pairs_of all in
     c.refuse_when.ensures
-    ∙ rw e (own_all qs s.args.lines.now plan s.args.claim s.requires.1 i l.loop.invariant.1 c.before.loop-i-test.false)
+    ∙ rw e (own_all qs s.args.lines.now plan s.args.claim s.requires.1 i l.loop-i.invariant.1 c.loop-i-test.false)
 
 pub claim_refusal_spec : {M : Type 1} → statement M
 claim_refusal_spec =

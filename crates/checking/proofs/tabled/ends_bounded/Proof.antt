@@ -43,12 +43,12 @@ shared-slice-read-p c = search rules
 sub-p : tie.Need-overflow_sub-p invariant-loop decreases-loop
 sub-p c =
     let l = looped c in
-    omega (arith, c.before.wrapping_add_u32.ensures, (start l).requires.0.covers l.loop-i.i (omega arith))
+    omega (arith, c.wrapping_add_u32.ensures, (start l).requires.0.covers l.loop-i.i (omega arith))
 
 pairs-among-requires : tie.Need-pairs_among-requires invariant-loop decreases-loop
 pairs-among-requires c κs =
     let l = looped c in
-    ((start l).requires.1, omega (arith, c.before.wrapping_add_u32.ensures, (start l).requires.0.few l.loop-i.i (omega arith)))
+    ((start l).requires.1, omega (arith, c.wrapping_add_u32.ensures, (start l).requires.0.few l.loop-i.i (omega arith)))
 
 wide-requires : tie.Need-wide-requires invariant-loop decreases-loop
 wide-requires c κs = search rules
@@ -100,11 +100,11 @@ loop-again c =
     let split_at : ℕ → ℕ = split_at args.left args.shift args.nexts.now args.firsts.now args.rights.now in
     let fits : ℕ → Bool = λ i. leb (split_at i) (get_or args.mosts.now i 0) in
     let i = l.loop-i.i in
-    let split = own.wide.result + (args.left + right.wide2.result) in
-    let counted = ap (λ n. choose2 (n - get_or args.firsts.now i 0)) found.before.before.wrapping-add-u32.ensures in
+    let split = own.wide.result + (args.left + right.wide-in-loop-i.result) in
+    let counted = ap (λ n. choose2 (n - get_or args.firsts.now i 0)) found.wrapping_add_u32.ensures in
     let e : split ≡ split_at i
-    = omega (arith, right.wide2.ensures.0, own.wide.ensures.0, found.pairs-among.ensures, counted) in
-    let most = ap (λ x. leb split x) entry.wide3.ensures.0 in
+    = omega (arith, right.wide-in-loop-i.ensures.0, own.wide.ensures.0, found.pairs_among.ensures, counted) in
+    let most = ap (λ x. leb split x) entry.wide-in-loop-i-2.ensures.0 in
     let one : eqb c.one_if_less-lacking.result 0 ≡ fits i
     = c.one_if_less-lacking.ensures.1 ∙ most ∙ ap (λ x. leb x (get_or args.mosts.now i 0)) e in
     (search rules, search rules, every_next fits i l.loop-i.lacking c.one_if_less-lacking.result l.loop-i.invariant.2 one)
@@ -112,8 +112,8 @@ loop-again c =
 returns : tie.Need-returns invariant-loop decreases-loop
 unfolding ends_at
 returns c =
-    let e : c.before.loop-i.i ≡ length (start c.before).args.mosts.now = omega arith in
-    rw (← e) c.before.loop-i.invariant.2
+    let e : c.loop-i.i ≡ length (start c.before).args.mosts.now = omega arith in
+    rw (← e) c.loop-i.invariant.2
 
 pub ends_bounded_spec : {M : Type 1} → statement M
 ends_bounded_spec =

@@ -24,7 +24,7 @@ own : (c : tie.After-wide)
     c.wide.result ≡ choose2 (inside_by b.args.m b.args.sums.now b.args.a (b.args.c + 1 - b.args.a) b.args.c)
 own c =
     let found = c.before.before in
-    c.wide.ensures.0 ∙ found.pairs-among.ensures ∙ ap choose2 found.before.inside-at.ensures
+    c.wide.ensures.0 ∙ found.pairs_among-here.ensures ∙ ap choose2 found.inside_at.ensures
 
 -- that interval's split is at most its entry
 first : (c : tie.Else-entry_at-wide)
@@ -34,7 +34,7 @@ first c =
     let w = c.before in
     let f = w.before.before.before.before in
     let b = start f in
-    first_fits b.requires.0 b.args.a b.args.c b.requires.1 b.requires.2 (own w) f.entry_at.ensures.0 w.before.entry-at2.ensures.0
+    first_fits b.requires.0 b.args.a b.args.c b.requires.1 b.requires.2 (own w) f.entry_at-left.ensures.0 w.entry_at.ensures.0
     (omega arith)
 
 -- the rows of the other ends
@@ -91,8 +91,8 @@ returns c =
     let w = c.before in
     let f = w.before.before.before.before in
     let b = start f in
-    sym (first_fails b.requires.0 b.args.a b.args.c b.requires.1 b.requires.2 (own w) f.entry_at.ensures.0
-    w.before.entry-at2.ensures.0 c.if-entry_at-wide.true)
+    sym (first_fails b.requires.0 b.args.a b.args.c b.requires.1 b.requires.2 (own w) f.entry_at-left.ensures.0
+    w.entry_at.ensures.0 c.if-entry_at-wide.true)
 
 add-next : tie.Need-overflow_add-next
 add-next c = search rules
@@ -241,7 +241,7 @@ ends-bounded-requires c κs =
     let b = s o in
     let left = (entered o).entry_at-left.ensures in
     let lists = end_lists b.requires.0 b.args.a b.args.c b.requires.1 b.requires.2 (more o)
-    (omega arith) w.wrapping-sub-u32.ensures left.0 left.1 in
+    (omega arith) w.wrapping_sub_u32-shift.ensures left.0 left.1 in
     (lists, b.requires.3)
 
 returns-3 : tie.Need-returns
@@ -251,7 +251,7 @@ returns-3 c =
     let b = s o in
     let left = (entered o).entry_at-left.ensures in
     let same = ends_same b.requires.0 b.args.a b.args.c b.requires.1 b.requires.2 (more o)
-    (omega arith) w.wrapping-sub-u32.ensures left.0 left.1 in
+    (omega arith) w.wrapping_sub_u32-shift.ensures left.0 left.1 in
     c.ends_bounded.ensures
     ∙ same
     ∙ sym (other_ends b.requires.0 b.args.a b.args.c b.requires.1 b.requires.2 (first o.before))

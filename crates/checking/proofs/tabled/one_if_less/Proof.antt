@@ -5,12 +5,12 @@ use Rattle.checking.proofs.tabled.one_if_less.Tie as tie
 
 returns : tie.Need-returns-then-x-y
 returns c =
-    let args = c.before.args in
+    let args = c.args in
     (omega arith, sym (lt-leb args.y args.x (omega (arith, c.if-x-y.true, ltb-true))))
 
 returns-2 : tie.Need-returns-else-x-y
 returns-2 c =
-    let args = c.before.args in
+    let args = c.args in
     (omega arith, sym (le-leb args.y args.x (omega (arith, c.if-x-y.false, ltb-false))))
 
 pub one_if_less_spec : {M : Type 1} → statement M

@@ -32,14 +32,14 @@ claimed : (c : tie.At-loop-c invariant-loop decreases-loop)
     eqb (entry s.args.m s.args.table.now 0 s.args.m) s.args.claim ≡ true
 claimed c =
     let call = (entered c).entry_at in
-    rw (← call.ensures.0) (eq-eqb call.result (start (entered c)).args.claim c.before.if-entry_at-claim.false)
+    rw (← call.ensures.0) (eq-eqb call.result (start (entered c)).args.claim c.if-entry_at-claim.false)
 
 entry-at-requires : tie.Need-entry_at-requires invariant-loop decreases-loop
 entry-at-requires c κs = search rules
 
 returns : tie.Need-returns-then-entry_at-claim invariant-loop decreases-loop
 returns c =
-    let call = c.before.entry_at in
+    let call = c.entry_at in
     rw (← call.ensures.0, ne_eqb call.result (start c.before).args.claim c.if-entry_at-claim.true)
 
 loop-holds : tie.Need-loop-c-init invariant-loop decreases-loop
@@ -58,9 +58,9 @@ returns-2 c =
     let named = c.before.before in
     let l = named.before.before.before in
     let m = (start (entered l)).args.m in
-    let one : test l l.loop.c ≡ false =
-    rw (sym named.before.has-tip.ensures ∙ named.if2.true, fails c.before.tip_bounded.ensures c.if3.true) in
-    rw (claimed l) (sym (every_stop (test l) m l.loop.c (omega arith) one))
+    let one : test l l.loop-c.c ≡ false =
+    rw (sym named.has_tip.ensures ∙ named.if-has_tip.true, fails c.tip_bounded.ensures c.if-not-tip_bounded.true-raw) in
+    rw (claimed l) (sym (every_stop (test l) m l.loop-c.c (omega arith) one))
 
 add-c : tie.Need-overflow_add-c invariant-loop decreases-loop
 add-c c = search rules
@@ -71,18 +71,18 @@ loop-less c = search rules
 loop-again : tie.Need-loop-c-preserved invariant-loop decreases-loop
 loop-again c =
     let l = c.before.before.before in
-    let one : test l l.loop.c ≡ true = ⊎_elim
-    (λ w. rw (sym c.before.has_tip.ensures ∙ w.0.taken, passes w.1.ensures w.2.left))
-    (λ w. rw (sym c.before.has_tip.ensures ∙ w.left))
+    let one : test l l.loop-c.c ≡ true = ⊎_elim
+    (λ w. rw (sym c.has_tip.ensures ∙ w.0.taken, passes w.1.ensures w.2.left))
+    (λ w. rw (sym c.has_tip.ensures ∙ w.left))
     c.if-has_tip.branch in
-    (search rules, every_more (test l) l.loop.c l.loop.invariant.1 one)
+    (search rules, every_more (test l) l.loop-c.c l.loop-c.invariant.1 one)
 
 returns-3 : tie.Need-returns invariant-loop decreases-loop
 unfolding bounds_by
 returns-3 c =
     let l = c.before in
-    let e : l.loop.c ≡ (start (entered l)).args.m = omega arith in
-    rw (claimed l) (sym (rw e at l.loop.invariant.1))
+    let e : l.loop-c.c ≡ (start (entered l)).args.m = omega arith in
+    rw (claimed l) (sym (rw e at l.loop-c.invariant.1))
 
 pub table_fits_spec : {M : Type 1} → statement M
 table_fits_spec =

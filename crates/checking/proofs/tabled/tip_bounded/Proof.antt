@@ -32,7 +32,7 @@ returns : tie.Need-returns-then-not-first_bounded invariant-loop decreases-loop
 unfolding tip_by
 returns c =
     let l = c.before.before.before in
-    sym (every_stop (test l) ((start l).args.c + 1) l.loop.a (omega arith) (fails c.before.first_bounded.ensures c.if1.true))
+    sym (every_stop (test l) ((start l).args.c + 1) l.loop-a.a (omega arith) (fails c.first_bounded.ensures c.if-not-first_bounded.true-raw))
 
 add_a : tie.Need-overflow_add-a invariant-loop decreases-loop
 add_a c = search rules
@@ -43,14 +43,14 @@ loop-less c = search rules
 loop-again : tie.Need-loop-a-preserved invariant-loop decreases-loop
 loop-again c =
     let l = c.before.before.before in
-    (search rules, every_more (test l) l.loop.a l.loop.invariant.1 (passes c.before.first_bounded.ensures c.if1.false))
+    (search rules, every_more (test l) l.loop-a.a l.loop-a.invariant.1 (passes c.first_bounded.ensures c.if-not-first_bounded.false-raw))
 
 returns-2 : tie.Need-returns invariant-loop decreases-loop
 unfolding tip_by
 returns-2 c =
     let l = c.before in
-    let e : l.loop.a ≡ (start l).args.c + 1 = omega arith in
-    sym (rw e at l.loop.invariant.1)
+    let e : l.loop-a.a ≡ (start l).args.c + 1 = omega arith in
+    sym (rw e at l.loop-a.invariant.1)
 
 pub tip_bounded_spec : {M : Type 1} → statement M
 tip_bounded_spec =

@@ -7,7 +7,7 @@ use Rattle.file_calls.proofs.goal_call.goal_outcome.Statement.{statement}
 use Rattle.file_calls.proofs.goal_call.goal_outcome.Tie as tie
 
 bytes : (c : tie.After-shared_slice_known-1) → Bytes c.args.file.now
-bytes c = all_get_d 0 c.before.args.file.now (λ i l. (c.shared_slice_known-1.given i).fits)
+bytes c = all_get_d 0 c.args.file.now (λ i l. (c.shared_slice_known-1.given i).fits)
 
 no-sets-requires : tie.Need-no_sets-sets-requires
 no-sets-requires c κs = search rules
@@ -45,8 +45,8 @@ slice-aggregate-write-2 c = search rules
 write-requires : tie.Need-write-written-requires
 write-requires c κs =
     let struck = c.before.before.before.before in
-    let (_, (_, (_, given))) = struck.before.before.before.before.before.before.read-lines.ensures in
-    let (answer, sets) = struck.goal.ensures in
+    let (_, (_, (_, given))) = struck.read_lines-read.ensures in
+    let (answer, sets) = struck.goal-refusal.ensures in
     given-struck given _ answer sets (search rules)
 
 same_length : tie.Need-shape_of-out
@@ -57,9 +57,9 @@ returns c =
     let wrote = c.before.before.before in
     let struck = wrote.before.before.before.before.before in
     let read = struck.before.before.before.before.before.before in
-    let (e, (lines, (_, given))) = read.read-lines.ensures in
-    let (answer, sets) = struck.goal.ensures in
-    let (written, buffer) = wrote.write.ensures in
+    let (e, (lines, (_, given))) = read.read_lines-read.ensures in
+    let (answer, sets) = struck.goal-refusal.ensures in
+    let (written, buffer) = wrote.write-written.ensures in
     let (o, out) = goal-in _ e given (λ z. same_lines (lines z)) _ answer sets _ written buffer in
     (o, (out, rw (o, out) (goal-rule _ _ _ (bytes read.before.before.before.before.before.before))))
 

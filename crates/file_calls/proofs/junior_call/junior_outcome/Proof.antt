@@ -38,7 +38,7 @@ returns : tie.Need-returns
 returns c =
     let laid = c.before.before.before in
     let read = laid.before.before.before.before.before.before in
-    let (e, (lines, (_, given))) = read.read-lines.ensures in
+    let (e, (lines, (_, given))) = read.read_lines-read.ensures in
     let (answer, (plan, _)) = laid.junior.ensures in
     rw c.told.ensures (junior-in _ e (λ z. same_lines (lines z)) given.good _ answer plan)
 

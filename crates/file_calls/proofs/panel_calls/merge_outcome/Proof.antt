@@ -142,7 +142,7 @@ returns c =
     let (f, (second-read, (_, others))) = (read-second of).read_lines-other.ensures in
     let g = of.first_of.ensures in
     let (h, (sets, quantities)) = joined.merge-refusal.ensures in
-    let (written, buffer) = wrote.write.ensures in
+    let (written, buffer) = wrote.write-written.ensures in
     let (outcome, out) =
     merge_in _ _ e f g lines others (λ z. same_lines (read z)) (λ z. same_lines (second-read z)) h sets quantities _ written buffer in
     (outcome, (out, rw (outcome, out) (merge_rule _ _ _ (bytes of) (second-bytes of))))

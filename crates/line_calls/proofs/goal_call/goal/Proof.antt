@@ -34,7 +34,7 @@ run-refusal-requires c κs = search rules
 returns-2 : tie.Need-returns-then-runs-ne0
 returns-2 c =
     let run = c.before.before in
-    goal-stopped _ _ _ _ _ _ (asked_runs _ _ (left run).if-earlier-ne0.false run.run-refusal.ensures) c.if-runs-ne0.true
+    goal-stopped _ _ _ _ _ _ (asked_runs _ _ (left run).if-earlier-ne0.false run.run_refusal-runs.ensures) c.if-runs-ne0.true
 
 names-of-requires : tie.Need-names_of-requires
 names-of-requires c κs = search rules
@@ -61,8 +61,8 @@ strike-requires c κs =
     let d = left run in
     let s = begun d in
     let told = asked_runs s.args.earlier _ d.if-earlier-ne0.left run.run_refusal-runs.ensures in
-    let all = asked-none s.args.earlier _ (number_of told named.before.if2.false) in (
-      record { good = s.requires.0.good d.if-earlier-ne0.left; runs = all.1; all = named.names_of.ensures },
+    let all = asked-none s.args.earlier _ (number_of told named.if-runs-ne0.false) in (
+      record { good = s.requires.0.good d.if-earlier-ne0.left; runs = all.1; all = c.names_of.ensures },
       length-take-le _ _ (omega (arith, s.requires.0.room d.if-earlier-ne0.left, s.requires.1)) ∙ count d,
     )
 
@@ -76,7 +76,7 @@ returns-3 c =
     let run = asked e in
     let d = left run in
     let (answer, sets) = struck.strike.ensures in
-    goal-through _ _ _ _ _ _ (asked_runs _ _ d.if-earlier-ne0.left run.run_refusal-runs.ensures) e.if2.false (count d) answer sets
+    goal-through _ _ _ _ _ _ (asked_runs _ _ d.if-earlier-ne0.left run.run_refusal-runs.ensures) c.if-runs-ne0.false (count d) answer sets
 
 pub goal_spec : {M : Type 1} → statement M
 goal_spec =

@@ -34,7 +34,7 @@ returns c = junior_refused _ _ _ _ _ (by_count c.before.before) c.if-asked-ne0.t
 
 -- nothing is refused: the plan has a byte a line, and the lines are good
 free : (d : tie.Else-asked-ne0) → let a = (begun d.before.before).args in (a.earlier.number ≡ 0) × (a.count ≤ length a.plan.now)
-free d = junior_none _ _ _ _ (number_of d.before.before.junior_refusal-asked.ensures d.if-asked-ne0.false)
+free d = junior_none _ _ _ _ (number_of d.junior_refusal-asked.ensures d.if-asked-ne0.false)
 
 good : (d : tie.Else-asked-ne0)
     → let a = (begun d.before.before).args in GoodLines a.rack (take a.count a.quantities.now) (take a.count a.sets.now)
@@ -74,9 +74,9 @@ returns-2 c =
     let f = c.before.before.before.before in
     let d = f.before.before.before.before in
     let q = d.before.before in
-    let (is, plan) = f.plan-lines.ensures in
+    let (is, plan) = f.plan_lines-found.ensures in
     let told = c.refuse_when.ensures ∙ ap (λ x. when (not x.served) 31) is in
-    junior_found _ _ _ _ _ (number_of (by_count q) d.if1.false) (good d) (count d) told is plan
+    junior_found _ _ _ _ _ (number_of (by_count q) c.if-asked-ne0.false) (good d) (count d) told is plan
 
 pub junior_spec : {M : Type 1} → statement M
 junior_spec =

@@ -26,9 +26,9 @@ returns c =
     let s = begun asked.before.before in
     let (g, (h, _)) = s.requires in
     let a = s.args in
-    let r = asked.merge-refusal.result in
+    let r = asked.merge_refusal-refusal.result in
     let f = c.if-refusal-ne0.true in (
-      merge_counts _ g h asked.merge-refusal.ensures,
+      merge_counts _ g h asked.merge_refusal-refusal.ensures,
       (
         merge_stays r f (take a.count a.sets.now) (take a.other_count a.other-sets.now) a.sets.now,
         merge_stays r f (take a.count a.quantities.now) (take a.other_count a.other_quantities.now) a.quantities.now,
@@ -48,7 +48,7 @@ record Known (a : tie.Start) : Type 0 where
 
 known : (d : tie.Else-refusal-ne0) → Known (start d)
 known d =
-    let k = merge_none _ _ _ _ _ (number_of d.before.before.merge_refusal-refusal.ensures d.if-refusal-ne0.false) in
+    let k = merge_none _ _ _ _ _ (number_of d.merge_refusal-refusal.ensures d.if-refusal-ne0.false) in
     let (g, (h, (sets, quantities))) = (start d).requires in
     record {
       room = h.room k.free;
@@ -130,12 +130,12 @@ returns-2 c =
     let a = (start d).args in
     let (g, (h, _)) = (start d).requires in
     let asked = d.before.before in
-    let r = asked.merge-refusal.result in
-    let z = d.if1.false in (
-      merge_counts _ g h asked.merge-refusal.ensures,
+    let r = c.merge_refusal-refusal.result in
+    let z = c.if-refusal-ne0.false in (
+      merge_counts _ g h c.merge_refusal-refusal.ensures,
       (
-        put-behind a.count _ a.sets.now (omega (arith, k.few, k.sets-full)) r z put-sets.put-sets.ensures,
-        put-behind a.count _ a.quantities.now (omega (arith, k.few, k.quantities-full)) r z put.put-quantities.ensures,
+        put-behind a.count _ a.sets.now (omega (arith, k.few, k.sets-full)) r z c.put_sets.ensures,
+        put-behind a.count _ a.quantities.now (omega (arith, k.few, k.quantities-full)) r z put.put_quantities.ensures,
       ),
     )
 

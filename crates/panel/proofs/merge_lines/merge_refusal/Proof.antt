@@ -23,11 +23,11 @@ abbrev begun : tie.Else-rack-other_rack → tie.Start
 begun d = d.before.before.before.before.before
 
 returns-2 : tie.Need-returns-then-rack-other_rack
-returns-2 c = c.refuse.ensures ∙ merge_racks _ c.before.before.if-earlier-ne0.false _ _ _ _ c.before.if-rack-other_rack.true
+returns-2 c = c.refuse.ensures ∙ merge_racks _ c.if-earlier-ne0.false _ _ _ _ c.if-rack-other_rack.true
 
 -- nothing is refused before the lines are counted
 counted : (d : tie.Else-rack-other_rack) → let a = (begun d).args in Counted a.count a.quantities.now × Counted a.other_count a.other_quantities.now
-counted d = let (g, h) = (begun d).requires in let z = d.before.if-earlier-ne0.false in (g z, h z)
+counted d = let (g, h) = (begun d).requires in let z = d.if-earlier-ne0.false in (g z, h z)
 
 add-if3 : tie.Need-overflow_add-count
 add-if3 c = omega (arith, (counted c).0.lines, (counted c).1.lines)
@@ -38,7 +38,7 @@ refuse-requires-2 c κs = search rules
 returns-3 : tie.Need-returns-then-count-other_count-gt-MOST_LINES
 returns-3 c =
     let same = c.before.before in
-    c.refuse-then-count-other_count-gt-MOST_LINES.ensures ∙ merge-lines _ same.before.if1.false _ _ _ _ same.if2.false c.before.if-count-other_count-gt-MOST_LINES.true
+    c.refuse-then-count-other_count-gt-MOST_LINES.ensures ∙ merge-lines _ same.if-earlier-ne0.false _ _ _ _ same.if-rack-other_rack.false c.if-count-other_count-gt-MOST_LINES.true
 
 slice-aggregate-total : tie.Need-slice_bounds-total-end
 slice-aggregate-total c = sym (length-take-le _ _ (counted c.before.before).0.room)
@@ -55,7 +55,7 @@ total-requires-2 c κs = (counted c.before.before.before.before).1.few
 add-refuse-when : tie.Need-overflow_add-placements
 add-refuse-when c =
     let both = counted c.before.before.before.before.before in
-    omega (arith, c.before.before.total-placements.ensures, c.total-others.ensures, both.0.few, both.1.few)
+    omega (arith, c.total-placements.ensures, c.total-others.ensures, both.0.few, both.1.few)
 
 refuse-when-requires : tie.Need-refuse_when-requires
 refuse-when-requires c κs = search rules
@@ -65,8 +65,8 @@ returns-4 c =
     let few = c.before.before.before.before.before in
     let same = few.before in
     c.refuse_when.ensures
-    ∙ ap₂ (λ x y. when (ltb most_placements (x + y)) 30) c.before.before.before.total-placements.ensures c.before.total-others.ensures
-    ∙ merge_over _ same.before.if1.false _ _ _ _ same.if2.false few.if3.false
+    ∙ ap₂ (λ x y. when (ltb most_placements (x + y)) 30) c.total-placements.ensures c.total-others.ensures
+    ∙ merge_over _ c.if-earlier-ne0.false _ _ _ _ c.if-rack-other_rack.false c.if-count-other_count-gt-MOST_LINES.false
 
 pub merge_refusal_spec : {M : Type 1} → statement M
 merge_refusal_spec =

@@ -38,17 +38,17 @@ loop-less c = search rules
 
 loop-again : tie.Need-loop-i-preserved invariant-loop decreases-loop
 loop-again c =
-    let l = c.before.before.loop-i in
-    let a = c.before.before.before.args in
+    let l = c.loop-i in
+    let a = c.args in
     (search rules, simp length-set (omega arith), rw l.invariant.2 (copy_more a.sets.now a.out.now l.i (omega arith) (omega arith)))
 
 same_length : tie.Need-shape_of-out invariant-loop decreases-loop
-same_length c = c.before.loop-i.invariant.1
+same_length c = c.loop-i.invariant.1
 
 returns : tie.Need-returns invariant-loop decreases-loop
 returns c =
-    let l = c.before.loop-i in
-    let xs = c.before.before.args.sets.now in
+    let l = c.loop-i in
+    let xs = c.args.sets.now in
     let e : l.i ≡ length xs = omega arith in
     l.invariant.2 ∙ rw (e, take-length xs)
 

@@ -33,14 +33,14 @@ loop-less c = search rules
 loop-again : tie.Need-loop-i-preserved invariant-loop decreases-loop
 loop-again c =
     let loop = c.before.before.before in
-    let args = loop.before.before.before.before.args in
+    let args = loop.args in
     let f : ℕ → ℕ = split_by args.names args.m args.sums.now args.inner.now 0 args.a args.w in
-    (search rules, omega (arith, c.larger-best.ensures, c.before.split_at.ensures, loop.loop.invariant.1, largest-more f loop.loop.i))
+    (search rules, omega (arith, c.larger-best.ensures, c.split_at.ensures, loop.loop-i.invariant.1, largest-more f loop.loop-i.i))
 
 returns : tie.Need-returns invariant-loop decreases-loop
 returns c =
-    let e : c.before.loop-i.i ≡ c.before.before.before.before.before.args.w = omega arith in
-    rw e at c.before.loop-i.invariant.1
+    let e : c.loop-i.i ≡ c.args.w = omega arith in
+    rw e at c.loop-i.invariant.1
 
 pub best_split_spec : {M : Type 1} → statement M
 best_split_spec =

@@ -59,7 +59,7 @@ few : (c : tie.After-best_split-best invariant-loop2 decreases-loop2 invariant-l
 few c =
     let b = c.before.before in
     let (lines, k) = (s b).requires.0 in
-    omega (arith, c.best_split-best.ensures, most_few k (b.before.loop2.invariant.2 lines k) (omega arith) (omega arith))
+    omega (arith, c.best_split-best.ensures, most_few k (b.loop-a.invariant.2 lines k) (omega arith) (omega arith))
 
 loop-holds : tie.Need-loop-w-init invariant-loop2 decreases-loop2 invariant-loop decreases-loop
 loop-holds c =
@@ -67,7 +67,7 @@ loop-holds c =
     (search rules, search rules, refl, λ lines k. inside-first lines b.args.inner.now b.requires.1)
 
 loop2-holds : tie.Need-loop-a-init invariant-loop2 decreases-loop2 invariant-loop decreases-loop
-loop2-holds c = (omega (arith, c.loop-w-test.true), refl, c.before.loop-w.invariant.3)
+loop2-holds c = (omega (arith, c.loop-w-test.true), refl, c.loop-w.invariant.3)
 
 add-loop2 : tie.Need-overflow_add-a invariant-loop2 decreases-loop2 invariant-loop decreases-loop
 add-loop2 c = search rules
@@ -107,7 +107,7 @@ loop2-less c = search rules
 loop2-again : tie.Need-loop-a-preserved invariant-loop2 decreases-loop2 invariant-loop decreases-loop
 loop2-again c =
     let b = c.before.before in
-    let l = b.before.loop2 in (
+    let l = b.loop-a in (
       search rules,
       rw length-set l.invariant.1,
       λ lines k. inside-more k (l.invariant.2 lines k) (omega arith) (omega arith) c.best_split-best.ensures,
@@ -123,18 +123,18 @@ loop-again : tie.Need-loop-w-preserved invariant-loop2 decreases-loop2 invariant
 loop-again c = (
   search rules,
   search rules,
-  c.before.loop-a.invariant.1 ∙ c.before.before.before.loop-w.invariant.2,
-  λ lines k. inside_next (omega arith) (c.before.loop-a.invariant.2 lines k),
+  c.loop-a.invariant.1 ∙ c.loop-w.invariant.2,
+  λ lines k. inside_next (omega arith) (c.loop-a.invariant.2 lines k),
 )
 
 same_length : tie.Need-shape_of-inner invariant-loop2 decreases-loop2 invariant-loop decreases-loop
-same_length c = c.before.loop-w.invariant.2
+same_length c = c.loop-w.invariant.2
 
 returns : tie.Need-returns invariant-loop2 decreases-loop2 invariant-loop decreases-loop
 returns c =
     let b = start c.before in
-    let e : c.before.loop-w.w ≡ b.args.m + 1 = omega arith in
-    rw e at c.before.loop-w.invariant.3
+    let e : c.loop-w.w ≡ b.args.m + 1 = omega arith in
+    rw e at c.loop-w.invariant.3
 
 pub fill_inside_spec : {M : Type 1} → statement M
 fill_inside_spec =

@@ -31,7 +31,7 @@ returns c =
     let q = s.args.q in
     let n : 0 + q ≡ q = omega arith in
     let e = c.pairs_among.ensures in
-    (rw (fails c.before.before.has_tip.ensures c.before.if1.true, n) e, omega (arith, choose2_few q (omega (arith, few s))))
+    (rw (fails c.has_tip.ensures c.if-not-has_tip.true-raw, n) e, omega (arith, choose2_few q (omega (arith, few s))))
 
 inside-at-requires : tie.Need-inside_at-requires
 inside-at-requires c κs =
@@ -53,11 +53,11 @@ returns-2 : tie.Need-returns
 unfolding pairs_by
 returns-2 c =
     let s = c.before.before.before.before.before.before in
-    let i = c.before.inside_at in
+    let i = c.inside_at in
     let q = s.args.q in
     let e : c.pairs_among-2.result ≡ choose2 (inside_by s.args.m s.args.sums.now s.args.a s.args.w s.args.c + q) =
     c.pairs_among-2.ensures ∙ ap (λ p. choose2 (p + q)) i.ensures in
-    (rw (passes c.before.before.before.has_tip.ensures c.before.before.if1.false) e, omega (arith, choose2_few _ (few s)))
+    (rw (passes c.has_tip.ensures c.if-not-has_tip.false-raw) e, omega (arith, choose2_few _ (few s)))
 
 pub pairs_at_spec : {M : Type 1} → statement M
 pairs_at_spec =

@@ -35,8 +35,8 @@ returns : tie.Need-returns
 unfolding split_by
 returns c =
     let pairs = c.pairs_at.ensures in
-    let before = c.before.before.entry_at-before.ensures in
-    let after = c.before.entry_at-after.ensures in
+    let before = c.entry_at-before.ensures in
+    let after = c.entry_at-after.ensures in
     (omega arith, omega arith)
 
 pub split_at_spec : {M : Type 1} → statement M

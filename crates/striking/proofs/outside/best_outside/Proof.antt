@@ -71,15 +71,15 @@ loop-less c = search rules
 loop-again : tie.Need-loop-j-preserved invariant-loop decreases-loop invariant-loop2 decreases-loop2
 loop-again c =
     let l = c.before.before.before in
-    (search rules, omega (arith, c.larger-best.ensures, c.before.outside_at.ensures, l.loop.invariant.1, largest-more (before (start l)) l.loop.j))
+    (search rules, omega (arith, c.larger-best.ensures, c.outside_at.ensures, l.loop-j.invariant.1, largest-more (before (start l)) l.loop-j.j))
 
 loop2-holds : tie.Need-loop-k-init invariant-loop decreases-loop invariant-loop2 decreases-loop2
 unfolding largest
 loop2-holds c =
     let l = c.before in
     let s = start l in
-    let e : l.loop.j ≡ s.args.m - (s.args.a + s.args.w) = omega arith in
-    (search rules, omega (arith, rw e at l.loop.invariant.1))
+    let e : l.loop-j.j ≡ s.args.m - (s.args.a + s.args.w) = omega arith in
+    (search rules, omega (arith, rw e at l.loop-j.invariant.1))
 
 sub-outside-at : tie.Need-overflow_sub-a invariant-loop decreases-loop invariant-loop2 decreases-loop2
 sub-outside-at c = search rules
@@ -114,14 +114,14 @@ loop2-again : tie.Need-loop-k-preserved invariant-loop decreases-loop invariant-
 loop2-again c =
     let l = c.before.before.before in
     let s = start l.before.before in
-    (search rules, omega (arith, c.larger-best-in-loop-k.ensures, c.before.outside_at-in-loop-k.ensures, l.loop2.invariant.1, largest-more (behind s) l.loop2.k))
+    (search rules, omega (arith, c.larger-best-in-loop-k.ensures, c.outside_at-in-loop-k.ensures, l.loop-k.invariant.1, largest-more (behind s) l.loop-k.k))
 
 returns : tie.Need-returns invariant-loop decreases-loop invariant-loop2 decreases-loop2
 returns c =
     let l = c.before in
     let s = start l.before.before in
-    let e : l.loop2.k ≡ s.args.a = omega arith in
-    rw e at l.loop2.invariant.1
+    let e : l.loop-k.k ≡ s.args.a = omega arith in
+    rw e at l.loop-k.invariant.1
 
 pub best_outside_spec : {M : Type 1} → statement M
 best_outside_spec =

@@ -63,7 +63,7 @@ few : (c : tie.After-best_outside-best invariant-loop2 decreases-loop2 invariant
 few c =
     let b = c.before.before in
     let (lines, k, i) = (s b).requires.0 in
-    omega (arith, c.best_outside-best.ensures, out_few k i (b.before.loop2.invariant.2 lines k i) (omega arith) (omega arith))
+    omega (arith, c.best_outside-best.ensures, out_few k i (b.loop-a.invariant.2 lines k i) (omega arith) (omega arith))
 
 loop-holds : tie.Need-loop-w-init invariant-loop2 decreases-loop2 invariant-loop decreases-loop
 loop-holds c =
@@ -71,7 +71,7 @@ loop-holds c =
     (search rules, refl, λ lines k i. outside_first always (C lines) lines b.args.outer.now b.requires.1)
 
 loop2-holds : tie.Need-loop-a-init invariant-loop2 decreases-loop2 invariant-loop decreases-loop
-loop2-holds c = (omega (arith, c.before.loop-w.invariant.0), refl, c.before.loop-w.invariant.2)
+loop2-holds c = (omega (arith, c.loop-w.invariant.0), refl, c.loop-w.invariant.2)
 
 add-loop2 : tie.Need-overflow_add-a invariant-loop2 decreases-loop2 invariant-loop decreases-loop
 add-loop2 c = search rules
@@ -113,8 +113,8 @@ loop2-again : tie.Need-loop-a-preserved invariant-loop2 decreases-loop2 invarian
 loop2-again c =
     let b = c.before.before in (
       search rules,
-      rw length-set b.before.loop2.invariant.1,
-      λ lines k i. outside_more k i (b.before.loop2.invariant.2 lines k i) (omega arith) (omega arith) c.best_outside-best.ensures,
+      rw length-set b.loop-a.invariant.1,
+      λ lines k i. outside_more k i (b.loop-a.invariant.2 lines k i) (omega arith) (omega arith) c.best_outside-best.ensures,
     )
 
 sub-w : tie.Need-overflow_sub-w invariant-loop2 decreases-loop2 invariant-loop decreases-loop
@@ -125,17 +125,17 @@ loop-less c = search rules
 
 loop-again : tie.Need-loop-w-preserved invariant-loop2 decreases-loop2 invariant-loop decreases-loop
 loop-again c =
-    let p = c.before.before.loop-w-test.true in
-    let l = c.before.loop-a in
-    (search rules, l.invariant.1 ∙ c.before.before.before.loop-w.invariant.1, λ lines k i. outside_next p (omega arith) (l.invariant.2 lines k i))
+    let p = c.loop-w-test.true in
+    let l = c.loop-a in
+    (search rules, l.invariant.1 ∙ c.loop-w.invariant.1, λ lines k i. outside_next p (omega arith) (l.invariant.2 lines k i))
 
 same_length : tie.Need-shape_of-outer invariant-loop2 decreases-loop2 invariant-loop decreases-loop
-same_length c = c.before.loop-w.invariant.1
+same_length c = c.loop-w.invariant.1
 
 returns : tie.Need-returns invariant-loop2 decreases-loop2 invariant-loop decreases-loop
 returns c =
-    let e : c.before.loop-w.w ≡ 0 = omega arith in
-    rw e at c.before.loop-w.invariant.2
+    let e : c.loop-w.w ≡ 0 = omega arith in
+    rw e at c.loop-w.invariant.2
 
 pub fill_outside_spec : {M : Type 1} → statement M
 fill_outside_spec =

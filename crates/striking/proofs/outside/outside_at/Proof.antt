@@ -23,8 +23,8 @@ returns : tie.Need-returns
 unfolding outside_by
 returns c =
     let pairs = c.pairs_at.ensures in
-    let wider = c.before.before.entry_at-wider.ensures in
-    let other = c.before.entry_at-other.ensures in
+    let wider = c.entry_at-wider.ensures in
+    let other = c.entry_at-other.ensures in
     omega arith
 
 pub outside_at_spec : {M : Type 1} → statement M

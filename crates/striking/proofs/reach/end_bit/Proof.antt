@@ -29,7 +29,7 @@ returns : tie.Need-returns-then-not-has_tip
 unfolding ends_by
 returns c =
     let s = begun c.before in
-    rw (le-leb s.args.a s.args.t s.requires.4, fails c.before.has_tip.ensures c.if1.true)
+    rw (le-leb s.args.a s.args.t s.requires.4, fails c.has_tip.ensures c.if-not-has_tip.true-raw)
 
 sub-split-at : tie.Need-overflow_sub-t
 sub-split-at c = search rules
@@ -46,8 +46,8 @@ returns-2 c =
     let h = looked c.before in
     let s = begun h in
     let args = s.args in
-    let own = passes h.has_tip.ensures c.before.before.if1.false in
-    rw (le-leb args.a args.t s.requires.4, own, lt-leb args.goal (sum s) (omega (arith, c.before.split_at.ensures.0, c.if-outside-split_at.true)))
+    let own = passes h.has_tip.ensures c.if-not-has_tip.false-raw in
+    rw (le-leb args.a args.t s.requires.4, own, lt-leb args.goal (sum s) (omega (arith, c.split_at.ensures.0, c.if-outside-split_at.true)))
 
 shl-result : tie.Need-overflow_shl-result
 shl-result c = search rules
@@ -61,8 +61,8 @@ returns-3 c =
     let t = args.t in
     let below : t < 64 = omega arith in
     let l : 2 ^ t < 2 ^ 64 = pow-lt below in
-    let own = passes h.has_tip.ensures c.before.before.if1.false in
-    rw (le-leb args.a t s.requires.4, own, le-leb args.goal (sum s) (omega (arith, c.before.split_at.ensures.0, c.if-outside-split_at.false)))
+    let own = passes h.has_tip.ensures c.if-not-has_tip.false-raw in
+    rw (le-leb args.a t s.requires.4, own, le-leb args.goal (sum s) (omega (arith, c.split_at.ensures.0, c.if-outside-split_at.false)))
     (omega arith)
 
 pub end_bit_spec : {M : Type 1} → statement M

@@ -60,7 +60,7 @@ loop-holds c =
     let none = tips-before args.names args.m args.sums.now args.inner.now args.q args.set args.goal in (
       omega (arith, c.earlier-t.ensures, l.later.ensures),
       omega (arith, c.earlier-t.ensures),
-      sym (none args.outside args.a args.w _ (omega (arith, c.earlier-t.ensures, l.later.ensures, l.before.lowest.ensures))),
+      sym (none args.outside args.a args.w _ (omega (arith, c.earlier-t.ensures, l.later.ensures, l.lowest.ensures))),
     )
 
 end-bit-requires : tie.Need-end_bit-kept-requires invariant-loop decreases-loop
@@ -74,7 +74,7 @@ add_kept c =
     let l = c.before.before in
     let f = ends (start l) in
     let below = (ended l).earlier-end.ensures in
-    record { fits = omega (arith, l.loop.invariant.2, c.end_bit-kept.ensures, bits_fit f l.loop.t (f l.loop.t) (omega (arith, below))) }
+    record { fits = omega (arith, l.loop-t.invariant.2, c.end_bit-kept.ensures, bits_fit f l.loop-t.t (f l.loop-t.t) (omega (arith, below))) }
 
 add-t : tie.Need-overflow_add-t invariant-loop decreases-loop
 add-t c = search rules
@@ -85,7 +85,7 @@ loop-less c = search rules
 loop-again : tie.Need-loop-t-preserved invariant-loop decreases-loop
 loop-again c =
     let l = c.before.before in
-    (search rules, search rules, omega (arith, l.loop.invariant.2, c.end_bit-kept.ensures, bits_more (ends (start l)) l.loop.t))
+    (search rules, search rules, omega (arith, l.loop-t.invariant.2, c.end_bit-kept.ensures, bits_more (ends (start l)) l.loop-t.t))
 
 returns : tie.Need-returns invariant-loop decreases-loop
 returns c =
@@ -93,8 +93,8 @@ returns c =
     let s = start l in
     let args = s.args in
     let after = tips-after args.names args.m args.sums.now args.inner.now args.q args.set args.goal in
-    let all = after args.outside args.a args.w s.requires.1 s.requires.6 l.loop.t in
-    l.loop.invariant.2 ∙ all (omega (arith, (ended l).earlier-end.ensures, (ended l).highest.ensures))
+    let all = after args.outside args.a args.w s.requires.1 s.requires.6 l.loop-t.t in
+    l.loop-t.invariant.2 ∙ all (omega (arith, (ended l).earlier-end.ensures, (ended l).highest.ensures))
 
 pub ended_tips_spec : {M : Type 1} → statement M
 ended_tips_spec =

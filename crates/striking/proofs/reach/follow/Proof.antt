@@ -70,7 +70,7 @@ returns : tie.Need-returns
 returns c =
     let b = c.before in
     let s = start b in
-    (c.ended_tips.ensures ∙ ap (tips s) b.best-outside.ensures, ap (set s.args.outer.now (place s)) b.best-outside.ensures)
+    (c.ended_tips.ensures ∙ ap (tips s) b.best_outside-outside.ensures, ap (set s.args.outer.now (place s)) b.best_outside-outside.ensures)
 
 pub follow_spec : {M : Type 1} → statement M
 follow_spec =

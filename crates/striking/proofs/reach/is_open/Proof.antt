@@ -28,7 +28,7 @@ returns : tie.Need-returns-then-highest-a
 unfolding open_by
 returns c =
     let args = (start c.before).args in
-    rw (lt-leb args.a (high args.set) (omega (arith, c.before.highest.ensures, c.if-highest-a.true)))
+    rw (lt-leb args.a (high args.set) (omega (arith, c.highest.ensures, c.if-highest-a.true)))
 
 add-if2 : tie.Need-overflow_add-a
 add-if2 c = search rules
@@ -42,7 +42,7 @@ returns-2 c =
     let l = c.before in
     let h = ended l in
     let args = (start h).args in
-    let from = le-leb args.a (high args.set) (omega (arith, h.highest.ensures, l.before.if1.false)) in
+    let from = le-leb args.a (high args.set) (omega (arith, h.highest.ensures, l.if-highest-a.false)) in
     rw (from, le-ltb (low args.set) (args.a + args.w) (omega (arith, l.lowest.ensures, c.if-a-w.true)))
 
 limit-at-requires : tie.Need-limit_at-requires
@@ -55,8 +55,8 @@ returns-3 c =
     let l = b.before in
     let h = ended l in
     let args = (start h).args in
-    let from = le-leb args.a (high args.set) (omega (arith, h.highest.ensures, l.before.if1.false)) in
-    let to = lt-ltb (low args.set) (args.a + args.w) (omega (arith, l.lowest.ensures, b.if2.false)) in
+    let from = le-leb args.a (high args.set) (omega (arith, h.highest.ensures, l.if-highest-a.false)) in
+    let to = lt-ltb (low args.set) (args.a + args.w) (omega (arith, l.lowest.ensures, b.if-a-w.false)) in
     rw (from, to) (ap (leb args.goal) c.limit_at.ensures)
 
 pub is_open_spec : {M : Type 1} → statement M

@@ -80,16 +80,16 @@ next-open-requires c κs =
       k.others.rack,
       k.inside.room,
       k.outside.room,
-      (l.loop.invariant.2 lines rest k).table.room,
-      c.before.loop-w-test.true,
-      omega (arith, l.loop.invariant.0),
+      (l.loop-w.invariant.2 lines rest k).table.room,
+      c.loop-w-test.true,
+      omega (arith, l.loop-w.invariant.0),
       (start l).requires.2,
     )
 
 loop2-holds : tie.Need-loop-a-init invariant-loop2 decreases-loop2 invariant-loop decreases-loop
 loop2-holds c =
     let l = (entered c).before in
-    let (ends, (found, past)) = c.before.before.next_open-a.ensures in
+    let (ends, (found, past)) = c.next_open-a.ensures in
     (ends.1, refl, found, λ lines rest k. past (start l).args.names l.loop-w.kept lines rest k (l.loop-w.invariant.2 lines rest k))
 
 add-loop2 : tie.Need-overflow_add-a invariant-loop2 decreases-loop2 invariant-loop decreases-loop
@@ -100,7 +100,7 @@ follow-requires c κs =
     let b = c.before in
     let t = s b in
     let (lines, rest, k) = t.requires.0 in
-    let f = b.before.loop2.invariant.3 lines rest k in (
+    let f = b.loop-a.invariant.3 lines rest k in (
       ready k.others,
       k.others.rack,
       k.inside.room,
@@ -147,7 +147,7 @@ loop2-again c =
     let kept = bit_or b.loop-a.kept r.result in
     let (ends, (found, past)) = next.next_open-a-in-loop-a.ensures in (
       ends.1,
-      c.before.outer-in-loop-a-2-1.given ∙ (lent next.before).outer-in-loop-a-1.given ∙ v.1,
+      c.outer-in-loop-a-2-1.given ∙ (lent next.before).outer-in-loop-a-1.given ∙ v.1,
       found,
       λ lines rest k. past t.args.names _ lines rest k
           (subst (λ o. So k t.args.set t.args.goal o kept (w b) (a b + 1)) (sym r.ensures.1)
@@ -162,22 +162,22 @@ loop-less c = search rules
 
 loop-again : tie.Need-loop-w-preserved invariant-loop2 decreases-loop2 invariant-loop decreases-loop
 loop-again c =
-    let l = c.before.loop-a in
+    let l = c.loop-a in
     let b = looped c.before in
     let t = start b.before in (
       search rules,
-      l.invariant.1 ∙ c.before.before.before.outer-1.given ∙ b.loop-w.invariant.1,
+      l.invariant.1 ∙ c.outer-1.given ∙ b.loop-w.invariant.1,
       λ lines rest k. follow_next k t.args.set t.args.goal b.loop-w-test.true (omega arith) (l.invariant.3 lines rest k),
     )
 
 same_length : tie.Need-shape_of-outer invariant-loop2 decreases-loop2 invariant-loop decreases-loop
-same_length c = c.before.loop-w.invariant.1
+same_length c = c.loop-w.invariant.1
 
 returns : tie.Need-returns invariant-loop2 decreases-loop2 invariant-loop decreases-loop
 returns c =
     let t = start c.before in
-    let e : c.before.loop-w.w ≡ 0 = omega arith in
-    λ lines rest k. follow_all k t.args.set t.args.goal (rw e at (c.before.loop-w.invariant.2 lines rest k))
+    let e : c.loop-w.w ≡ 0 = omega arith in
+    λ lines rest k. follow_all k t.args.set t.args.goal (rw e at (c.loop-w.invariant.2 lines rest k))
 
 pub kept_tips_spec : {M : Type 1} → statement M
 kept_tips_spec =

@@ -55,7 +55,7 @@ highest-requires c κs = search rules
 meeting-at-requires : tie.Need-meeting_at-meeting-requires
 meeting-at-requires c κs =
     let s = start c in
-    rw (c.highest.ensures, c.before.lowest.ensures) (s.requires.0.meeting s.args.a s.args.w s.requires.4 s.requires.5 s.requires.6)
+    rw (c.highest.ensures, c.lowest.ensures) (s.requires.0.meeting s.args.a s.args.w s.requires.4 s.requires.5 s.requires.6)
 
 cast-more : tie.Need-overflow_cast-more-2
 cast-more c = search rules
@@ -82,7 +82,7 @@ returns c =
       (among-2 c).entry_at-outside.ensures.0,
       (among-2 c).entry_at-inside.ensures.0,
       (among-2 c).pairs_among-own.ensures,
-      ap (λ n. s.args.q * n) (rw (c.before.highest.ensures, c.before.before.lowest.ensures) at c.meeting_at-meeting.ensures.0),
+      ap (λ n. s.args.q * n) (rw (c.highest.ensures, c.lowest.ensures) at c.meeting_at-meeting.ensures.0),
     )
 
 pub limit_at_spec : {M : Type 1} → statement M

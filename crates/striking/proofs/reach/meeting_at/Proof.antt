@@ -87,7 +87,7 @@ sub-result-2 c = search rules
 
 returns : tie.Need-returns
 unfolding meeting_by
-returns c = (refl, c.before.before.before.before.requires.few)
+returns c = (refl, c.requires.few)
 
 pub meeting_at_spec : {M : Type 1} → statement M
 meeting_at_spec =

@@ -51,12 +51,12 @@ is-open-requires : tie.Need-is_open-requires invariant-loop decreases-loop
 is-open-requires c κs = ((s c).requires.0, (s c).requires.1, (s c).requires.2, (s c).requires.3, omega arith, (s c).requires.7)
 
 same_length : tie.Need-shape_of-outer-then-is_open invariant-loop decreases-loop
-same_length c = c.before.before.before.loop-a.invariant.2
+same_length c = c.loop-a.invariant.2
 
 returns : tie.Need-returns-then-is_open invariant-loop decreases-loop
 returns c =
-    let v = c.before.before.before.loop-a.invariant in
-    ((v.0, v.1), ((λ _. rw (sym c.before.is_open.ensures ∙ c.if-is_open.true) tt), v.3))
+    let v = c.loop-a.invariant in
+    ((v.0, v.1), ((λ _. rw (sym c.is_open.ensures ∙ c.if-is_open.true) tt), v.3))
 
 mul-outer : tie.Need-overflow_mul-outer invariant-loop decreases-loop
 mul-outer c = record { fits = omega (arith, within c.before.before, square c.before.before) }
@@ -74,7 +74,7 @@ mul-outer-2 : tie.Need-offset_bounds-outer-a invariant-loop decreases-loop
 mul-outer-2 c = record { fits = omega (arith, within c.before.before, square c.before.before) }
 
 slice-write-outer : tie.Need-bounds-outer-a invariant-loop decreases-loop
-slice-write-outer c = omega (arith, within c.before.before, c.before.before.before.loop-a.invariant.2, (s c.before.before).requires.4)
+slice-write-outer c = omega (arith, within c.before.before, c.loop-a.invariant.2, (s c.before.before).requires.4)
 
 add_a : tie.Need-overflow_add-a invariant-loop decreases-loop
 add_a c = search rules
@@ -86,8 +86,8 @@ loop-again : tie.Need-loop-a-preserved invariant-loop decreases-loop
 loop-again c =
     let b = c.before.before in
     let args = (s b).args in
-    let v = b.before.loop.invariant in
-    let closed = sym c.before.is_open.ensures ∙ c.if-is_open.false in (
+    let v = b.loop-a.invariant in
+    let closed = sym c.is_open.ensures ∙ c.if-is_open.false in (
       search rules,
       search rules,
       rw length-set v.2,
@@ -95,11 +95,11 @@ loop-again c =
     )
 
 same-length-2 : tie.Need-shape_of-outer invariant-loop decreases-loop
-same-length-2 c = c.before.loop-a.invariant.2
+same-length-2 c = c.loop-a.invariant.2
 
 returns-2 : tie.Need-returns invariant-loop decreases-loop
 returns-2 c =
-    let v = c.before.loop-a.invariant in
+    let v = c.loop-a.invariant in
     ((v.0, v.1), ((λ h. absurd (omega arith)), v.3))
 
 pub next_open_spec : {M : Type 1} → statement M

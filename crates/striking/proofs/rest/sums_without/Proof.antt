@@ -45,7 +45,7 @@ abbrev value : tie.After-highest-high invariant-loop2 decreases-loop2 invariant-
 value c j =
     let args = (start c).args in
     get_or args.sums.now j 0
-    - own_at c.before.lowest-low.result c.highest-high.result args.quantity (j / sums_width args.m) (j % sums_width args.m)
+    - own_at c.lowest-low.result c.highest-high.result args.quantity (j / sums_width args.m) (j % sums_width args.m)
 
 -- the place is of the sums
 in-sums : (c : tie.In-loop-y invariant-loop2 decreases-loop2 invariant-loop decreases-loop)
@@ -73,8 +73,8 @@ loop2-holds : tie.Need-loop-y-init invariant-loop2 decreases-loop2 invariant-loo
 loop2-holds c =
     let b = c.before in
     let m = (start (ends b)).args.m in
-    let e : b.loop.x * sums_width m + 0 ≡ b.loop.x * sums_width m = omega arith in
-    (search rules, b.loop.invariant.1, rw e b.loop.invariant.2)
+    let e : b.loop-x.x * sums_width m + 0 ≡ b.loop-x.x * sums_width m = omega arith in
+    (search rules, b.loop-x.invariant.1, rw e b.loop-x.invariant.2)
 
 mul-k : tie.Need-overflow_mul-k invariant-loop2 decreases-loop2 invariant-loop decreases-loop
 mul-k c = record { fits = omega (arith, in-sums c, (start (ends (outer c))).requires.1.size) }
@@ -98,7 +98,7 @@ sub-rest c =
     let t = c.before.before in
     let e = ends (outer t) in
     let x = (outer t).loop-x.x in
-    let y = t.before.loop2.y in
+    let y = t.loop-y.y in
     let same = ap₂ (λ l h. own_at l h (start e).args.quantity x y) e.before.lowest-low.ensures e.highest-high.ensures in
     omega (arith, c.own_at.ensures, same, (start e).requires.1.covers x y (omega arith) (omega arith))
 
@@ -110,7 +110,7 @@ mul-rest-2 c =
 slice-write-rest : tie.Need-bounds-rest-k invariant-loop2 decreases-loop2 invariant-loop decreases-loop
 slice-write-rest c =
     let t = c.before.before in
-    omega (arith, in-sums t, t.before.loop2.invariant.1)
+    omega (arith, in-sums t, t.loop-y.invariant.1)
 
 add-y : tie.Need-overflow_add-y invariant-loop2 decreases-loop2 invariant-loop decreases-loop
 add-y c = search rules
@@ -121,7 +121,7 @@ loop2-less c = search rules
 loop2-again : tie.Need-loop-y-preserved invariant-loop2 decreases-loop2 invariant-loop decreases-loop
 loop2-again c =
     let t = c.before.before in
-    let l = t.before.loop2 in
+    let l = t.loop-y in
     let e = ends (outer t) in
     let m = (start e).args.m in
     let x = (outer t).loop-x.x in
@@ -143,19 +143,19 @@ loop-less c = search rules
 
 loop-again : tie.Need-loop-x-preserved invariant-loop2 decreases-loop2 invariant-loop decreases-loop
 loop-again c =
-    let l = c.before.loop-y in
+    let l = c.loop-y in
     let o = c.before.before.before in
     let m = (start (ends o)).args.m in
-    let e : o.loop.x * sums_width m + l.y ≡ (o.loop.x + 1) * sums_width m = omega arith in
+    let e : o.loop-x.x * sums_width m + l.y ≡ (o.loop-x.x + 1) * sums_width m = omega arith in
     (search rules, l.invariant.1, rw e at l.invariant.2)
 
 same_length : tie.Need-shape_of-rest invariant-loop2 decreases-loop2 invariant-loop decreases-loop
-same_length c = c.before.loop-x.invariant.1 ∙ sym (start (ends c.before)).requires.2
+same_length c = c.loop-x.invariant.1 ∙ sym (start (ends c.before)).requires.2
 
 returns : tie.Need-returns invariant-loop2 decreases-loop2 invariant-loop decreases-loop
 unfolding sums_without
 returns c =
-    let l = c.before.loop-x in
+    let l = c.loop-x in
     let e = ends c.before in
     let m = (start e).args.m in
     let n : l.x ≡ sums_width m = omega arith in

@@ -36,10 +36,10 @@ returns-2 c =
     let d = asked.before.before in
     let s = begun d.before in
     let old = s.args.answer.now in
-    let long = d.if1.false in
-    let four = put.put-answer.ensures in
-    let (outcome, (plan, rule)) = asked.alone-outcome.ensures in
-    let Rule = AloneRuleOf s.args.first.now s.args.second.now asked.alone-outcome.new.1.1.0 in
+    let long = d.if-answer-lt4.false in
+    let four = put.put_answer.ensures in
+    let (outcome, (plan, rule)) = asked.alone_outcome-outcome.ensures in
+    let Rule = AloneRuleOf s.args.first.now s.args.second.now asked.alone_outcome-outcome.new.plan in
     let seen-rule = subst Rule (seen_is outcome old long four) rule in
     (number_long outcome old long four, (answer_long outcome old long four, (plan ∙ if_long old _ _ long, λ _. seen-rule)))
 

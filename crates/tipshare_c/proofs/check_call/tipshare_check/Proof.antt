@@ -33,9 +33,9 @@ returns-2 c =
     let d = asked.before in
     let s = begun d.before in
     let old = s.args.answer.now in
-    let long = d.if1.false in
-    let four = put.put-answer.ensures in
-    let (outcome, rule) = asked.check-outcome.ensures in
+    let long = d.if-answer-lt4.false in
+    let four = put.put_answer.ensures in
+    let (outcome, rule) = asked.check_outcome-outcome.ensures in
     let Rule = CheckRuleOf s.args.file.now s.args.plan.now s.args.claim s.args.table.now in
     let seen-rule = subst Rule (seen_is outcome old long four) rule in
     (number_long outcome old long four, (answer_long outcome old long four, λ _. seen-rule))

@@ -39,11 +39,11 @@ returns-2 c =
     let d = asked.before.before.before in
     let s = begun d.before in
     let old = s.args.answer.now in
-    let long = d.if1.false in
-    let four = put.put-answer.ensures in
-    let (answer, (out, (report, rule))) = asked.mend.ensures in
+    let long = d.if-answer-lt4.false in
+    let four = put.put_answer.ensures in
+    let (answer, (out, (report, rule))) = asked.mend-mended.ensures in
     let outcome = ap mend_outcome answer in
-    let Rule = MendRuleIn s.args.file.now asked.mend.new.1.0 asked.mend.new.1.1.0 in
+    let Rule = MendRuleIn s.args.file.now asked.mend-mended.new.out asked.mend-mended.new.report in
     let seen-rule = subst Rule (seen_is outcome old long four) rule in (
       number_long outcome old long four,
       (answer_long outcome old long four, (out ∙ if_long old _ _ long, (report ∙ if_long old _ _ long, seen-rule))),

@@ -47,13 +47,13 @@ returns-2 c =
     let s = begun d.before in
     let old = s.args.answer.now in
     let parts = s.args.parts.now in
-    let long = d.if1.false in
-    let four = put.put-answer.ensures in
-    let (told, (left, rule)) = asked.order-numbers.ensures in
-    let outcome = made.order-outcome.ensures ∙ ap (λ r. order_outcome r (length parts / 4)) told in
+    let long = d.if-answer-lt4.false in
+    let four = put.put_answer.ensures in
+    let (told, (left, rule)) = asked.order_numbers-refusal.ensures in
+    let outcome = made.order_outcome.ensures ∙ ap (λ r. order_outcome r (length parts / 4)) told in
     let refusal : Outcome → Refusal = λ o. o.refusal in
-    let same = sym (ap refusal made.order-outcome.ensures) ∙ ap refusal (seen_is outcome old long four) in
-    let Rule = PlacingRuleIn parts s.args.rules.now (length s.args.order.now) asked.order-numbers.new.1.1.0 in
+    let same = sym (ap refusal made.order_outcome.ensures) ∙ ap refusal (seen_is outcome old long four) in
+    let Rule = PlacingRuleIn parts s.args.rules.now (length s.args.order.now) asked.order_numbers-refusal.new.order in
     (number_long outcome old long four, (answer_long outcome old long four, (left ∙ if_long old _ _ long, λ _. subst Rule same rule)))
 
 pub tipshare_order_spec : {M : Type 1} → statement M

@@ -30,9 +30,9 @@ returns-2 c =
     let d = asked.before in
     let s = begun d.before in
     let old = s.args.answer.now in
-    let long = d.if1.false in
-    let four = put.put-answer.ensures in
-    let outcome = asked.read-outcome.ensures in
+    let long = d.if-answer-lt4.false in
+    let four = put.put_answer.ensures in
+    let outcome = asked.read_outcome-outcome.ensures in
     (number_long outcome old long four, answer_long outcome old long four)
 
 pub tipshare_read_spec : {M : Type 1} → statement M
