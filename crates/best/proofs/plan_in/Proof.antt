@@ -71,7 +71,7 @@ fill-table-requires : tie.Need-fill_table-requires
 fill-table-requires c κs =
     let b = summed c in
     let s = start b in
-    ((placed s, record { runs = runs s; summed = b.sum_spans.ensures }), s.requires.4, b.before.before.pair_table-pairs.ensures)
+    ((placed s, record { runs = runs s; summed = b.sum_spans.ensures }), s.requires.4, b.pair_table-pairs.ensures)
 
 slice-aggregate-plan-lines : tie.Need-slice_bounds-plan_lines-end
 slice-aggregate-plan-lines c = search rules

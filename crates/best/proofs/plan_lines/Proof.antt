@@ -14,7 +14,7 @@ use Rattle.best.proofs.plan_lines.Tie as tie
 
 -- the call's start, once the tips that the lines name are known
 abbrev begun : tie.After-names_of-names → tie.Start
-begun c = c.before.before.before.before.before.before
+begun c = c.before.before.before.before.before
 
 -- those tips, from the arguments of either plan
 abbrev united : tie.After-plan-runs-arg3 → tie.After-names_of-names

@@ -73,7 +73,7 @@ plan-ranks-requires c κs =
     let l = listed-3 c in
     let p = (begun-2 l).requires in
     let e = l.list_tips-r.ensures in
-    ranks_ready p.0 p.1 e.0 e.1.0 e.1.1 (renumbered-2 c).renumber-lines.ensures p.2 p.3
+    ranks_ready p.0 p.1 e.0 e.1.0 e.1.1 (renumbered-2 c).renumber_lines.ensures p.2 p.3
 
 slice-aggregate-name-tips : tie.Need-slice_bounds-name_tips-end
 slice-aggregate-name-tips c = search rules
@@ -84,7 +84,7 @@ name-tips-requires c κs =
     let l = listed-3 planned.before in
     let p = (begun-2 l).requires in
     let e = l.list_tips-r.ensures in
-    plan_fits p.0 p.1 e.0 e.1.0 e.1.1 _ (renumbered-2 planned.before).renumber-lines.ensures
+    plan_fits p.0 p.1 e.0 e.1.0 e.1.1 _ (renumbered-2 planned.before).renumber_lines.ensures
     planned.plan_ranks.ensures.0
 
 spread-table-requires : tie.Need-spread_table-requires
@@ -105,8 +105,8 @@ same-length-3 c = search rules
 
 returns : tie.Need-returns
 returns c =
-    let spread = c.before.before in
-    let tips = named spread.before in
+    let spread = c.before.before.before in
+    let tips = named spread in
     let planned = laid tips.before in
     let asked = planned.before in
     let l = listed-3 asked in
@@ -115,8 +115,8 @@ returns c =
     let e = l.list_tips-r.ensures in
     let done = planned.plan_ranks.ensures in
     steps p.0 p.1 e.0 e.1.0 e.1.1 (on_head s.args.mounted) planned.plan_ranks.new.table
-    (renumbered-2 asked).renumber-lines.ensures (mounted asked).renumber-mounted.ensures done.0 done.1 tips.name_tips.ensures
-    spread.spread_table.ensures
+    (renumbered-2 asked).renumber_lines.ensures (mounted asked).renumber_mounted-on.ensures done.0 done.1 tips.name_tips.ensures
+    c.spread_table.ensures
 
 pub plan_named_spec : {M : Type 1} → statement M
 plan_named_spec =

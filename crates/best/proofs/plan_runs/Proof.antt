@@ -41,10 +41,10 @@ small-sums-requires : tie.Need-small_sums-sums-requires
 small-sums-requires c κs = search rules
 
 array-borrow-prefix-sums : tie.Need-slice_bounds-sums-end
-array-borrow-prefix-sums c = omega (arith, (sized c).sums-size.ensures, c.small_sums-sums.ensures, sums_mono (few c))
+array-borrow-prefix-sums c = omega (arith, (sized c).sums_size-size.ensures, c.small_sums-sums.ensures, sums_mono (few c))
 
 slice-aggregate-plan-in : tie.Need-slice_bounds-plan_in-end
-slice-aggregate-plan-in c = (sized c.before).sums-size.ensures ∙ sym (small-room c.before)
+slice-aggregate-plan-in c = (sized c.before).sums_size-size.ensures ∙ sym (small-room c.before)
 
 slice-aggregate-plan-in-2 : tie.Need-slice_bounds-plan_in-end-then-m-le16
 slice-aggregate-plan-in-2 c = search rules
@@ -68,10 +68,10 @@ most-sums-requires : tie.Need-most_sums-sums-requires
 most-sums-requires c κs = search rules
 
 array-borrow-prefix-sums-2 : tie.Need-slice_bounds-sums-end-2
-array-borrow-prefix-sums-2 c = omega (arith, (begun c).sums-size.ensures, c.most_sums-sums.ensures, sums_mono (narrow c))
+array-borrow-prefix-sums-2 c = omega (arith, (begun c).sums_size-size.ensures, c.most_sums-sums.ensures, sums_mono (narrow c))
 
 slice-aggregate-plan-in-3 : tie.Need-slice_bounds-plan_in-end-2
-slice-aggregate-plan-in-3 c = (begun c.before).sums-size.ensures ∙ sym (most-room c.before)
+slice-aggregate-plan-in-3 c = (begun c.before).sums_size-size.ensures ∙ sym (most-room c.before)
 
 slice-aggregate-plan-in-4 : tie.Need-slice_bounds-plan_in-end-3
 slice-aggregate-plan-in-4 c = search rules

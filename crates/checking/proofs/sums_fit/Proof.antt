@@ -17,7 +17,7 @@ sum-spans-requires c κs = search rules
 table-fits-requires : tie.Need-table_fits-requires
 table-fits-requires c κs =
     let s = start (summed c) in
-    (rw (summed c).sum-spans.ensures (ready s.requires.0 s.args.table.now s.requires.1), s.requires.2)
+    (rw (summed c).sum_spans.ensures (ready s.requires.0 s.args.table.now s.requires.1), s.requires.2)
 
 same_length : tie.Need-shape_of-sums
 same_length c = search rules
@@ -26,7 +26,7 @@ returns : tie.Need-returns
 unfolding table_ok
 returns c =
     let s = start (summed c.before) in
-    c.table_fits.ensures ∙ rw ((summed c.before).sum-spans.ensures, bounds_same s.requires.0 s.args.table.now)
+    c.table_fits.ensures ∙ rw ((summed c.before).sum_spans.ensures, bounds_same s.requires.0 s.args.table.now)
 
 pub sums_fit_spec : {M : Type 1} → statement M
 sums_fit_spec = tie.close (tie.spec sum-spans-requires table-fits-requires same_length returns)

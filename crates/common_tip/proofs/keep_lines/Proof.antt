@@ -14,7 +14,7 @@ use Rattle.common_tip.proofs.keep_lines.Statement.{statement}
 use Rattle.common_tip.proofs.keep_lines.Tie as tie
 
 abbrev start : tie.After-within-bound → tie.Start
-start c = c.before.before.before.before
+start c = c.before.before.before
 
 -- the margin as the code holds it, in 32 bits
 margin-is : (c : tie.After-within-bound)

@@ -87,10 +87,10 @@ same-length-5 c = search rules
 returns-2 : tie.Need-returns
 returns-2 c =
     let laid = c.before.before.before.before in
-    let d = laid.before.before.before.before in
+    let d = laid.before.before.before in
     let (e, (lines, _)) = (read d).read_lines-read.ensures in (
-      λ _. told-file (lines c.if-refusal-ne0.false) _ _ (laid.best_lines.auto.plan ∙ length-take-le _ _ (bytes d)) laid.best_lines.ensures,
-      λ n. absurd (n (number_of e c.if-refusal-ne0.false)),
+      λ _. told-file (lines d.if-refusal-ne0.false) _ _ (laid.best_lines.auto.plan ∙ length-take-le _ _ (bytes d)) laid.best_lines.ensures,
+      λ n. absurd (n (number_of e d.if-refusal-ne0.false)),
     )
 
 pub best_of_file_spec : {M : Type 1} → statement M

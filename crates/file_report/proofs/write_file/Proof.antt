@@ -76,8 +76,8 @@ same_length c = search rules
 returns : tie.Need-returns-then-refusal-ne0
 returns c =
     let written = c.before.before in
-    let refused = written.before.before in
-    rw (text_refused _ (told refused.before).read_lines-read.ensures.0 refused.if-refusal-ne0.true) written.write_refused.ensures
+    let refused = written.before.before.before in
+    rw (text_refused _ (told refused).read_lines-read.ensures.0 c.if-refusal-ne0.true) written.write_refused.ensures
 
 plan-buffer-requires-2 : tie.Need-plan_buffer-quick-requires
 plan-buffer-requires-2 c κs = search rules
@@ -150,10 +150,10 @@ same-length-2 c = search rules
 
 returns-2 : tie.Need-returns
 returns-2 c =
-    let written = c.before.before.before.before in
+    let written = c.before.before.before.before.before in
     let d = (quick-buffer-2 written.before).before in
     let (e, (lines, _)) = (read d).read_lines-read.ensures in
-    rw (text_accepted _ e d.if-refusal-ne0.left (lines d.if-refusal-ne0.left)) written.write_lines.ensures
+    rw (text_accepted _ e d.if-refusal-ne0.left (lines d.if-refusal-ne0.left)) c.write_lines.ensures
 
 pub write_file_spec : {M : Type 1} → statement M
 write_file_spec =

@@ -19,7 +19,7 @@ refuse-requires : tie.Need-refuse-requires
 refuse-requires c κs = search rules
 
 common-requires : tie.Need-common-common-requires
-common-requires c κs = given_whole (begun c.before).requires.0.0
+common-requires c κs = given_whole (begun c).requires.0.0
 
 refuse-requires-2 : tie.Need-refuse-requires-2
 refuse-requires-2 c κs = search rules
@@ -49,12 +49,12 @@ returns c =
     let laid = quick written.before in
     let free = laid.before.before.before in
     let busiest = common free in
-    let asked = busiest.before.before in
+    let asked = busiest.before in
     let s = begun asked in
     let (quick_answer, (plan, _)) = laid.quick-laid.ensures in
     let good = s.requires.0.0 in
-    let off = common_is good busiest.refuse.ensures busiest.common-common.ensures.0 in
-    let pairs = quick_is good free.refuse2.ensures _ s.requires.1.0.0 quick_answer plan in
+    let off = common_is good asked.refuse.ensures busiest.common-common.ensures.0 in
+    let pairs = quick_is good free.refuse-2.ensures _ s.requires.1.0.0 quick_answer plan in
     rw (← (same_report s.args.rack s.args.quantities.now s.args.lines.now off pairs s.requires.1.1)) written.write_report.ensures
 
 pub write_lines_spec : {M : Type 1} → statement M

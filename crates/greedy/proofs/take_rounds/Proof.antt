@@ -32,7 +32,7 @@ abbrev called : tie.At-loop-mounted invariant-loop decreases-loop → tie.Start 
 called c = begins (listed c.before).before
 
 abbrev looped : tie.After-busiest_tips-busiest invariant-loop decreases-loop → tie.At-loop-mounted invariant-loop decreases-loop
-looped c = c.before.before
+looped c = c.before
 
 abbrev counted : tie.After-choose-tip invariant-loop decreases-loop → tie.After-busiest_tips-busiest invariant-loop decreases-loop
 counted c = c.before.before.before
@@ -96,8 +96,8 @@ loop-holds c =
 
 busiest-tips-requires : tie.Need-busiest_tips-busiest-requires invariant-loop decreases-loop
 busiest-tips-requires c κs =
-    let l = c.before in
-    (c.loop-mounted.invariant.0.counts_are.size, (called l).requires.0.shareable.good.most)
+    let l = c in
+    (l.loop-mounted.invariant.0.counts_are.size, (called l).requires.0.shareable.good.most)
 
 same_length : tie.Need-shape_of-list-then-busiest-eq0 invariant-loop decreases-loop
 same_length c = search rules

@@ -188,11 +188,11 @@ loop2-again c =
 
 side-pairs-requires :
     tie.Need-side_pairs-to_u-requires invariant-loop2 decreases-loop2 invariant-tips decreases-tips invariant-loop decreases-loop
-side-pairs-requires c κs = ((s c.before).requires.2, (counts c.before).0, (counts c.before).2)
+side-pairs-requires c κs = ((s c.before.before.before.before.before.before.before.before).requires.2, (counts c.before.before.before.before.before.before.before.before).0, (counts c.before.before.before.before.before.before.before.before).2)
 
 side-pairs-requires-2 :
     tie.Need-side_pairs-to_v-requires invariant-loop2 decreases-loop2 invariant-tips decreases-tips invariant-loop decreases-loop
-side-pairs-requires-2 c κs = let l = c.before.before in ((s l).requires.2, (counts l).1, (counts l).2)
+side-pairs-requires-2 c κs = let l = c.before.before.before.before.before.before.before.before in ((s l).requires.2, (counts l).1, (counts l).2)
 
 score-of-requires : tie.Need-score_of-score-requires invariant-loop2 decreases-loop2 invariant-tips decreases-tips invariant-loop decreases-loop
 score-of-requires c κs =

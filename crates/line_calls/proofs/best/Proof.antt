@@ -21,7 +21,7 @@ returns : tie.Need-returns-then-refusal-ne0
 returns c = best-refused _ _ _ _ _ _ _ c.best_refusal-refusal.ensures c.if-refusal-ne0.true
 
 abbrev begun : tie.Else-refusal-ne0 → tie.Start
-begun d = d.before.before.before.before.before.before.before.before
+begun d = d.before.before.before.before.before.before.before
 
 -- nothing is refused: both buffers have room, and the lines are runs
 asked : (d : tie.Else-refusal-ne0) →
@@ -49,7 +49,7 @@ slice-aggregate-plan-lines c = count c.before
 
 slice-aggregate-plan-lines-2 : tie.Need-slice_bounds-plan_lines-end-3
 slice-aggregate-plan-lines-2 c =
-    let d = c.before.before in
+    let d = c.before in
     sym (length-take-le _ _ ((begun d).requires.quantity-room (asked d).free))
 
 slice-relend-prefix-plan-lines-2 : tie.Need-slice_bounds-plan_lines-end-4

@@ -46,7 +46,7 @@ names-of-requires c κs = search rules
 
 slice-aggregate-check-plan : tie.Need-slice_bounds-check_plan-end
 slice-aggregate-check-plan c =
-    let d = c.before.before.before in
+    let d = c.before in
     sym (length-take-le _ _ ((begun (asked d)).requires.quantity-room (free d).free))
 
 slice-aggregate-check-plan-2 : tie.Need-slice_bounds-check_plan-end-2
@@ -63,9 +63,9 @@ check-plan-requires c κs =
 
 returns-2 : tie.Need-returns
 returns-2 c =
-    let d = c.before.before.before.before.before in
+    let d = c.before.before in
     let s = begun (asked d) in
-    let e = check_next _ _ _ _ _ _ _ (asked d).best_refusal-refusal.ensures c.if-refusal-ne0.false (count d) c.check_plan.ensures in
+    let e = check_next _ _ _ _ _ _ _ (asked d).best_refusal-refusal.ensures d.if-refusal-ne0.false (count d) c.check_plan.ensures in
     (e, check_rule _ _ _ _ _ _ _ s.requires.good e)
 
 pub check_spec : {M : Type 1} → statement M

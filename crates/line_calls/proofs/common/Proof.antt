@@ -17,12 +17,12 @@ good : (d : tie.Else-earlier-ne0) → let a = (begun d).args in GoodLines a.rack
 good d = (begun d).requires.good d.if-earlier-ne0.false
 
 slice-aggregate-common-tip : tie.Need-slice_bounds-common_tip-end
-slice-aggregate-common-tip c = sym (length-take-le _ _ ((begun c.before).requires.room c.if-earlier-ne0.false))
+slice-aggregate-common-tip c = sym (length-take-le _ _ ((begun c).requires.room c.if-earlier-ne0.false))
 
 slice-aggregate-common-tip-2 : tie.Need-slice_bounds-common_tip-end-2
 slice-aggregate-common-tip-2 c =
-    let d = c.before.before in
-    sym (length-take-le _ _ ((begun d).requires.quantity-room c.if-earlier-ne0.false))
+    let d = c in
+    sym (length-take-le _ _ ((begun d).requires.quantity-room d.if-earlier-ne0.false))
 
 common-tip-requires : tie.Need-common_tip-found-requires
 common-tip-requires c κs = let g = good c.before.before in (g.most, record { same = g.same; few = g.few })

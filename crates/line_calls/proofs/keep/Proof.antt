@@ -32,8 +32,8 @@ slice-aggregate-keep-lines c = size c.before
 
 slice-aggregate-keep-lines-2 : tie.Need-slice_bounds-keep_lines-end-3
 slice-aggregate-keep-lines-2 c =
-    let d = c.before.before in
-    sym (length-take-le _ _ ((begun d).requires.quantity-room c.if-earlier-ne0.false))
+    let d = c.before in
+    sym (length-take-le _ _ ((begun d).requires.quantity-room d.if-earlier-ne0.false))
 
 keep-lines-requires : tie.Need-keep_lines-margin-requires
 keep-lines-requires c κs = let g = good c.before.before in (g.most, record { same = g.same; few = g.few }, g.placed)
@@ -47,14 +47,14 @@ same_length c = search rules
 returns-2 : tie.Need-returns
 returns-2 c =
     let kept = c.before.before.before in
-    let d = kept.before.before.before in
+    let d = kept.before.before in
     let y = kept.keep_lines-margin.result in
     let is = kept.keep_lines-margin.ensures.0 in
     let s = begun d in
     let g = good d in
     let small = margin_small s.args.rack s.args.k (record { same = g.same; few = g.few }) s.fits.k.fits in
     let e = to_z-of_z w32 y (rw is small) ∙ is in
-    keep-through _ _ _ _ _ _ c.if-earlier-ne0.false (size d) refl {y = to_z w32 (of_z w32 y)} e c.keep_refusal.ensures kept.keep_lines-margin.ensures.1
+    keep-through _ _ _ _ _ _ d.if-earlier-ne0.false (size d) refl {y = to_z w32 (of_z w32 y)} e c.keep_refusal.ensures kept.keep_lines-margin.ensures.1
 
 pub keep_spec : {M : Type 1} → statement M
 keep_spec =

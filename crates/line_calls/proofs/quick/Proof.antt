@@ -43,7 +43,7 @@ slice-aggregate-plan-lines c = count c.before
 
 slice-aggregate-plan-lines-2 : tie.Need-slice_bounds-plan_lines-end-3
 slice-aggregate-plan-lines-2 c =
-    let d = c.before.before in
+    let d = c.before in
     sym (length-take-le _ _ ((begun d).requires.quantity-room (asked d).0))
 
 slice-relend-prefix-plan-lines-2 : tie.Need-slice_bounds-plan_lines-end-4
@@ -66,10 +66,10 @@ same-length-2 c = search rules
 returns-2 : tie.Need-returns
 returns-2 c =
     let laid = c.before.before.before.before in
-    let d = laid.before.before.before.before in
+    let d = laid.before.before.before in
     let e = laid.plan_lines-pairs.ensures in
     let asked = d.plan_refusal-refusal in
-    quick_accepted _ _ _ _ _ _ asked.ensures (size (begun d)) c.if-refusal-ne0.false (count d) (good d) e.pairs_are e.plan_is
+    quick_accepted _ _ _ _ _ _ asked.ensures (size (begun d)) d.if-refusal-ne0.false (count d) (good d) e.pairs_are e.plan_is
 
 pub quick_spec : {M : Type 1} → statement M
 quick_spec =

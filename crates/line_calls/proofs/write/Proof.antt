@@ -32,8 +32,8 @@ few d = omega (arith, count d, (good d).few-lines)
 
 slice-aggregate-version-for : tie.Need-slice_bounds-version_for-end
 slice-aggregate-version-for c =
-    let d = c.before in
-    sym (length-take-le _ _ ((begun d).requires.quantity-room c.if-earlier-ne0.false))
+    let d = c in
+    sym (length-take-le _ _ ((begun d).requires.quantity-room d.if-earlier-ne0.false))
 
 version-for-requires : tie.Need-version_for-version-requires
 version-for-requires c κs = search rules
@@ -77,11 +77,11 @@ room e = omega (arith, e.file_length-bytes.ensures, room_for (measured e))
 
 slice-aggregate-write-file : tie.Need-slice_bounds-write_file-end
 slice-aggregate-write-file c =
-    let d = started (asked (measured c.before)) in
+    let d = started (asked (measured c)) in
     sym (length-take-le _ _ ((begun d).requires.quantity-room d.if-earlier-ne0.left))
 
 slice-aggregate-write-file-2 : tie.Need-slice_bounds-write_file-end-2
-slice-aggregate-write-file-2 c = count (started (asked (measured c.before.before)))
+slice-aggregate-write-file-2 c = count (started (asked (measured c)))
 
 slice-relend-prefix-write-file : tie.Need-slice_bounds-write_file-end-3
 slice-relend-prefix-write-file c = room c.before.before
@@ -91,10 +91,10 @@ slice-aggregate-write-file-3 c = sym (length-take-le _ _ (room c.before.before.b
 
 write-file-requires : tie.Need-write_file-requires
 write-file-requires c κs =
-    let e = c.before.before.before in
+    let e = c.before in
     let w = asked (measured e) in
     let d = started w in
-    let bytes = length-take-le _ _ (room e) ∙ c.file_length-bytes.ensures in
+    let bytes = length-take-le _ _ (room e) ∙ e.file_length-bytes.ensures in
     ((good d).same, bytes ∙ ap₂ file_length (found w).version_for-version.ensures (count d))
 
 same_length : tie.Need-shape_of-out
@@ -103,10 +103,10 @@ same_length c = search rules
 returns-3 : tie.Need-returns
 returns-3 c =
     let written = c.before.before in
-    let e = written.before.before.before.before in
+    let e = written.before.before in
     let w = asked (measured e) in
     write_accepted _ _ _ _ _ w.write_refusal-refusal.ensures (found w).version_for-version.ensures (count (started w)) (measured e).if-refusal-ne0.false
-    c.file_length-bytes.ensures written.write_file.ensures
+    e.file_length-bytes.ensures written.write_file.ensures
 
 pub write_spec : {M : Type 1} → statement M
 write_spec =

@@ -22,7 +22,7 @@ abbrev begun : tie.At-loop-b invariant-loop decreases-loop → tie.Start invaria
 begun c = c.before.before
 
 abbrev looped : tie.After-one-end invariant-loop decreases-loop → tie.At-loop-b invariant-loop decreases-loop
-looped c = c.before.before.before.before.before
+looped c = c.before.before.before.before
 
 -- the place written is in the table, and tables are small
 known : (c : tie.In-loop-b invariant-loop decreases-loop) →
@@ -53,20 +53,20 @@ sub-b c = search rules
 
 cell-at-requires : tie.Need-cell_at-requires invariant-loop decreases-loop
 cell-at-requires c κs = λ inside.
-    let l = c.before.before in
+    let l = c.before in
     let s = begun l in
-    let at = c.loop-b in
+    let at = l.loop-b in
     let room = read_room (has s.args.set) s.args.m s.args.a at.b s.requires.inside (omega arith) at.invariant.0 in
     omega (arith, (rw (← s.requires.below, ← s.requires.named, ← at.invariant.1) at room) inside, at.invariant.2.size, s.requires.size)
 
 add-table : tie.Need-overflow_add-table invariant-loop decreases-loop
-add-table c = omega (arith, known c.before.before)
+add-table c = omega (arith, known c.before)
 
 mul-table : tie.Need-offset_bounds-table-row invariant-loop decreases-loop
-mul-table c = omega (arith, known c.before.before)
+mul-table c = omega (arith, known c.before)
 
 slice-write-table : tie.Need-bounds-table-row invariant-loop decreases-loop
-slice-write-table c = omega (arith, known c.before.before)
+slice-write-table c = omega (arith, known c.before)
 
 has-tip-requires : tie.Need-has_tip-requires invariant-loop decreases-loop
 has-tip-requires c κs = search rules

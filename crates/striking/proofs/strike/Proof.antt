@@ -55,16 +55,16 @@ small-sums-requires-2 : tie.Need-small_sums-rest-requires
 small-sums-requires-2 c κs = search rules
 
 array-borrow-prefix-sums : tie.Need-slice_bounds-sums-end
-array-borrow-prefix-sums c = omega (arith, (sized c).sums-size.ensures, c.small_sums-sums.ensures, sums_mono (few c))
+array-borrow-prefix-sums c = omega (arith, (sized c).sums_size-size.ensures, c.small_sums-sums.ensures, sums_mono (few c))
 
 slice-aggregate-strike-in : tie.Need-slice_bounds-strike_in-end
-slice-aggregate-strike-in c = (sized c.before).sums-size.ensures ∙ sym (small-room c.before)
+slice-aggregate-strike-in c = (sized c.before).sums_size-size.ensures ∙ sym (small-room c.before)
 
 array-borrow-prefix-rest : tie.Need-slice_bounds-rest-end
-array-borrow-prefix-rest c = omega (arith, (sized c.before).sums-size.ensures, c.small_sums-rest.ensures, sums_mono (few c.before))
+array-borrow-prefix-rest c = omega (arith, (sized c.before).sums_size-size.ensures, c.small_sums-rest.ensures, sums_mono (few c.before))
 
 slice-aggregate-strike-in-2 : tie.Need-slice_bounds-strike_in-end-then-m-le16
-slice-aggregate-strike-in-2 c = (sized c.before.before).sums-size.ensures ∙ sym (small-room2 c.before.before)
+slice-aggregate-strike-in-2 c = (sized c.before.before).sums_size-size.ensures ∙ sym (small-room2 c.before.before)
 
 slice-aggregate-strike-in-3 : tie.Need-slice_bounds-strike_in-end-then-m-le16-2
 slice-aggregate-strike-in-3 c = search rules
@@ -97,18 +97,18 @@ most-sums-requires-2 c κs = search rules
 array-borrow-prefix-sums-2 : tie.Need-slice_bounds-sums-end-2
 array-borrow-prefix-sums-2 c =
     let p = (start (sized' c)).requires in
-    omega (arith, (sized' c).sums-size.ensures, c.most_sums-sums.ensures, sums_mono p.0.good.most)
+    omega (arith, (sized' c).sums_size-size.ensures, c.most_sums-sums.ensures, sums_mono p.0.good.most)
 
 slice-aggregate-strike-in-6 : tie.Need-slice_bounds-strike_in-end-2
-slice-aggregate-strike-in-6 c = (sized' c.before).sums-size.ensures ∙ sym (most-room c.before)
+slice-aggregate-strike-in-6 c = (sized' c.before).sums_size-size.ensures ∙ sym (most-room c.before)
 
 array-borrow-prefix-rest-2 : tie.Need-slice_bounds-rest-end-2
 array-borrow-prefix-rest-2 c =
     let p = (start (sized' c.before)).requires in
-    omega (arith, (sized' c.before).sums-size.ensures, c.most_sums-rest.ensures, sums_mono p.0.good.most)
+    omega (arith, (sized' c.before).sums_size-size.ensures, c.most_sums-rest.ensures, sums_mono p.0.good.most)
 
 slice-aggregate-strike-in-7 : tie.Need-slice_bounds-strike_in-end-3
-slice-aggregate-strike-in-7 c = (sized' c.before.before).sums-size.ensures ∙ sym (most-room2 c.before.before)
+slice-aggregate-strike-in-7 c = (sized' c.before.before).sums_size-size.ensures ∙ sym (most-room2 c.before.before)
 
 slice-aggregate-strike-in-8 : tie.Need-slice_bounds-strike_in-end-4
 slice-aggregate-strike-in-8 c = search rules

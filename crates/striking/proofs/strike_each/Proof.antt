@@ -56,12 +56,12 @@ struck-set-requires : tie.Need-struck_set-kept-requires invariant-loop decreases
 struck-set-requires c κs =
     let b = looped c in
     let p = (start b.before).requires in
-    let v = b.before.loop-i.invariant in (
+    let v = b.loop-i.invariant in (
       p.0,
       p.1,
-      b.loop-i-test.taken,
+      b.loop-i-test.true,
       v.4,
-      omega (arith, b.loop-i-test.taken, v.3),
+      omega (arith, b.loop-i-test.true, v.3),
       p.2,
       p.3,
       v.1,

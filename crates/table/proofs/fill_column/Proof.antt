@@ -49,10 +49,10 @@ module _ (c : tie.In-loop-a invariant-loop decreases-loop) where
       cell_ready k s.args.b s.requires.1 allows-are a (omega arith) (rows lines k)
 
 best : (c : tie.After-cell-best invariant-loop decreases-loop)
-    → let t = c.before.before.before.before in
+    → let t = c.before.before.before in
     (lines : List ℕ) → RunSums (s t).args.m lines (s t).args.sums.now → c.cell-best.result ≡ C lines (a t) ((s t).args.b + 1 - a t)
 best c lines k =
-    let t = c.before.before.before.before in
+    let t = c.before.before.before in
     cell_right k (s t).args.b (s t).requires.1 (allows-are t) (a t) (omega arith) (rows t lines k) c.cell-best.ensures
 
 zeros-requires : tie.Need-zeros-allows-requires invariant-loop decreases-loop
@@ -91,21 +91,21 @@ slice-aggregate-cell-2 c =
 
 cell-requires : tie.Need-cell-best-requires invariant-loop decreases-loop
 cell-requires c κs =
-    let t = c.before.before.before in
+    let t = c.before.before in
     (ready t, (s t).requires.3)
 
 mul-table : tie.Need-overflow_mul-table invariant-loop decreases-loop
-mul-table c = record { fits = omega (arith, cell_in (ready c.before.before.before.before)) }
+mul-table c = record { fits = omega (arith, cell_in (ready c.before.before.before)) }
 
 add-table : tie.Need-overflow_add-table invariant-loop decreases-loop
-add-table c = record { fits = omega (arith, cell_in (ready c.before.before.before.before)) }
+add-table c = record { fits = omega (arith, cell_in (ready c.before.before.before)) }
 
 mul-table-2 : tie.Need-offset_bounds-table-a invariant-loop decreases-loop
-mul-table-2 c = record { fits = omega (arith, cell_in (ready c.before.before.before.before)) }
+mul-table-2 c = record { fits = omega (arith, cell_in (ready c.before.before.before)) }
 
 slice-write-table : tie.Need-bounds-table-a invariant-loop decreases-loop
 slice-write-table c =
-    let r = ready c.before.before.before.before in
+    let r = ready c.before.before.before in
     omega (arith, cell_in r, r.table_size)
 
 mul-column : tie.Need-offset_bounds-column-a invariant-loop decreases-loop
@@ -119,7 +119,7 @@ loop-less c = search rules
 
 loop-again : tie.Need-loop-a-preserved invariant-loop decreases-loop
 loop-again c =
-    let t = c.before.before.before.before in (
+    let t = c.before.before.before in (
       search rules,
       λ lines k. rows_more k (s t).args.b (s t).requires.1 (a t) c.cell-best.result (omega arith) (best c lines k) (rows t lines k),
     )

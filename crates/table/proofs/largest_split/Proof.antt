@@ -50,7 +50,7 @@ larger-requires-2 c κs =
     let t = c.before in
     ((looped t).loop-k.invariant.1, omega (arith, t.split_at-next.ensures.1, t.split_at-here.ensures.1, c.larger.ensures))
 
-add-k : tie.Need-overflow_add-k invariant-loop decreases-loop
+add-k : tie.Need-overflow_add-k-in-loop-k invariant-loop decreases-loop
 add-k c = search rules
 
 loop-less : tie.Need-loop-k-smaller invariant-loop decreases-loop

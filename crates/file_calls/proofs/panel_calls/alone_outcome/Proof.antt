@@ -55,7 +55,7 @@ both_read c = c.before.before.before.before.before
 
 -- either file read, the first one from the second one's arguments and from there
 abbrev read-second : tie.After-first_of → tie.After-read_lines-other
-read-second of = of.before.before.before
+read-second of = of.before.before.before.before.before
 
 abbrev read_first : tie.After-other_quantities-1 → tie.After-read_lines-read
 read_first c = c.before.before.before.before.before.before

@@ -20,7 +20,7 @@ abbrev asked : tie.Else-runs-ne0 → tie.After-run_refusal-runs
 asked e = e.before.before
 
 abbrev left : tie.After-run_refusal-runs → tie.Else-earlier-ne0
-left c = c.before.before
+left c = c.before
 
 returns : tie.Need-returns-then-earlier-ne0
 returns c = let n = c.if-earlier-ne0.true in goal-stopped _ _ _ _ _ _ (asked_earlier _ _ n) n
@@ -41,23 +41,23 @@ names-of-requires c κs = search rules
 
 slice-aggregate-strike : tie.Need-slice_bounds-strike-end
 slice-aggregate-strike c =
-    let d = left (asked c.before.before) in
+    let d = left (asked c.before) in
     sym (length-take-le _ _ ((begun d).requires.0.quantity-room d.if-earlier-ne0.left))
 
 slice-relend-prefix-strike : tie.Need-slice_bounds-strike-end-2
 slice-relend-prefix-strike c =
-    let d = left (asked c.before.before) in
+    let d = left (asked c.before) in
     omega (arith, (begun d).requires.0.room d.if-earlier-ne0.left, (begun d).requires.1)
 
 slice-aggregate-strike-2 : tie.Need-slice_bounds-strike-end-3
 slice-aggregate-strike-2 c =
-    let d = left (asked c.before.before.before) in
+    let d = left (asked c.before.before) in
     sym (length-take-le _ _ (omega (arith, (begun d).requires.0.room d.if-earlier-ne0.left, (begun d).requires.1)))
 
 strike-requires : tie.Need-strike-requires
 strike-requires c κs =
     let named = c.before.before in
-    let run = asked named.before in
+    let run = asked named in
     let d = left run in
     let s = begun d in
     let told = asked_runs s.args.earlier _ d.if-earlier-ne0.left run.run_refusal-runs.ensures in
@@ -72,11 +72,11 @@ same_length c = search rules
 returns-3 : tie.Need-returns
 returns-3 c =
     let struck = c.before.before in
-    let e = struck.before.before.before.before in
+    let e = struck.before.before.before in
     let run = asked e in
     let d = left run in
     let (answer, sets) = struck.strike.ensures in
-    goal-through _ _ _ _ _ _ (asked_runs _ _ d.if-earlier-ne0.left run.run_refusal-runs.ensures) c.if-runs-ne0.false (count d) answer sets
+    goal-through _ _ _ _ _ _ (asked_runs _ _ d.if-earlier-ne0.left run.run_refusal-runs.ensures) e.if-runs-ne0.false (count d) answer sets
 
 pub goal_spec : {M : Type 1} → statement M
 goal_spec =

@@ -49,7 +49,7 @@ slice-aggregate-plan-lines c = count c.before
 slice-aggregate-plan-lines-2 : tie.Need-slice_bounds-plan_lines-end-2
 slice-aggregate-plan-lines-2 c =
     let d = c.before.before in
-    sym (length-take-le _ _ ((begun d.before.before).requires.quantity-room (free d).0))
+    sym (length-take-le _ _ ((begun d).requires.quantity-room (free d).0))
 
 slice-relend-prefix-plan-lines : tie.Need-slice_bounds-plan_lines-end-3
 slice-relend-prefix-plan-lines c = (free c.before.before).1
@@ -73,7 +73,7 @@ unfolding found_of
 returns-2 c =
     let f = c.before.before.before.before in
     let d = f.before.before.before.before in
-    let q = d.before.before in
+    let q = d in
     let (is, plan) = f.plan_lines-found.ensures in
     let told = c.refuse_when.ensures ∙ ap (λ x. when (not x.served) 31) is in
     junior_found _ _ _ _ _ (number_of (by_count q) c.if-asked-ne0.false) (good d) (count d) told is plan

@@ -15,20 +15,20 @@ abbrev begun : tie.After-shared_slice_known-2-1 → tie.Start
 begun c = c.before.before.before.before
 
 merge-refusal-requires : tie.Need-merge_refusal-refusal-requires
-merge-refusal-requires c κs = let (g, (h, _)) = (begun c.before).requires in (given_counted g, given_counted h)
+merge-refusal-requires c κs = let (g, (h, _)) = (begun c).requires in (given_counted g, given_counted h)
 
 same_length : tie.Need-shape_of-quantities-then-refusal-ne0
 same_length c = search rules
 
 returns : tie.Need-returns-then-refusal-ne0
 returns c =
-    let asked = c.before.before in
-    let s = begun asked.before.before in
+    let asked = c.before.before.before in
+    let s = begun asked in
     let (g, (h, _)) = s.requires in
     let a = s.args in
-    let r = asked.merge_refusal-refusal.result in
+    let r = c.merge_refusal-refusal.result in
     let f = c.if-refusal-ne0.true in (
-      merge_counts _ g h asked.merge_refusal-refusal.ensures,
+      merge_counts _ g h c.merge_refusal-refusal.ensures,
       (
         merge_stays r f (take a.count a.sets.now) (take a.other_count a.other-sets.now) a.sets.now,
         merge_stays r f (take a.count a.quantities.now) (take a.other_count a.other_quantities.now) a.quantities.now,
@@ -70,12 +70,12 @@ sub-put-sets c = let k = known c.before in omega (arith, k.few, k.sets-full)
 part-put-sets-start : tie.Need-slice_bounds-put_sets-start
 part-put-sets-start c = let k = known c.before in omega (arith, k.few, k.sets-full)
 
-part-put-sets-end : tie.Need-slice_bounds-put_sets-end
+part-put-sets-end : tie.Need-slice_bounds-put_sets-end-2
 part-put-sets-end c = search rules
 
 put-sets-requires : tie.Need-put_sets-requires
 put-sets-requires c κs =
-    let d = c.before.before in
+    let d = c.before in
     let k = known d in
     let a = (start d).args in
     omega (
@@ -88,23 +88,23 @@ put-sets-requires c κs =
 
 -- the sets are put
 abbrev behind : tie.After-slice_known-3-1 → tie.Else-refusal-ne0
-behind c = c.before.before.before.before.before
+behind c = c.before.before.before.before
 
 slice-aggregate-put-quantities : tie.Need-slice_bounds-put_quantities-end
-slice-aggregate-put-quantities c = sym (length-take-le _ _ (known (behind c.before)).quantity-room)
+slice-aggregate-put-quantities c = sym (length-take-le _ _ (known (behind c)).quantity-room)
 
 sub-put-quantities : tie.Need-slice_bounds-put_quantities-count
-sub-put-quantities c = let k = known (behind c.before) in omega (arith, k.few, k.quantities-full)
+sub-put-quantities c = let k = known (behind c) in omega (arith, k.few, k.quantities-full)
 
 part-put-quantities-start : tie.Need-slice_bounds-put_quantities-start
-part-put-quantities-start c = let k = known (behind c.before) in omega (arith, k.few, k.quantities-full)
+part-put-quantities-start c = let k = known (behind c) in omega (arith, k.few, k.quantities-full)
 
-part-put-quantities-end : tie.Need-slice_bounds-put_quantities-end
+part-put-quantities-end : tie.Need-slice_bounds-put_quantities-end-2
 part-put-quantities-end c = search rules
 
 put-quantities-requires : tie.Need-put_quantities-requires
 put-quantities-requires c κs =
-    let d = behind c.before.before in
+    let d = behind c.before in
     let k = known d in
     let a = (start d).args in
     omega (
@@ -125,14 +125,14 @@ returns-2 : tie.Need-returns
 returns-2 c =
     let put = c.before.before in
     let put-sets = put.before.before.before.before.before in
-    let d = put-sets.before.before.before in
+    let d = put-sets.before in
     let k = known d in
     let a = (start d).args in
     let (g, (h, _)) = (start d).requires in
     let asked = d.before.before in
-    let r = c.merge_refusal-refusal.result in
-    let z = c.if-refusal-ne0.false in (
-      merge_counts _ g h c.merge_refusal-refusal.ensures,
+    let r = asked.merge_refusal-refusal.result in
+    let z = d.if-refusal-ne0.false in (
+      merge_counts _ g h asked.merge_refusal-refusal.ensures,
       (
         put-behind a.count _ a.sets.now (omega (arith, k.few, k.sets-full)) r z c.put_sets.ensures,
         put-behind a.count _ a.quantities.now (omega (arith, k.few, k.quantities-full)) r z put.put_quantities.ensures,

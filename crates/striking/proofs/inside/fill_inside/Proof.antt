@@ -57,7 +57,7 @@ module _ (c : tie.In-loop-a invariant-loop2 decreases-loop2 invariant-loop decre
 -- the value is few
 few : (c : tie.After-best_split-best invariant-loop2 decreases-loop2 invariant-loop decreases-loop) → c.best_split-best.result ≤ most_tips * most_pairs
 few c =
-    let b = c.before.before in
+    let b = c.before in
     let (lines, k) = (s b).requires.0 in
     omega (arith, c.best_split-best.ensures, most_few k (b.loop-a.invariant.2 lines k) (omega arith) (omega arith))
 
@@ -74,14 +74,14 @@ add-loop2 c = search rules
 
 best-split-requires : tie.Need-best_split-best-requires invariant-loop2 decreases-loop2 invariant-loop decreases-loop
 best-split-requires c κs =
-    let b = c.before in
+    let b = c in
     (ready (s b).requires.0.1, rack b, omega (arith, room b), omega arith, (s b).requires.2)
 
 cast-inner : tie.Need-overflow_cast-inner invariant-loop2 decreases-loop2 invariant-loop decreases-loop
 cast-inner c = record { fits = omega (arith, few c) }
 
 mul-inner : tie.Need-overflow_mul-inner invariant-loop2 decreases-loop2 invariant-loop decreases-loop
-mul-inner c = record { fits = omega (arith, place c.before.before, rack c.before.before, square c.before.before) }
+mul-inner c = record { fits = omega (arith, place c.before, rack c.before, square c.before) }
 
 sub-inner : tie.Need-overflow_sub-inner invariant-loop2 decreases-loop2 invariant-loop decreases-loop
 sub-inner c = search rules
@@ -90,15 +90,15 @@ add-inner : tie.Need-overflow_add-inner invariant-loop2 decreases-loop2 invarian
 add-inner c = search rules
 
 add-inner-2 : tie.Need-overflow_add-inner-in-loop-a invariant-loop2 decreases-loop2 invariant-loop decreases-loop
-add-inner-2 c = record { fits = omega (arith, place c.before.before, square c.before.before) }
+add-inner-2 c = record { fits = omega (arith, place c.before, square c.before) }
 
 mul-inner-2 : tie.Need-offset_bounds-inner-a invariant-loop2 decreases-loop2 invariant-loop decreases-loop
-mul-inner-2 c = record { fits = omega (arith, place c.before.before, square c.before.before) }
+mul-inner-2 c = record { fits = omega (arith, place c.before, square c.before) }
 
 slice-write-inner : tie.Need-bounds-inner-a invariant-loop2 decreases-loop2 invariant-loop decreases-loop
-slice-write-inner c = omega (arith, place c.before.before, room c.before.before)
+slice-write-inner c = omega (arith, place c.before, room c.before)
 
-add_a : tie.Need-overflow_add-a invariant-loop2 decreases-loop2 invariant-loop decreases-loop
+add_a : tie.Need-overflow_add-a-in-loop-a invariant-loop2 decreases-loop2 invariant-loop decreases-loop
 add_a c = search rules
 
 loop2-less : tie.Need-loop-a-smaller invariant-loop2 decreases-loop2 invariant-loop decreases-loop

@@ -61,7 +61,7 @@ module _ (c : tie.In-loop-a invariant-loop2 decreases-loop2 invariant-loop decre
 -- the value is few
 few : (c : tie.After-best_outside-best invariant-loop2 decreases-loop2 invariant-loop decreases-loop) → c.best_outside-best.result ≤ most_tips * most_pairs
 few c =
-    let b = c.before.before in
+    let b = c.before in
     let (lines, k, i) = (s b).requires.0 in
     omega (arith, c.best_outside-best.ensures, out_few k i (b.loop-a.invariant.2 lines k i) (omega arith) (omega arith))
 
@@ -78,7 +78,7 @@ add-loop2 c = search rules
 
 best-outside-requires : tie.Need-best_outside-best-requires invariant-loop2 decreases-loop2 invariant-loop decreases-loop
 best-outside-requires c κs =
-    let b = c.before in
+    let b = c in
     let (lines, k, i) = (s b).requires.0 in
     (ready k, rack b, i.room, room b, omega arith, (s b).requires.2)
 
@@ -86,7 +86,7 @@ cast-outer : tie.Need-overflow_cast-outer invariant-loop2 decreases-loop2 invari
 cast-outer c = record { fits = omega (arith, few c) }
 
 mul-outer : tie.Need-overflow_mul-outer invariant-loop2 decreases-loop2 invariant-loop decreases-loop
-mul-outer c = record { fits = omega (arith, place c.before.before, rack c.before.before, square c.before.before) }
+mul-outer c = record { fits = omega (arith, place c.before, rack c.before, square c.before) }
 
 sub-outer : tie.Need-overflow_sub-outer invariant-loop2 decreases-loop2 invariant-loop decreases-loop
 sub-outer c = search rules
@@ -95,15 +95,15 @@ add-outer : tie.Need-overflow_add-outer invariant-loop2 decreases-loop2 invarian
 add-outer c = search rules
 
 add-outer-2 : tie.Need-overflow_add-outer-in-loop-a invariant-loop2 decreases-loop2 invariant-loop decreases-loop
-add-outer-2 c = record { fits = omega (arith, place c.before.before, square c.before.before) }
+add-outer-2 c = record { fits = omega (arith, place c.before, square c.before) }
 
 mul-outer-2 : tie.Need-offset_bounds-outer-a invariant-loop2 decreases-loop2 invariant-loop decreases-loop
-mul-outer-2 c = record { fits = omega (arith, place c.before.before, square c.before.before) }
+mul-outer-2 c = record { fits = omega (arith, place c.before, square c.before) }
 
 slice-write-outer : tie.Need-bounds-outer-a invariant-loop2 decreases-loop2 invariant-loop decreases-loop
-slice-write-outer c = omega (arith, place c.before.before, room c.before.before)
+slice-write-outer c = omega (arith, place c.before, room c.before)
 
-add_a : tie.Need-overflow_add-a invariant-loop2 decreases-loop2 invariant-loop decreases-loop
+add_a : tie.Need-overflow_add-a-in-loop-a invariant-loop2 decreases-loop2 invariant-loop decreases-loop
 add_a c = search rules
 
 loop2-less : tie.Need-loop-a-smaller invariant-loop2 decreases-loop2 invariant-loop decreases-loop

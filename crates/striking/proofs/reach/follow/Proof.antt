@@ -13,7 +13,7 @@ use Rattle.striking.proofs.reach.follow.Tie as tie
 
 -- the call's start
 abbrev start : tie.After-best_outside-outside → tie.Start
-start c = c.before.before.before.before.before.before
+start c = c.before.before.before.before.before
 
 -- the place of the interval
 module _ (c : tie.Start) where

@@ -76,7 +76,7 @@ mul-outer-2 c = record { fits = omega (arith, within c.before.before, square c.b
 slice-write-outer : tie.Need-bounds-outer-a invariant-loop decreases-loop
 slice-write-outer c = omega (arith, within c.before.before, c.loop-a.invariant.2, (s c.before.before).requires.4)
 
-add_a : tie.Need-overflow_add-a invariant-loop decreases-loop
+add_a : tie.Need-overflow_add-a-in-loop-a invariant-loop decreases-loop
 add_a c = search rules
 
 loop-less : tie.Need-loop-a-smaller invariant-loop decreases-loop
