@@ -20,8 +20,8 @@ abbrev start : tie.After-sum_spans → tie.Start
 start c = begun c.before.before.before
 
 -- the sums taken, from the table's arguments and from the table
-abbrev summed : tie.After-fill-table-arg2 → tie.After-sum_spans
-summed c = c.before.before.before.before.before
+abbrev summed : tie.After-fill_table-arg-1 → tie.After-sum_spans
+summed c = c.before.before.before.before
 
 abbrev summed-2 : tie.After-fill_table → tie.After-sum_spans
 summed-2 c = summed c.before
@@ -30,8 +30,8 @@ summed-2 c = summed c.before
 abbrev filled : tie.After-pairs-2-1 → tie.After-fill_table
 filled c = c.before.before.before
 
-abbrev filled-2 : tie.After-plan-lines-arg4 → tie.After-fill_table
-filled-2 c = filled c.before.before.before.before
+abbrev filled-2 : tie.After-plan_lines-arg-2-1 → tie.After-fill_table
+filled-2 c = filled c.before.before
 
 -- the placements of the lines
 abbrev placed : tie.Start → List ℕ

@@ -17,8 +17,8 @@ abbrev begun : tie.After-names_of-names → tie.Start
 begun c = c.before.before.before.before.before
 
 -- those tips, from the arguments of either plan
-abbrev united : tie.After-plan-runs-arg3 → tie.After-names_of-names
-united c = c.before.before.before.before.before
+abbrev united : tie.After-plan_runs-arg-then-names-between-1 → tie.After-names_of-names
+united c = c.before.before.before.before
 
 abbrev united-2 : tie.After-plan_named-arg-3-1 → tie.After-names_of-names
 united-2 c = c.before.before.before.before.before

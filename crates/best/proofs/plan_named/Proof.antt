@@ -20,8 +20,8 @@ listed c = c.before.before.before.before
 abbrev renumbered : tie.After-rank_list-4-1 → tie.After-renumber_lines
 renumbered c = c.before.before.before
 
-abbrev mounted : tie.After-plan-ranks-arg3 → tie.After-renumber_mounted-on
-mounted c = c.before.before.before
+abbrev mounted : tie.After-plan_ranks-arg-2-1 → tie.After-renumber_mounted-on
+mounted c = c.before.before
 
 abbrev laid : tie.After-name_tips-arg-1 → tie.After-plan_ranks
 laid c = c.before.before.before.before.before.before
@@ -33,10 +33,10 @@ named c = c.before.before.before
 abbrev listed-2 : tie.After-rank_list-4-1 → tie.After-list_tips-r
 listed-2 c = listed (renumbered c).before
 
-abbrev renumbered-2 : tie.After-plan-ranks-arg3 → tie.After-renumber_lines
+abbrev renumbered-2 : tie.After-plan_ranks-arg-2-1 → tie.After-renumber_lines
 renumbered-2 c = renumbered (mounted c).before
 
-abbrev listed-3 : tie.After-plan-ranks-arg3 → tie.After-list_tips-r
+abbrev listed-3 : tie.After-plan_ranks-arg-2-1 → tie.After-list_tips-r
 listed-3 c = listed-2 (mounted c).before
 
 slice-aggregate-list-tips : tie.Need-slice_bounds-list_tips-end
@@ -105,8 +105,8 @@ same-length-3 c = search rules
 
 returns : tie.Need-returns
 returns c =
-    let spread = c.before.before.before in
-    let tips = named spread in
+    let spread = c.before.before in
+    let tips = named spread.before in
     let planned = laid tips.before in
     let asked = planned.before in
     let l = listed-3 asked in
@@ -116,7 +116,7 @@ returns c =
     let done = planned.plan_ranks.ensures in
     steps p.0 p.1 e.0 e.1.0 e.1.1 (on_head s.args.mounted) planned.plan_ranks.new.table
     (renumbered-2 asked).renumber_lines.ensures (mounted asked).renumber_mounted-on.ensures done.0 done.1 tips.name_tips.ensures
-    c.spread_table.ensures
+    spread.spread_table.ensures
 
 pub plan_named_spec : {M : Type 1} → statement M
 plan_named_spec =

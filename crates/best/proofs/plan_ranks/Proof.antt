@@ -44,9 +44,9 @@ same-length-2 c = search rules
 
 returns-2 : tie.Need-returns
 returns-2 c =
-    let laid = c.before.before.before.before.before in
+    let laid = c.before.before.before.before in
     let a = (begun-2 laid.before).args in
-    let e = c.plan_runs.ensures in
+    let e = laid.plan_runs.ensures in
     (e.0, rw e.1 (table-front a.r (repeated a.quantities.now a.sets.now) _))
 
 pub plan_ranks_spec : {M : Type 1} → statement M

@@ -5,8 +5,8 @@ use Rattle.checking.proofs.sums_fit.Statement.{statement}
 use Rattle.checking.proofs.sums_fit.Tie as tie
 
 -- the sums made, from the table's test; and the call's start from there
-abbrev summed : tie.After-table-fits-arg → tie.After-sum_spans
-summed c = c.before.before.before
+abbrev summed : tie.After-slice_known-2-1 → tie.After-sum_spans
+summed c = c.before.before
 
 abbrev start : tie.After-sum_spans → tie.Start
 start c = c.before.before.before.before.before.before.before

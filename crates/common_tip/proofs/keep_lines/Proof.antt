@@ -23,7 +23,7 @@ margin-is : (c : tie.After-within-bound)
 margin-is c =
     let s = start c in
     let e = c.within-bound.ensures.0 in
-    to_z-of_z w32 c.within-bound.result.margin (rw e (margin_small s.args.rack s.args.k s.requires.1 s.fits.k.fits)) ∙ e
+    to_z-of_z w32 c.within-bound.result.margin (rw e (margin_small s.args.rack s.args.k s.requires.1 s.ranges.k.fits)) ∙ e
 
 within-requires : tie.Need-within-bound-requires
 within-requires c κs = search rules

@@ -71,7 +71,7 @@ returns c =
     let counted = b.count_tips.ensures in
     let all = m.total-n.ensures ∙ sym (length-repeated qs lines s.requires.1.same) in
     let e = m.margin.ensures ∙ ap₂ (λ t x. margin_by t x k) (top-is b) all ∙ margin-by s.args.rack (repeated qs lines) k in (
-      to_z-of_z w32 m.margin.result (rw e (margin_small s.args.rack k s.requires.1 s.fits.k.fits)) ∙ e,
+      to_z-of_z w32 m.margin.result (rw e (margin_small s.args.rack k s.requires.1 s.ranges.k.fits)) ∙ e,
       (
         m.total-n.ensures,
         c.tips_with.ensures ∙ least_common s.args.rack k counted (c.least_count.ensures ∙ ap (λ x. least_count x k) all),

@@ -57,13 +57,13 @@ returns : tie.Need-returns
 returns c =
     let wrote = c.before.before.before in
     let kept = wrote.before.before.before.before.before in
-    let read = kept.before.before.before.before.before.before.before.before.before.before.before.before.before in
-    let (e, (lines, (_, given))) = c.read_lines-read.ensures in
+    let read = kept.before.before.before.before.before in
+    let (e, (lines, (_, given))) = read.read_lines-read.ensures in
     let (answer, sets) = kept.keep-kept.ensures in
     let (written, buffer) = wrote.write-written.ensures in
     let (outcome, out) = keep-in _ e given (λ z. same_lines (lines z)) _ answer sets _ written buffer in
     let o = c.keep_outcome_of.ensures ∙ outcome in
-    (o, (out, rw (o, out) (keep-rule _ _ _ (bytes read))))
+    (o, (out, rw (o, out) (keep-rule _ _ _ (bytes read.before.before.before.before.before.before.before.before))))
 
 pub keep_outcome_spec : {M : Type 1} → statement M
 keep_outcome_spec =

@@ -76,8 +76,8 @@ same_length c = search rules
 returns : tie.Need-returns-then-refusal-ne0
 returns c =
     let written = c.before.before in
-    let refused = written.before.before.before in
-    rw (text_refused _ (told refused).read_lines-read.ensures.0 c.if-refusal-ne0.true) written.write_refused.ensures
+    let refused = written.before.before in
+    rw (text_refused _ (told refused.before).read_lines-read.ensures.0 refused.if-refusal-ne0.true) written.write_refused.ensures
 
 plan-buffer-requires-2 : tie.Need-plan_buffer-quick-requires
 plan-buffer-requires-2 c κs = search rules
@@ -102,7 +102,7 @@ few d = omega (arith, size d, (good d).few-lines)
 quick-bytes : (c : tie.After-plan_buffer-quick) → (read c.before).read_lines-read.result.count ≤ length c.plan_buffer-quick.result
 quick-bytes c = omega (arith, few c.before, c.plan_buffer-quick.ensures)
 
-best-bytes : (d : tie.Else-refusal-ne0) → (read d).read_lines-read.result.count ≤ length (shared (read d)).best-of-file.new.1.1.1.0
+best-bytes : (d : tie.Else-refusal-ne0) → (read d).read_lines-read.result.count ≤ length (shared (read d)).best_of_file-shared.new.plan
 best-bytes d =
     let laid = shared (read d) in
     omega (arith, few d, laid.best_of_file-shared.kept.1.1.1.0, (best-buffer laid).plan_buffer-best.ensures)
@@ -150,10 +150,10 @@ same-length-2 c = search rules
 
 returns-2 : tie.Need-returns
 returns-2 c =
-    let written = c.before.before.before.before.before in
+    let written = c.before.before.before.before in
     let d = (quick-buffer-2 written.before).before in
     let (e, (lines, _)) = (read d).read_lines-read.ensures in
-    rw (text_accepted _ e d.if-refusal-ne0.left (lines d.if-refusal-ne0.left)) c.write_lines.ensures
+    rw (text_accepted _ e d.if-refusal-ne0.left (lines d.if-refusal-ne0.left)) written.write_lines.ensures
 
 pub write_file_spec : {M : Type 1} → statement M
 write_file_spec =

@@ -12,8 +12,8 @@ begun c = c.before.before.before.before.before.before
 abbrev common : tie.After-refuse-2 → tie.After-common-common
 common c = c.before
 
-abbrev quick : tie.After-write-report-arg2 → tie.After-quick-laid
-quick c = c.before.before.before.before.before.before
+abbrev quick : tie.After-write_report-arg-1 → tie.After-quick-laid
+quick c = c.before.before.before.before.before
 
 refuse-requires : tie.Need-refuse-requires
 refuse-requires c κs = search rules

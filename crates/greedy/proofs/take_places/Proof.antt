@@ -43,7 +43,7 @@ line-is : (c : tie.After-wide-line invariant-loop decreases-loop)
     c.wide-line.result ≡ line_at (called l).args.list.now (called l).args.places.now l.loop-k.k
 line-is c = c.wide-line.ensures ∙ ap (λ p. get_or (called (looped (placed c))).args.list.now p 0) (placed c).wide.ensures
 
-in_left : (c : tie.After-wide-line invariant-loop decreases-loop) → c.wide-line.result < length (looped (placed c)).loop.left
+in_left : (c : tie.After-wide-line invariant-loop decreases-loop) → c.wide-line.result < length (looped (placed c)).loop-k.left
 in_left c =
     let l = looped (placed c) in
     omega (arith, line-is c, (called l).requires.inside l.loop-k.k (omega arith), l.loop-k.invariant.3.left_size)
@@ -80,12 +80,12 @@ slice-read-sets c = in_left c.before
 mul-sets-2 : tie.Need-offset_bounds-sets-k invariant-loop decreases-loop
 mul-sets-2 c = search rules
 
-in-sets : (c : tie.After-wide-line invariant-loop decreases-loop) → (looped (placed c)).loop.k < length (looped (placed c)).loop.sets
+in-sets : (c : tie.After-wide-line invariant-loop decreases-loop) → (looped (placed c)).loop-k.k < length (looped (placed c)).loop-k.sets
 in-sets c =
     let l = looped (placed c) in
     omega (arith, (called l).requires.fit.for_sets, l.loop-k.invariant.1)
 
-paired : (c : tie.After-wide-line invariant-loop decreases-loop) → length (looped (placed c)).loop.taken ≡ length (looped (placed c)).loop.sets
+paired : (c : tie.After-wide-line invariant-loop decreases-loop) → length (looped (placed c)).loop-k.taken ≡ length (looped (placed c)).loop-k.sets
 paired c =
     let l = looped (placed c) in
     l.loop-k.invariant.2 ∙ (called l).requires.fit.paired ∙ sym l.loop-k.invariant.1

@@ -57,7 +57,7 @@ begun : (c : tie.After-busiest_tips-busiest invariant-loop decreases-loop)
     → let s = (called (looped c)).args in
     let l = (looped c).loop-mounted in
     let top = c.busiest_tips-busiest.result.top in
-    Begun (on_head s.mounted) s.rack s.quantities.now s.left-1.now l.left l.plan l.counts l.shared top
+    Begun (on_head s.mounted) s.rack s.quantities.now s.left.now l.left l.plan l.counts l.shared top
 begun c =
     let l = looped c in
     let now = l.loop-mounted.invariant.0 in
@@ -68,7 +68,7 @@ chosen : (c : tie.After-choose-tip invariant-loop decreases-loop)
     let s = (called (looped b)).args in
     let l = (looped b).loop-mounted in
     let top = b.busiest_tips-busiest.result.top in
-    Chosen (on_head s.mounted) s.rack s.quantities.now s.left-1.now l.left l.plan l.counts l.shared top c.choose-tip.result
+    Chosen (on_head s.mounted) s.rack s.quantities.now s.left.now l.left l.plan l.counts l.shared top c.choose-tip.result
 chosen c =
     let b = counted c in
     let mounted = on_head (called (looped b)).args.mounted in

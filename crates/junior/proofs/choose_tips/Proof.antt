@@ -7,7 +7,6 @@ use Rattle.placements.specs.Good.{GoodLines}
 use Rattle.junior.proofs.Passed.{served-more, given_up, counted-more, passed_score, passed_side}
 use native.Mathlib.Omega.{arith}
 use mathlib.Core.Path.{◌≡◌, refl, sym, ap, subst, ◌∙◌}
-use mathlib.Core.Logic.{⊎_elim}
 use lib.ListN.{length, take, drop}
 use borrow.Author.Rules.{rules}
 use Rattle.model.specs.Plan.{has}
@@ -15,6 +14,7 @@ use Rattle.placements.specs.Repeated.{weighted}
 use Rattle.holders.specs.Holders.{serves}
 use Rattle.junior.proofs.Search.{part_le, Sought, sought_none, sought_stays, sought_moves, sought_skip, sought_all}
 use Rattle.junior.proofs.choose_tips.Statement.{statement}
+use Rattle.junior.proofs.choose_tips.Lts.{then-best-score, else-best-score}
 use Rattle.junior.proofs.choose_tips.Tie as tie
 
 abbrev invariant-loop2 : tie.invariant-loop-i
@@ -68,7 +68,7 @@ module _ (l : tie.At-loop-i invariant-loop2 decreases-loop2 invariant-tips decre
   qs = s.args.quantities.now
 
   abbrev u : ℕ
-  u = (lower (higher l)).loop.u
+  u = (lower (higher l)).loop-u.u
 
   abbrev v : ℕ
   v = l.loop-i.v
@@ -188,11 +188,11 @@ loop2-again c =
 
 side-pairs-requires :
     tie.Need-side_pairs-to_u-requires invariant-loop2 decreases-loop2 invariant-tips decreases-tips invariant-loop decreases-loop
-side-pairs-requires c κs = ((s c.before.before.before.before.before.before.before.before).requires.2, (counts c.before.before.before.before.before.before.before.before).0, (counts c.before.before.before.before.before.before.before.before).2)
+side-pairs-requires c κs = ((s c.before).requires.2, (counts c.before).0, (counts c.before).2)
 
 side-pairs-requires-2 :
     tie.Need-side_pairs-to_v-requires invariant-loop2 decreases-loop2 invariant-tips decreases-tips invariant-loop decreases-loop
-side-pairs-requires-2 c κs = let l = c.before.before.before.before.before.before.before.before in ((s l).requires.2, (counts l).1, (counts l).2)
+side-pairs-requires-2 c κs = let l = c.before.before in ((s l).requires.2, (counts l).1, (counts l).2)
 
 score-of-requires : tie.Need-score_of-score-requires invariant-loop2 decreases-loop2 invariant-tips decreases-tips invariant-loop decreases-loop
 score-of-requires c κs =
@@ -219,11 +219,11 @@ tips-again-2 c =
     let side = passed_side (good l) (u l) (v l) (i l) last all inv.2 inv.3 inv.4 in (
       omega (arith, ordered l),
       omega (arith, inside l),
-      rw (sym (next l)) (⊎_elim
-          (λ w. rw w.1 (sought_moves (u l) (v l) (sought l) (inside l) scored w.0.taken
-          (rw (p.side_pairs-to_u.ensures, p.side_pairs-to_v.ensures) side)))
-          (λ w. rw w.1 (sought_stays (sought l) (omega (arith, scored, w.0.left))))
-          c.if-best-score.branch),
+      rw (sym (next l)) (elim c.if-best-score.branch [
+        then-best-score w ↦ rw w.best-is (sought_moves (u l) (v l) (sought l) (inside l) scored w.if-best-score.true
+        (rw (p.side_pairs-to_u.ensures, p.side_pairs-to_v.ensures) side))
+        | else-best-score w ↦ rw w.best-is (sought_stays (sought l) (omega (arith, scored, w.if-best-score.false)))
+      ]),
     )
 
 add-u : tie.Need-overflow_step-u invariant-loop2 decreases-loop2 invariant-tips decreases-tips invariant-loop decreases-loop

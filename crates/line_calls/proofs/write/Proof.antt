@@ -60,7 +60,7 @@ asked d = d.before.before
 room_for : (d : tie.Else-refusal-ne0) →
     let w = asked d in
     let a = (begun (started w)).args in
-    file_length (found w).version_for-version.result a.count ≤ length a.out-1.now
+    file_length (found w).version_for-version.result a.count ≤ length a.out.now
 room_for d = (write_none _ _ _ _ (number_of (asked d).write_refusal-refusal.ensures d.if-refusal-ne0.false)).1
 
 file-length-requires : tie.Need-file_length-bytes-requires

@@ -30,8 +30,8 @@ abbrev start : tie.At-loop-i invariant-loop decreases-loop → tie.Start invaria
 start c = begun c.before
 
 -- the loop, before the line's set is sought
-abbrev looped : tie.After-struck-set-arg3 invariant-loop decreases-loop → tie.In-loop-i invariant-loop decreases-loop
-looped c = c.before.before.before
+abbrev looped : tie.After-struck_set-arg-in-loop-i-1 invariant-loop decreases-loop → tie.In-loop-i invariant-loop decreases-loop
+looped c = c.before.before
 
 -- the set found, once it is to be stored; and the loop from there
 abbrev found : tie.After-slice_known-in-loop-i-2-1 invariant-loop decreases-loop → tie.After-struck_set-kept invariant-loop decreases-loop

@@ -29,32 +29,32 @@ abbrev start : tie.After-sum_spans → tie.Start
 start c = begun-2 (tabled c).before
 
 -- the sums taken, before the inside table and after it
-abbrev summed : tie.After-fill-inside-arg2 → tie.After-sum_spans
-summed c = c.before.before.before.before.before
+abbrev summed : tie.After-fill_inside-arg-1 → tie.After-sum_spans
+summed c = c.before.before.before.before
 
 abbrev summed-2 : tie.After-fill_inside → tie.After-sum_spans
 summed-2 c = summed c.before
 
 -- the inside table, before the most pairs are read and after it
-abbrev inside : tie.After-entry-at-arg → tie.After-fill_inside
-inside c = c.before.before.before
+abbrev inside : tie.After-slice_known-8-1 → tie.After-fill_inside
+inside c = c.before.before
 
 abbrev inside-2 : tie.After-entry_at → tie.After-fill_inside
 inside-2 c = inside c.before
 
 -- the goal within reach, before the outside table; and the inside table from there
-abbrev reached : tie.After-fill-outside-arg3 → tie.Else-entry_at-goal
-reached c = c.before.before.before.before
+abbrev reached : tie.After-fill_outside-arg-1 → tie.Else-entry_at-goal
+reached c = c.before.before
 
-abbrev inside-3 : tie.After-fill-outside-arg3 → tie.After-fill_inside
+abbrev inside-3 : tie.After-fill_outside-arg-1 → tie.After-fill_inside
 inside-3 c = inside-2 (reached c).before
 
 -- the outside table, once it is known; and before the lines are struck
 abbrev outside : tie.After-pairs-3-1 → tie.After-fill_outside
 outside c = c.before.before.before
 
-abbrev outside-2 : tie.After-strike-each-arg6 → tie.After-fill_outside
-outside-2 c = outside c.before.before.before.before.before.before
+abbrev outside-2 : tie.After-strike_each-arg-3-1 → tie.After-fill_outside
+outside-2 c = outside c.before.before.before
 
 -- the lines struck
 abbrev struck : tie.After-slice_known-12-1 → tie.After-strike_each
@@ -127,7 +127,7 @@ returns : tie.Need-returns-then-entry_at-goal
 returns c =
     let e = c.before.before in
     let args = (start (summed-2 (inside-2 e))).args in
-    let missed = goal_missed args.m args.quantities.now args.lines.now args.goal args.struck-1.now in
+    let missed = goal_missed args.m args.quantities.now args.lines.now args.goal args.struck.now in
     let by = missed (omega (arith, most e, c.if-entry_at-goal.true)) in
     (c.refuse.ensures ∙ by.0, by.1)
 
@@ -191,7 +191,7 @@ returns-2 c =
     let left = reached (outside-2 each.before).before in
     let e = left.before in
     let args = (start (summed-2 (inside-2 e))).args in
-    let met = goal-met args.m args.quantities.now args.lines.now args.goal args.struck-1.now in
+    let met = goal-met args.m args.quantities.now args.lines.now args.goal args.struck.now in
     let by = met (omega (arith, most e, left.if-entry_at-goal.left)) in
     (c.refuse-2.ensures ∙ by.0, each.strike_each.ensures ∙ by.1)
 

@@ -39,8 +39,8 @@ begun c = counted c.before.before
 abbrev summed : tie.After-slice_known-3-1 → tie.After-sums_without
 summed c = c.before.before
 
-abbrev summed-2 : tie.After-kept-tips-arg2 → tie.After-sums_without
-summed-2 c = summed c.before.before
+abbrev summed-2 : tie.After-kept_tips-arg-1 → tie.After-sums_without
+summed-2 c = summed c.before
 
 -- the quantity of the line, and the placements of all lines and of the others
 module _ (c : tie.Start) where

@@ -135,14 +135,14 @@ part-largest-split-end-4 c = search rules
 
 largest-split-requires : tie.Need-largest_split-requires
 largest-split-requires c κs =
-    let f = c.before.before.before.before.before in
+    let f = c.before.before.before.before in
     let given = (start f.before).requires in
-    (c.split_of-first.ensures.1, split_lists given.0, given.1)
+    (f.split_of-first.ensures.1, split_lists given.0, given.1)
 
 returns : tie.Need-returns
 returns c =
-    let f = c.before.before.before.before.before.before in
-    by_parts (start f).requires.0 c.split_of-first.ensures.0 c.largest_split.ensures
+    let f = c.before.before.before.before.before in
+    by_parts (start f.before).requires.0 f.split_of-first.ensures.0 c.largest_split.ensures
 
 pub cell_spec : {M : Type 1} → statement M
 cell_spec =

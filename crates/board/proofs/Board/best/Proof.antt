@@ -46,9 +46,9 @@ returns : tie.Need-returns
 returns c =
     let laid = c.before.before.before.before.before in
     let mounted = laid.before.before.before.before.before in
-    let state = mounted.before.before in
+    let state = mounted.before in
     let a = (begun state.before).args in
-    let e = c.state_refusal-state.ensures in
+    let e = state.state_refusal-state.ensures in
     let (answer, (buffer, (cells, rule))) = laid.best-laid.ensures in
     let (same_answer, (same-plan, same_table)) =
     best-answer _ _ e mounted.mounted_refusal-refusal.ensures a.plan.now a.table.now answer buffer cells in

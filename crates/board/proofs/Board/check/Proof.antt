@@ -26,10 +26,10 @@ check-requires c κs = given Closed (begun c.before).args.self (full c.before) c
 
 returns : tie.Need-returns
 returns c =
-    let state = c.before.before in
+    let state = c.before in
     let a = (begun state.before).args in
     let (told, rule) = c.check-refusal.ensures in
-    check_answer a.self c.state_refusal-state.ensures a.plan.now a.claim a.table.now told rule
+    check_answer a.self state.state_refusal-state.ensures a.plan.now a.claim a.table.now told rule
 
 pub check_spec : {M : Type 1} → statement M
 check_spec =

@@ -26,16 +26,16 @@ slice-aggregate-goal c = search rules
 
 goal-requires : tie.Need-goal-refusal-requires
 goal-requires c κs =
-    let state = c.before.before in
-    (given Closed (begun state).args.self (full state.before) c.state_refusal-state.ensures, search rules)
+    let state = c.before in
+    (given Closed (begun state.before).args.self (full state.before) state.state_refusal-state.ensures, search rules)
 
 returns : tie.Need-returns
 returns c =
     let struck = c.before in
-    let state = struck.before.before.before in
+    let state = struck.before.before in
     let a = (begun state.before).args in
     let (told, sets) = struck.goal-refusal.ensures in
-    goal-answer a.self a.goal (full state.before) c.state_refusal-state.ensures told sets
+    goal-answer a.self a.goal (full state.before) state.state_refusal-state.ensures told sets
 
 pub goal_spec : {M : Type 1} → statement M
 goal_spec =

@@ -23,8 +23,8 @@ state-refusal-requires c κs = search rules
 
 junior-requires : tie.Need-junior-laid-requires
 junior-requires c κs =
-    let state = c.before.before in
-    given Closed (begun state).args.self (full state.before) c.state_refusal-state.ensures
+    let state = c.before in
+    given Closed (begun state.before).args.self (full state.before) state.state_refusal-state.ensures
 
 same_length : tie.Need-shape_of-plan
 same_length c = search rules
@@ -32,10 +32,10 @@ same_length c = search rules
 returns : tie.Need-returns
 returns c =
     let laid = c.before.before in
-    let state = laid.before.before.before in
+    let state = laid.before.before in
     let a = (begun state.before).args in
     let (answer, (buffer, rule)) = laid.junior-laid.ensures in
-    junior_answer a.self c.state_refusal-state.ensures a.plan.now answer buffer rule
+    junior_answer a.self state.state_refusal-state.ensures a.plan.now answer buffer rule
 
 pub junior_spec : {M : Type 1} → statement M
 junior_spec =

@@ -57,13 +57,13 @@ all : (of : tie.After-first_of) → Full (begun (other-lent (arrays of))).args.s
 all of = full (arrays of)
 
 first-lines : (of : tie.After-first_of) → let a = (begun (other-lent (arrays of))).args.self in
-    Given of.first_of.result a.rack a.count a.quantities-1 a.sets-1
+    Given of.first_of.result a.rack a.count a.quantities a.sets
 first-lines of =
     given-first _ _ (all of) (other (other-lent (arrays of)))
     of.state_refusal-first.ensures of.state_refusal-second.ensures of.first_of.ensures
 
 second-lines : (of : tie.After-first_of) → let b = (begun (other-lent (arrays of))).args.other in
-    Given of.first_of.result b.rack b.count b.quantities-1 b.sets-1
+    Given of.first_of.result b.rack b.count b.quantities b.sets
 second-lines of =
     given_second _ _ (all of) (other (other-lent (arrays of)))
     of.state_refusal-first.ensures of.state_refusal-second.ensures of.first_of.ensures

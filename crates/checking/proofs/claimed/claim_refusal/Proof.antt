@@ -157,13 +157,13 @@ add-after c =
 
 pairs-among-requires : tie.Need-pairs_among-requires invariant-loop decreases-loop
 pairs-among-requires c κs =
-    let e = c.before.before.before.before.before.before in
-    ((s e).requires.3, held-few e.before.before c.if-tip-ge-MOST_TIPS.false)
+    let e = c.before.before.before.before in
+    ((s e.before.before).requires.3, held-few e.before.before e.if-tip-ge-MOST_TIPS.false)
 
 pairs-among-requires-2 : tie.Need-pairs_among-requires-in-loop-i invariant-loop decreases-loop
 pairs-among-requires-2 c κs =
-    let e = c.before.before.before.before.before.before.before in
-    ((s e).requires.3, omega (arith, held-few e.before.before c.if-tip-ge-MOST_TIPS.false))
+    let e = c.before.before.before.before.before in
+    ((s e.before.before).requires.3, omega (arith, held-few e.before.before e.if-tip-ge-MOST_TIPS.false))
 
 sub-shared : tie.Need-overflow_sub-shared invariant-loop decreases-loop
 sub-shared c = (grown c).0

@@ -94,8 +94,8 @@ loop-again c =
     let entry = c.before in
     let right = entry.before.before in
     let own = right.before.before in
-    let found = own.before.before in
-    let l = looped found in
+    let found = own.before in
+    let l = looped found.before in
     let args = (start l).args in
     let split_at : ℕ → ℕ = split_at args.left args.shift args.nexts.now args.firsts.now args.rights.now in
     let fits : ℕ → Bool = λ i. leb (split_at i) (get_or args.mosts.now i 0) in
@@ -103,7 +103,7 @@ loop-again c =
     let split = own.wide.result + (args.left + right.wide-in-loop-i.result) in
     let counted = ap (λ n. choose2 (n - get_or args.firsts.now i 0)) found.wrapping_add_u32.ensures in
     let e : split ≡ split_at i
-    = omega (arith, right.wide-in-loop-i.ensures.0, own.wide.ensures.0, c.pairs_among.ensures, counted) in
+    = omega (arith, right.wide-in-loop-i.ensures.0, own.wide.ensures.0, found.pairs_among.ensures, counted) in
     let most = ap (λ x. leb split x) entry.wide-in-loop-i-2.ensures.0 in
     let one : eqb c.one_if_less-lacking.result 0 ≡ fits i
     = c.one_if_less-lacking.ensures.1 ∙ most ∙ ap (λ x. leb x (get_or args.mosts.now i 0)) e in

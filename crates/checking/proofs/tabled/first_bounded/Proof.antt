@@ -100,8 +100,8 @@ add-next c = search rules
 returns-2 : tie.Need-returns-then-next-m
 unfolding every
 returns-2 c =
-    let e = c.before.before.before.before.before.before in
-    let b = start e in
+    let e = c.before in
+    let b = start e.before.before.before.before.before in
     let z : b.args.m - (b.args.c + 1) ≡ 0 = omega arith in
     rw (other_ends b.requires.0 b.args.a b.args.c b.requires.1 b.requires.2 (first e), z)
 

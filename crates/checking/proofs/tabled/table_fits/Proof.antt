@@ -6,6 +6,7 @@ use Rattle.model.proofs.Tests.{fails, passes}
 use Rattle.checking.specs.Checking.{tip_by, bounds_by}
 use Rattle.checking.proofs.Bounds.{every_stop, every_more}
 use Rattle.checking.proofs.tabled.table_fits.Statement.{statement}
+use Rattle.checking.proofs.tabled.table_fits.Lts.{then-has_tip+else-not-tip_bounded, else-has_tip}
 use Rattle.checking.proofs.tabled.table_fits.Tie as tie
 
 abbrev invariant-loop : tie.invariant-loop-c
@@ -71,10 +72,10 @@ loop-less c = search rules
 loop-again : tie.Need-loop-c-preserved invariant-loop decreases-loop
 loop-again c =
     let l = c.before.before.before in
-    let one : test l l.loop-c.c ≡ true = ⊎_elim
-    (λ w. rw (sym c.has_tip.ensures ∙ w.0.taken, passes w.1.ensures w.2.left))
-    (λ w. rw (sym c.has_tip.ensures ∙ w.left))
-    c.if-has_tip.branch in
+    let one : test l l.loop-c.c ≡ true = elim c.if-has_tip.branch [
+      then-has_tip+else-not-tip_bounded w ↦ rw (sym c.has_tip.ensures ∙ w.if-has_tip.true, passes w.tip_bounded.ensures w.if-not-tip_bounded.false-raw)
+      | else-has_tip w ↦ rw (sym c.has_tip.ensures ∙ w.if-has_tip.false)
+    ] in
     (search rules, every_more (test l) l.loop-c.c l.loop-c.invariant.1 one)
 
 returns-3 : tie.Need-returns invariant-loop decreases-loop

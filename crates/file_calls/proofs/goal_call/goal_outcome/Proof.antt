@@ -56,12 +56,12 @@ returns : tie.Need-returns
 returns c =
     let wrote = c.before.before.before in
     let struck = wrote.before.before.before.before.before in
-    let read = struck.before.before.before.before.before.before.before.before.before.before.before.before.before in
-    let (e, (lines, (_, given))) = c.read_lines-read.ensures in
+    let read = struck.before.before.before.before.before.before in
+    let (e, (lines, (_, given))) = read.read_lines-read.ensures in
     let (answer, sets) = struck.goal-refusal.ensures in
     let (written, buffer) = wrote.write-written.ensures in
     let (o, out) = goal-in _ e given (λ z. same_lines (lines z)) _ answer sets _ written buffer in
-    (o, (out, rw (o, out) (goal-rule _ _ _ (bytes read))))
+    (o, (out, rw (o, out) (goal-rule _ _ _ (bytes read.before.before.before.before.before.before.before))))
 
 pub goal_outcome_spec : {M : Type 1} → statement M
 goal_outcome_spec =

@@ -135,14 +135,14 @@ same_length c = search rules
 
 returns : tie.Need-returns
 returns c =
-    let wrote = c.before.before.before.before in
-    let joined = merged-2 wrote in
+    let wrote = c.before.before.before in
+    let joined = merged-2 wrote.before in
     let of = both_read joined.before in
     let (e, (read, (_, lines))) = (read-first-2 of).read_lines-read.ensures in
     let (f, (second-read, (_, others))) = (read-second of).read_lines-other.ensures in
     let g = of.first_of.ensures in
     let (h, (sets, quantities)) = joined.merge-refusal.ensures in
-    let (written, buffer) = c.write-written.ensures in
+    let (written, buffer) = wrote.write-written.ensures in
     let (outcome, out) =
     merge_in _ _ e f g lines others (λ z. same_lines (read z)) (λ z. same_lines (second-read z)) h sets quantities _ written buffer in
     (outcome, (out, rw (outcome, out) (merge_rule _ _ _ (bytes of) (second-bytes of))))

@@ -39,9 +39,9 @@ plan-refusal-requires c κs = search rules
 
 returns-2 : tie.Need-returns-then-refusal-ne0
 returns-2 c =
-    let asked = c.before.before.before.before in
-    let (g, h) = (begun asked).requires in
-    alone_refused _ _ _ _ _ _ _ _ (alone_counts _ _ g h c.plan_refusal-refusal.ensures) c.if-refusal-ne0.true
+    let asked = c.before.before in
+    let (g, h) = (begun asked.before.before).requires in
+    alone_refused _ _ _ _ _ _ _ _ (alone_counts _ _ g h asked.plan_refusal-refusal.ensures) c.if-refusal-ne0.true
 
 -- nothing is refused: the buffer has a byte a line of both
 few : (d : tie.Else-refusal-ne0) → let a = (begun d.before.before.before.before).args in a.count + a.other_count ≤ length a.plan.now
@@ -49,8 +49,8 @@ few d = (plan_none _ _ _ (number_of d.plan_refusal-refusal.ensures d.if-refusal-
 
 quick-requires : tie.Need-quick-first-requires
 quick-requires c κs =
-    let free = c.before.before.before.before.before.before in
-    later (λ _. c.if-earlier-ne0.false) (begun free).requires.0
+    let free = c.before.before.before.before.before in
+    later (λ _. free.if-earlier-ne0.false) (begun free.before).requires.0
 
 -- the first plan is laid
 abbrev laid : tie.After-slice_known-5-1 → tie.After-quick-first
@@ -84,14 +84,14 @@ same-length-3 c = search rules
 
 returns-3 : tie.Need-returns
 returns-3 c =
-    let both = c.before.before.before.before.before.before.before in
-    let one = laid both in
-    let d = tried both in
+    let both = c.before.before.before.before in
+    let one = laid both.before.before.before in
+    let d = tried both.before.before.before in
     let asked = d.before.before in
-    let free = asked.before.before in
-    let (g, h) = (begun free).requires in
+    let free = asked.before in
+    let (g, h) = (begun free.before).requires in
     let (p, (q, v)) = one.quick-first.ensures in
-    let (s, (t, w)) = c.quick-second.ensures in
+    let (s, (t, w)) = both.quick-second.ensures in
     alone_accepted _ _ _ _ _ _ _ _ (alone_counts _ _ g h asked.plan_refusal-refusal.ensures) d.if-refusal-ne0.left (size free).0 p q v s t w
 
 pub alone_spec : {M : Type 1} → statement M

@@ -22,13 +22,13 @@ same_length c = search rules
 
 returns : tie.Need-returns-then-refusal-ne0
 returns c =
-    let asked = c.before.before.before in
-    let s = begun asked in
+    let asked = c.before.before in
+    let s = begun asked.before in
     let (g, (h, _)) = s.requires in
     let a = s.args in
-    let r = c.merge_refusal-refusal.result in
+    let r = asked.merge_refusal-refusal.result in
     let f = c.if-refusal-ne0.true in (
-      merge_counts _ g h c.merge_refusal-refusal.ensures,
+      merge_counts _ g h asked.merge_refusal-refusal.ensures,
       (
         merge_stays r f (take a.count a.sets.now) (take a.other_count a.other-sets.now) a.sets.now,
         merge_stays r f (take a.count a.quantities.now) (take a.other_count a.other_quantities.now) a.quantities.now,

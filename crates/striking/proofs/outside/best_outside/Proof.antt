@@ -112,16 +112,16 @@ loop2-less c = search rules
 
 loop2-again : tie.Need-loop-k-preserved invariant-loop decreases-loop invariant-loop2 decreases-loop2
 loop2-again c =
-    let l = c.before.before.before.before.before in
-    let s = start l in
-    (search rules, omega (arith, c.larger-best-in-loop-k.ensures, c.outside_at-in-loop-k.ensures, c.loop-k.invariant.1, largest-more (behind s) c.loop-k.k))
+    let l = c.before.before.before in
+    let s = start l.before.before in
+    (search rules, omega (arith, c.larger-best-in-loop-k.ensures, c.outside_at-in-loop-k.ensures, l.loop-k.invariant.1, largest-more (behind s) l.loop-k.k))
 
 returns : tie.Need-returns invariant-loop decreases-loop invariant-loop2 decreases-loop2
 returns c =
-    let l = c.before.before.before in
-    let s = start l in
-    let e : c.loop-k.k ≡ s.args.a = omega arith in
-    rw e at c.loop-k.invariant.1
+    let l = c.before in
+    let s = start l.before.before in
+    let e : l.loop-k.k ≡ s.args.a = omega arith in
+    rw e at l.loop-k.invariant.1
 
 pub best_outside_spec : {M : Type 1} → statement M
 best_outside_spec =

@@ -55,12 +55,12 @@ earlier-requires-2 c κs = search rules
 
 loop-holds : tie.Need-loop-t-init invariant-loop decreases-loop
 loop-holds c =
-    let l = c.before.before.before.before in
+    let l = c.before in
     let args = (begun l.before.before.before).args in
     let none = tips-before args.names args.m args.sums.now args.inner.now args.q args.set args.goal in (
-      omega (arith, c.earlier-t.ensures, c.later.ensures),
+      omega (arith, c.earlier-t.ensures, l.later.ensures),
       omega (arith, c.earlier-t.ensures),
-      sym (none args.outside args.a args.w _ (omega (arith, c.earlier-t.ensures, c.later.ensures, c.lowest.ensures))),
+      sym (none args.outside args.a args.w _ (omega (arith, c.earlier-t.ensures, l.later.ensures, l.lowest.ensures))),
     )
 
 end-bit-requires : tie.Need-end_bit-kept-requires invariant-loop decreases-loop

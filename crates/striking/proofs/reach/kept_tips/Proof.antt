@@ -134,7 +134,7 @@ next-open-requires-2 c κs =
 loop2-less : tie.Need-loop-a-smaller invariant-loop2 decreases-loop2 invariant-loop decreases-loop
 loop2-less c =
     let b = (followed (sought c).before).before.before in
-    omega (arith, b.loop-a-test.taken, (sought c).next_open-a-in-loop-a.ensures.0.0)
+    omega (arith, b.loop-a-test.true, (sought c).next_open-a-in-loop-a.ensures.0.0)
 
 loop2-again : tie.Need-loop-a-preserved invariant-loop2 decreases-loop2 invariant-loop decreases-loop
 loop2-again c =

@@ -99,7 +99,7 @@ sub-rest c =
     let e = ends (outer t) in
     let x = (outer t).loop-x.x in
     let y = t.loop-y.y in
-    let same = ap₂ (λ l h. own_at l h (start e).args.quantity x y) e.before.lowest-low.ensures e.highest-high.ensures in
+    let same = ap₂ (λ l h. own_at l h (start e).args.quantity x y) e.lowest-low.ensures e.highest-high.ensures in
     omega (arith, c.own_at.ensures, same, (start e).requires.1.covers x y (omega arith) (omega arith))
 
 mul-rest-2 : tie.Need-offset_bounds-rest-k invariant-loop2 decreases-loop2 invariant-loop decreases-loop

@@ -30,10 +30,10 @@ returns-2 : tie.Need-returns
 returns-2 c =
     let put = c.before.before in
     let asked = put.before.before in
-    let d = asked.before.before in
-    let s = begun d in
+    let d = asked.before in
+    let s = begun d.before in
     let old = s.args.answer.now in
-    let long = c.if-answer-lt4.false in
+    let long = d.if-answer-lt4.false in
     let four = put.put_answer.ensures in
     let (outcome, rule) = asked.check_outcome-outcome.ensures in
     let Rule = CheckRuleOf s.args.file.now s.args.plan.now s.args.claim s.args.table.now in

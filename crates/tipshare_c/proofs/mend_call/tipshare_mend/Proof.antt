@@ -36,10 +36,10 @@ returns-2 : tie.Need-returns
 returns-2 c =
     let put = c.before.before in
     let asked = put.before.before.before.before.before.before.before in
-    let d = asked.before.before.before.before in
-    let s = begun d in
+    let d = asked.before.before.before in
+    let s = begun d.before in
     let old = s.args.answer.now in
-    let long = c.if-answer-lt4.false in
+    let long = d.if-answer-lt4.false in
     let four = put.put_answer.ensures in
     let (answer, (out, (report, rule))) = asked.mend-mended.ensures in
     let outcome = ap mend_outcome answer in

@@ -33,10 +33,10 @@ returns-2 : tie.Need-returns
 returns-2 c =
     let put = c.before.before in
     let asked = put.before.before.before.before in
-    let d = asked.before.before.before in
-    let s = begun d in
+    let d = asked.before.before in
+    let s = begun d.before in
     let old = s.args.answer.now in
-    let long = c.if-answer-lt4.false in
+    let long = d.if-answer-lt4.false in
     let four = put.put_answer.ensures in
     let (outcome, (out, rule)) = asked.merge_outcome-outcome.ensures in
     let Rule = MergeRuleOf s.args.first.now s.args.second.now asked.merge_outcome-outcome.new.out in
