@@ -47,13 +47,13 @@ lines : (d : tie.Else-number-ne0) →
 lines d = let free = d.before.before.before in free.requires free.if-earlier-ne0.false
 
 slice-aggregate-total : tie.Need-slice_bounds-total-end
-slice-aggregate-total c = sym (length-take-le _ _ (lines c.before).0)
+slice-aggregate-total c = sym (length-take-le _ _ (lines c).0)
 
 total-requires : tie.Need-total-placements-requires
-total-requires c κs = (lines c.before).1
+total-requires c κs = (lines c).1
 
 add-refuse-when : tie.Need-overflow_add-placements
-add-refuse-when c = omega (arith, c.total-placements.ensures, (lines c.before.before).1)
+add-refuse-when c = omega (arith, c.total-placements.ensures, (lines c.before).1)
 
 refuse-when-requires : tie.Need-refuse_when-requires
 refuse-when-requires c κs = search rules

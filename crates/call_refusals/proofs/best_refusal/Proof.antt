@@ -37,16 +37,16 @@ returns-3 c =
     c.refuse-then-places-rack.ensures ∙ best_few _ d.if-earlier-ne0.false _ _ _ _ (omega (arith, lines d, c.if-room-count.false)) c.if-places-rack.true
 
 slice-aggregate-run-refusal : tie.Need-slice_bounds-run_refusal-end
-slice-aggregate-run-refusal c = sym (lines c.before.before.before)
+slice-aggregate-run-refusal c = sym (lines c.before.before)
 
 run-refusal-requires : tie.Need-run_refusal-requires
 run-refusal-requires c κs = search rules
 
 returns-4 : tie.Need-returns
 returns-4 c =
-    let d = c.before.before.before.before in
+    let d = c.before.before.before in
     let e = c.if-room-count.false in
-    c.run_refusal.ensures ∙ best-run _ c.if-earlier-ne0.false _ _ _ _ (omega (arith, lines d, e)) c.if-places-rack.false
+    c.run_refusal.ensures ∙ best-run _ d.if-earlier-ne0.false _ _ _ _ (omega (arith, lines d, e)) c.if-places-rack.false
 
 pub best_refusal_spec : {M : Type 1} → statement M
 best_refusal_spec =

@@ -64,16 +64,16 @@ slice-reshare-prefix-best-lines : tie.Need-slice_bounds-best_lines-end-3
 slice-reshare-prefix-best-lines c = let d = c.before in (given d).quantity-room d.if-refusal-ne0.false
 
 slice-aggregate-best-lines-2 : tie.Need-slice_bounds-best_lines-end-4
-slice-aggregate-best-lines-2 c = let d = c.before.before in sym (length-take-le _ _ ((given d).quantity-room c.if-refusal-ne0.false))
+slice-aggregate-best-lines-2 c = let d = c.before in sym (length-take-le _ _ ((given d).quantity-room d.if-refusal-ne0.false))
 
 slice-relend-prefix-best-lines-2 : tie.Need-slice_bounds-best_lines-end-5
-slice-relend-prefix-best-lines-2 c = bytes c.before.before
+slice-relend-prefix-best-lines-2 c = bytes c.before
 
 slice-aggregate-best-lines-3 : tie.Need-slice_bounds-best_lines-end-6
-slice-aggregate-best-lines-3 c = sym (length-take-le _ _ (bytes c.before.before.before))
+slice-aggregate-best-lines-3 c = sym (length-take-le _ _ (bytes c.before.before))
 
 best-lines-requires : tie.Need-best_lines-requires
-best-lines-requires c κs = let d = c.before.before.before in (good d, length-take-le _ _ (bytes d) ∙ sym (size d))
+best-lines-requires c κs = let d = c.before.before in (good d, length-take-le _ _ (bytes d) ∙ sym (size d))
 
 same-length-3 : tie.Need-shape_of-sets
 same-length-3 c = search rules

@@ -142,8 +142,8 @@ write-lines-requires c κs =
     let (e, (lines, _)) = (read d).read_lines-read.ensures in
     let quick = length-take-le _ _ (quick-bytes room) in
     let best = length-take-le _ _ (best-bytes d) in
-    let answer = best-laid.best_of_file-shared.ensures.0 (number_of e d.if-refusal-ne0.left) in
-    ((good d, s.requires), ((quick ∙ sym (size d), best ∙ sym (size d)), told-lines (lines d.if-refusal-ne0.left) _ answer))
+    let answer = best-laid.best_of_file-shared.ensures.0 (number_of e d.if-refusal-ne0.false) in
+    ((good d, s.requires), ((quick ∙ sym (size d), best ∙ sym (size d)), told-lines (lines d.if-refusal-ne0.false) _ answer))
 
 same-length-2 : tie.Need-shape_of-out
 same-length-2 c = search rules
@@ -153,7 +153,7 @@ returns-2 c =
     let written = c.before.before.before.before in
     let d = (quick-buffer-2 written.before).before in
     let (e, (lines, _)) = (read d).read_lines-read.ensures in
-    rw (text_accepted _ e d.if-refusal-ne0.left (lines d.if-refusal-ne0.left)) written.write_lines.ensures
+    rw (text_accepted _ e d.if-refusal-ne0.false (lines d.if-refusal-ne0.false)) written.write_lines.ensures
 
 pub write_file_spec : {M : Type 1} → statement M
 write_file_spec =

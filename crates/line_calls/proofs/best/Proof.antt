@@ -12,7 +12,7 @@ use Rattle.line_calls.proofs.best.Statement.{statement}
 use Rattle.line_calls.proofs.best.Tie as tie
 
 best-refusal-requires : tie.Need-best_refusal-refusal-requires
-best-refusal-requires c κs = let s = c.before.before.before.before.before in λ z. ((s.requires.good z).most, s.requires.room z)
+best-refusal-requires c κs = let s = c.before.before.before.before in λ z. ((s.requires.good z).most, s.requires.room z)
 
 same_length : tie.Need-shape_of-sets-then-refusal-ne0
 same_length c = search rules
@@ -53,20 +53,20 @@ slice-aggregate-plan-lines-2 c =
     sym (length-take-le _ _ ((begun d).requires.quantity-room (asked d).free))
 
 slice-relend-prefix-plan-lines-2 : tie.Need-slice_bounds-plan_lines-end-4
-slice-relend-prefix-plan-lines-2 c = bytes c.before.before
+slice-relend-prefix-plan-lines-2 c = bytes c.before
 
 slice-aggregate-plan-lines-3 : tie.Need-slice_bounds-plan_lines-end-5
-slice-aggregate-plan-lines-3 c = sym (length-take-le _ _ (bytes c.before.before.before))
+slice-aggregate-plan-lines-3 c = sym (length-take-le _ _ (bytes c.before.before))
 
 slice-relend-prefix-plan-lines-3 : tie.Need-slice_bounds-plan_lines-end-6
-slice-relend-prefix-plan-lines-3 c = (asked c.before.before.before).cells
+slice-relend-prefix-plan-lines-3 c = (asked c.before.before).cells
 
 slice-aggregate-plan-lines-4 : tie.Need-slice_bounds-plan_lines-end-7
-slice-aggregate-plan-lines-4 c = sym (length-take-le _ _ (asked c.before.before.before.before).cells)
+slice-aggregate-plan-lines-4 c = sym (length-take-le _ _ (asked c.before.before.before).cells)
 
 plan-lines-requires : tie.Need-plan_lines-pairs-requires
 plan-lines-requires c κs =
-    let d = c.before.before.before.before in
+    let d = c.before.before.before in
     (record { good = good d; runs = (asked d).runs }, length-take-le _ _ (bytes d) ∙ count d, length-take-le _ _ (asked d).cells)
 
 same-length-2 : tie.Need-shape_of-sets
@@ -81,9 +81,9 @@ same-length-4 c = search rules
 returns-2 : tie.Need-returns
 returns-2 c =
     let laid = c.before.before.before.before.before.before in
-    let d = laid.before.before.before.before.before in
+    let d = laid.before.before.before.before in
     let e = laid.plan_lines-pairs.ensures in
-    best_accepted _ _ _ _ _ _ _ d.best_refusal-refusal.ensures c.if-refusal-ne0.false (good d) (count d) e.0 e.1.0 e.1.1
+    best_accepted _ _ _ _ _ _ _ d.best_refusal-refusal.ensures d.if-refusal-ne0.false (good d) (count d) e.0 e.1.0 e.1.1
 
 pub best_spec : {M : Type 1} → statement M
 best_spec =

@@ -39,7 +39,7 @@ returns c =
     (e, check_rule _ _ _ _ _ _ _ s.requires.good e)
 
 slice-aggregate-lines : tie.Need-slice_bounds-lines-end
-slice-aggregate-lines c = count c.before
+slice-aggregate-lines c = count c
 
 names-of-requires : tie.Need-names_of-requires
 names-of-requires c κs = search rules
@@ -50,7 +50,7 @@ slice-aggregate-check-plan c =
     sym (length-take-le _ _ ((begun (asked d)).requires.quantity-room (free d).free))
 
 slice-aggregate-check-plan-2 : tie.Need-slice_bounds-check_plan-end-2
-slice-aggregate-check-plan-2 c = sym (length-take-le _ _ (bytes c.before.before.before.before))
+slice-aggregate-check-plan-2 c = sym (length-take-le _ _ (bytes c.before))
 
 check-plan-requires : tie.Need-check_plan-requires
 check-plan-requires c κs =

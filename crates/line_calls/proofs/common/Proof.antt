@@ -25,13 +25,13 @@ slice-aggregate-common-tip-2 c =
     sym (length-take-le _ _ ((begun d).requires.quantity-room d.if-earlier-ne0.false))
 
 common-tip-requires : tie.Need-common_tip-found-requires
-common-tip-requires c κs = let g = good c.before.before in (g.most, record { same = g.same; few = g.few })
+common-tip-requires c κs = let g = good c in (g.most, record { same = g.same; few = g.few })
 
 returns-2 : tie.Need-returns
 returns-2 c =
-    let d = c.before.before.before in
+    let d = c.before in
     let found = c.common_tip-found.ensures in
-    common_accepted _ _ _ _ c.if-earlier-ne0.false (good d) found.0 found.1.0 found.1.1
+    common_accepted _ _ _ _ d.if-earlier-ne0.false (good d) found.0 found.1.0 found.1.1
 
 pub common_spec : {M : Type 1} → statement M
 common_spec = tie.close (tie.spec returns slice-aggregate-common-tip slice-aggregate-common-tip-2 common-tip-requires returns-2)

@@ -36,7 +36,7 @@ slice-aggregate-keep-lines-2 c =
     sym (length-take-le _ _ ((begun d).requires.quantity-room d.if-earlier-ne0.false))
 
 keep-lines-requires : tie.Need-keep_lines-margin-requires
-keep-lines-requires c κs = let g = good c.before.before in (g.most, record { same = g.same; few = g.few }, g.placed)
+keep-lines-requires c κs = let g = good c.before in (g.most, record { same = g.same; few = g.few }, g.placed)
 
 keep-refusal-requires : tie.Need-keep_refusal-requires
 keep-refusal-requires c κs = search rules

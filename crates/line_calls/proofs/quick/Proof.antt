@@ -47,14 +47,14 @@ slice-aggregate-plan-lines-2 c =
     sym (length-take-le _ _ ((begun d).requires.quantity-room (asked d).0))
 
 slice-relend-prefix-plan-lines-2 : tie.Need-slice_bounds-plan_lines-end-4
-slice-relend-prefix-plan-lines-2 c = (asked c.before.before).1
+slice-relend-prefix-plan-lines-2 c = (asked c.before).1
 
 slice-aggregate-plan-lines-3 : tie.Need-slice_bounds-plan_lines-end-5
-slice-aggregate-plan-lines-3 c = sym (length-take-le _ _ (asked c.before.before.before).1)
+slice-aggregate-plan-lines-3 c = sym (length-take-le _ _ (asked c.before.before).1)
 
 plan-lines-requires : tie.Need-plan_lines-pairs-requires
 plan-lines-requires c κs =
-    let d = c.before.before.before in
+    let d = c.before.before in
     record { good = good d; size = length-take-le _ _ (asked d).1 ∙ count d }
 
 same_length : tie.Need-shape_of-sets

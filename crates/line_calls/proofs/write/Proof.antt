@@ -39,7 +39,7 @@ version-for-requires : tie.Need-version_for-version-requires
 version-for-requires c κs = search rules
 
 write-refusal-requires : tie.Need-write_refusal-refusal-requires
-write-refusal-requires c κs = λ _. few c.before.before
+write-refusal-requires c κs = λ _. few c.before
 
 -- the version is found, then the refusal
 abbrev found : tie.After-write_refusal-refusal → tie.After-version_for-version
@@ -78,16 +78,16 @@ room e = omega (arith, e.file_length-bytes.ensures, room_for (measured e))
 slice-aggregate-write-file : tie.Need-slice_bounds-write_file-end
 slice-aggregate-write-file c =
     let d = started (asked (measured c)) in
-    sym (length-take-le _ _ ((begun d).requires.quantity-room d.if-earlier-ne0.left))
+    sym (length-take-le _ _ ((begun d).requires.quantity-room d.if-earlier-ne0.false))
 
 slice-aggregate-write-file-2 : tie.Need-slice_bounds-write_file-end-2
 slice-aggregate-write-file-2 c = count (started (asked (measured c)))
 
 slice-relend-prefix-write-file : tie.Need-slice_bounds-write_file-end-3
-slice-relend-prefix-write-file c = room c.before.before
+slice-relend-prefix-write-file c = room c
 
 slice-aggregate-write-file-3 : tie.Need-slice_bounds-write_file-end-4
-slice-aggregate-write-file-3 c = sym (length-take-le _ _ (room c.before.before.before))
+slice-aggregate-write-file-3 c = sym (length-take-le _ _ (room c.before))
 
 write-file-requires : tie.Need-write_file-requires
 write-file-requires c κs =

@@ -34,7 +34,7 @@ same-length-2 c = search rules
 returns-2 : tie.Need-returns
 returns-2 c = λ old done.
     let s = c.before.before.before.before.before.before in
-    rows_more s.args.set s.args.m s.args.r s.requires.named old s.args.a done c.before.before.Spread-row.ensures
+    rows_more s.args.set s.args.m s.args.r s.requires.named old s.args.a done c.spread_row.ensures
 
 pub spread_next_spec : {M : Type 1} → statement M
 spread_next_spec =

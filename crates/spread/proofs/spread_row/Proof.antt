@@ -103,7 +103,7 @@ loop-again c =
     let g = s.args in
     let at = l.loop-b in
     let some : 0 < at.b = omega arith in
-    let read = c.before.before.Cell-at.ensures in
+    let read = c.cell_at.ensures in
     let is = row_read g.set g.m g.r g.a s.requires.named g.table.now at.b some at.invariant.0 at.invariant.2 in (
       omega arith,
       omega (arith, ended c),

@@ -159,7 +159,7 @@ strike-each-requires c κs =
       s.requires.6,
       s.requires.1,
       paired f,
-      omega (arith, most left.before, left.if-entry_at-goal.left),
+      omega (arith, most left.before, left.if-entry_at-goal.false),
     )
 
 refuse-requires-2 : tie.Need-refuse-requires-2
@@ -192,7 +192,7 @@ returns-2 c =
     let e = left.before in
     let args = (start (summed-2 (inside-2 e))).args in
     let met = goal-met args.m args.quantities.now args.lines.now args.goal args.struck.now in
-    let by = met (omega (arith, most e, left.if-entry_at-goal.left)) in
+    let by = met (omega (arith, most e, left.if-entry_at-goal.false)) in
     (c.refuse-2.ensures ∙ by.0, each.strike_each.ensures ∙ by.1)
 
 pub strike_in_spec : {M : Type 1} → statement M

@@ -26,7 +26,7 @@ returns : tie.Need-returns-then-earlier-ne0
 returns c = let n = c.if-earlier-ne0.true in goal-stopped _ _ _ _ _ _ (asked_earlier _ _ n) n
 
 slice-aggregate-lines : tie.Need-slice_bounds-lines-end
-slice-aggregate-lines c = count c.before
+slice-aggregate-lines c = count c
 
 run-refusal-requires : tie.Need-run_refusal-runs-requires
 run-refusal-requires c κs = search rules
@@ -42,17 +42,17 @@ names-of-requires c κs = search rules
 slice-aggregate-strike : tie.Need-slice_bounds-strike-end
 slice-aggregate-strike c =
     let d = left (asked c.before) in
-    sym (length-take-le _ _ ((begun d).requires.0.quantity-room d.if-earlier-ne0.left))
+    sym (length-take-le _ _ ((begun d).requires.0.quantity-room d.if-earlier-ne0.false))
 
 slice-relend-prefix-strike : tie.Need-slice_bounds-strike-end-2
 slice-relend-prefix-strike c =
     let d = left (asked c.before) in
-    omega (arith, (begun d).requires.0.room d.if-earlier-ne0.left, (begun d).requires.1)
+    omega (arith, (begun d).requires.0.room d.if-earlier-ne0.false, (begun d).requires.1)
 
 slice-aggregate-strike-2 : tie.Need-slice_bounds-strike-end-3
 slice-aggregate-strike-2 c =
     let d = left (asked c.before.before) in
-    sym (length-take-le _ _ (omega (arith, (begun d).requires.0.room d.if-earlier-ne0.left, (begun d).requires.1)))
+    sym (length-take-le _ _ (omega (arith, (begun d).requires.0.room d.if-earlier-ne0.false, (begun d).requires.1)))
 
 strike-requires : tie.Need-strike-requires
 strike-requires c κs =
@@ -60,10 +60,10 @@ strike-requires c κs =
     let run = asked named in
     let d = left run in
     let s = begun d in
-    let told = asked_runs s.args.earlier _ d.if-earlier-ne0.left run.run_refusal-runs.ensures in
+    let told = asked_runs s.args.earlier _ d.if-earlier-ne0.false run.run_refusal-runs.ensures in
     let all = asked-none s.args.earlier _ (number_of told named.if-runs-ne0.false) in (
-      record { good = s.requires.0.good d.if-earlier-ne0.left; runs = all.1; all = c.names_of.ensures },
-      length-take-le _ _ (omega (arith, s.requires.0.room d.if-earlier-ne0.left, s.requires.1)) ∙ count d,
+      record { good = s.requires.0.good d.if-earlier-ne0.false; runs = all.1; all = c.names_of.ensures },
+      length-take-le _ _ (omega (arith, s.requires.0.room d.if-earlier-ne0.false, s.requires.1)) ∙ count d,
     )
 
 same_length : tie.Need-shape_of-struck
@@ -76,7 +76,7 @@ returns-3 c =
     let run = asked e in
     let d = left run in
     let (answer, sets) = struck.strike.ensures in
-    goal-through _ _ _ _ _ _ (asked_runs _ _ d.if-earlier-ne0.left run.run_refusal-runs.ensures) e.if-runs-ne0.false (count d) answer sets
+    goal-through _ _ _ _ _ _ (asked_runs _ _ d.if-earlier-ne0.false run.run_refusal-runs.ensures) e.if-runs-ne0.false (count d) answer sets
 
 pub goal_spec : {M : Type 1} → statement M
 goal_spec =

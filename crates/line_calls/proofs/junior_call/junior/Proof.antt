@@ -44,22 +44,22 @@ count : (d : tie.Else-asked-ne0) → let a = (begun d.before.before).args in a.c
 count d = sym (length-take-le _ _ ((begun d.before.before).requires.room (free d).0))
 
 slice-aggregate-plan-lines : tie.Need-slice_bounds-plan_lines-end
-slice-aggregate-plan-lines c = count c.before
+slice-aggregate-plan-lines c = count c
 
 slice-aggregate-plan-lines-2 : tie.Need-slice_bounds-plan_lines-end-2
 slice-aggregate-plan-lines-2 c =
-    let d = c.before.before in
-    sym (length-take-le _ _ ((begun d).requires.quantity-room (free d).0))
+    let d = c in
+    sym (length-take-le _ _ ((begun d.before.before).requires.quantity-room (free d).0))
 
 slice-relend-prefix-plan-lines : tie.Need-slice_bounds-plan_lines-end-3
-slice-relend-prefix-plan-lines c = (free c.before.before).1
+slice-relend-prefix-plan-lines c = (free c).1
 
 slice-aggregate-plan-lines-3 : tie.Need-slice_bounds-plan_lines-end-4
-slice-aggregate-plan-lines-3 c = sym (length-take-le _ _ (free c.before.before.before).1)
+slice-aggregate-plan-lines-3 c = sym (length-take-le _ _ (free c.before).1)
 
 plan-lines-requires : tie.Need-plan_lines-found-requires
 plan-lines-requires c κs =
-    let d = c.before.before.before in
+    let d = c.before in
     (good d, length-take-le _ _ (free d).1 ∙ count d)
 
 refuse-when-requires : tie.Need-refuse_when-requires
@@ -72,11 +72,11 @@ returns-2 : tie.Need-returns
 unfolding found_of
 returns-2 c =
     let f = c.before.before.before.before in
-    let d = f.before.before.before.before in
-    let q = d in
+    let d = f.before.before in
+    let q = d.before.before in
     let (is, plan) = f.plan_lines-found.ensures in
     let told = c.refuse_when.ensures ∙ ap (λ x. when (not x.served) 31) is in
-    junior_found _ _ _ _ _ (number_of (by_count q) c.if-asked-ne0.false) (good d) (count d) told is plan
+    junior_found _ _ _ _ _ (number_of (by_count q) d.if-asked-ne0.false) (good d) (count d) told is plan
 
 pub junior_spec : {M : Type 1} → statement M
 junior_spec =

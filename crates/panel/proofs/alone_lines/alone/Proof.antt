@@ -71,7 +71,7 @@ part-quick-end c = search rules
 quick-requires-2 : tie.Need-quick-second-requires
 quick-requires-2 c κs =
     let free = (tried c.before.before).before.before.before in
-    later (λ _. free.if-earlier-ne0.left) (begun free.before).requires.1
+    later (λ _. free.if-earlier-ne0.false) (begun free.before).requires.1
 
 same_length : tie.Need-shape_of-sets
 same_length c = search rules
@@ -92,7 +92,7 @@ returns-3 c =
     let (g, h) = (begun free.before).requires in
     let (p, (q, v)) = one.quick-first.ensures in
     let (s, (t, w)) = both.quick-second.ensures in
-    alone_accepted _ _ _ _ _ _ _ _ (alone_counts _ _ g h asked.plan_refusal-refusal.ensures) d.if-refusal-ne0.left (size free).0 p q v s t w
+    alone_accepted _ _ _ _ _ _ _ _ (alone_counts _ _ g h asked.plan_refusal-refusal.ensures) d.if-refusal-ne0.false (size free).0 p q v s t w
 
 pub alone_spec : {M : Type 1} → statement M
 alone_spec =

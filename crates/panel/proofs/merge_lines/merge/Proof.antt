@@ -59,16 +59,16 @@ known d =
     }
 
 slice-aggregate-put-sets : tie.Need-slice_bounds-put_sets-end
-slice-aggregate-put-sets c = sym (length-take-le _ _ (known c.before).room)
+slice-aggregate-put-sets c = sym (length-take-le _ _ (known c).room)
 
 mul-put-sets : tie.Need-offset_bounds-sets-count
-mul-put-sets c = let k = known c.before in omega (arith, k.few)
+mul-put-sets c = let k = known c in omega (arith, k.few)
 
 sub-put-sets : tie.Need-slice_bounds-put_sets-count
-sub-put-sets c = let k = known c.before in omega (arith, k.few, k.sets-full)
+sub-put-sets c = let k = known c in omega (arith, k.few, k.sets-full)
 
 part-put-sets-start : tie.Need-slice_bounds-put_sets-start
-part-put-sets-start c = let k = known c.before in omega (arith, k.few, k.sets-full)
+part-put-sets-start c = let k = known c in omega (arith, k.few, k.sets-full)
 
 part-put-sets-end : tie.Need-slice_bounds-put_sets-end-2
 part-put-sets-end c = search rules

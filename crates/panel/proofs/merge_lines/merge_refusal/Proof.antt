@@ -41,20 +41,20 @@ returns-3 c =
     c.refuse-then-count-other_count-gt-MOST_LINES.ensures ∙ merge-lines _ same.if-earlier-ne0.false _ _ _ _ same.if-rack-other_rack.false c.if-count-other_count-gt-MOST_LINES.true
 
 slice-aggregate-total : tie.Need-slice_bounds-total-end
-slice-aggregate-total c = sym (length-take-le _ _ (counted c.before.before).0.room)
+slice-aggregate-total c = sym (length-take-le _ _ (counted c.before).0.room)
 
 total-requires : tie.Need-total-placements-requires
-total-requires c κs = (counted c.before.before).0.few
+total-requires c κs = (counted c.before).0.few
 
 slice-aggregate-total-2 : tie.Need-slice_bounds-total-end-2
-slice-aggregate-total-2 c = sym (length-take-le _ _ (counted c.before.before.before.before).1.room)
+slice-aggregate-total-2 c = sym (length-take-le _ _ (counted c.before.before).1.room)
 
 total-requires-2 : tie.Need-total-others-requires
-total-requires-2 c κs = (counted c.before.before.before.before).1.few
+total-requires-2 c κs = (counted c.before.before).1.few
 
 add-refuse-when : tie.Need-overflow_add-placements
 add-refuse-when c =
-    let both = counted c.before.before.before.before.before in
+    let both = counted c.before.before.before in
     omega (arith, c.total-placements.ensures, c.total-others.ensures, both.0.few, both.1.few)
 
 refuse-when-requires : tie.Need-refuse_when-requires

@@ -34,7 +34,7 @@ module _ (c : tie.Start) where
 
 best-outside-requires : tie.Need-best_outside-outside-requires
 best-outside-requires c κs =
-    let s = c.before.before.before.before.before in
+    let s = c.before.before.before.before in
     (ready_none s.requires.0, s.requires.1, s.requires.2, s.requires.3, s.requires.5, s.requires.7)
 
 cast-outer : tie.Need-overflow_cast-outer
