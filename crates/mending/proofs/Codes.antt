@@ -39,6 +39,7 @@ module _ {A : Type 0} where
 
   -- what holds of all holds of what is there
   pub all_mem : {P : A → Type 0} {y : A} {xs : List A} → All P xs → Memᴰ y xs → P y
+  all_mem none h = elim h [ ]
   all_mem {P} (more p ps) (Memᴰ.head e) = subst P (sym e) p
   all_mem (more p ps) (Memᴰ.tail h) = all_mem ps h
 

@@ -3,7 +3,6 @@ use Prim.Native.Nat.{ℕ, ◌*◌, ◌-◌, ◌/◌, ◌≤◌, ◌<◌}
 use native.Mathlib.Omega.{arith}
 use native.Mathlib.Nat.{mul-div_cancel_left}
 use mathlib.Core.Path.{◌≡◌, ap, ◌∙◌}
-use mathlib.Core.Bool.{not}
 use mathlib.Core.Logic.{◌⊎◌, inl, inr}
 use mathlib.Core.List.{List, [], append-nil}
 use lib.ListN.{length, length-map}
@@ -11,7 +10,6 @@ use borrow.Author.Tests.{le-ltb, eq-eqb}
 use Rattle.model.specs.Count.{All}
 use Rattle.model.specs.Limits.{most_lines, most_placements}
 use Rattle.model.proofs.Lists.{all-mapped}
-use Rattle.placements.specs.Repeated.{total}
 use Rattle.placements.specs.Good.{GoodLines}
 use Rattle.job.specs.Job.{Bytes, header_length, line_length, file_length, file_of, version_in, rack_in, count_in}
 use Rattle.job.specs.Job.{sets_in, quantities_in, read_refusal, GoodStart, GoodHeader, ReadsAs}

@@ -38,17 +38,16 @@ read-some-requires c κs =
     let at = c.before.before.loop-i in
     (start.requires.0, (start.requires.1.0, (at.invariant.1 ∙ start.requires.1.1, (omega arith, at.invariant.2))))
 
-add-i : tie.Need-overflow_add-i invariant-loop decreases-loop
+add-i : tie.Need-overflow_add-i-in-loop-i invariant-loop decreases-loop
 add-i c = omega arith
 
 loop-less : tie.Need-loop-i-smaller invariant-loop decreases-loop
-loop-less c = omega (arith, c.before.before.read_Some.auto.1.1.1.0)
+loop-less c = omega (arith, c.read_some-tested.auto.sets)
 
 loop-again : tie.Need-loop-i-preserved invariant-loop decreases-loop
 loop-again c =
-    let wrote = c.before.before.read_Some in
-    let same = wrote.auto.1.1.1.0 in
-    (omega (arith, same), same ∙ c.before.before.before.before.before.loop-i.invariant.1, wrote.ensures)
+    let same = c.read_some-tested.auto.sets in
+    (omega (arith, same), same ∙ c.loop-i.invariant.1, c.read_some-tested.ensures)
 
 sub-read-some : tie.Need-overflow_sub-sets invariant-loop decreases-loop
 sub-read-some c = omega arith

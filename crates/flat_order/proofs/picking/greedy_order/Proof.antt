@@ -44,8 +44,8 @@ abbrev begins : tie.After-put_parts invariant-loop decreases-loop → tie.Start 
 begins c = start (lent c.before)
 
 -- the parts put, before the first end is sought and after it
-abbrev put : tie.After-tight-end-arg invariant-loop decreases-loop → tie.After-put_parts invariant-loop decreases-loop
-put c = c.before.before.before.before.before
+abbrev put : tie.After-no_words-wait_high invariant-loop decreases-loop → tie.After-put_parts invariant-loop decreases-loop
+put c = c.before.before.before.before
 
 abbrev put_2 : tie.After-tight_end-v invariant-loop decreases-loop → tie.After-put_parts invariant-loop decreases-loop
 put_2 c = put c.before
@@ -71,7 +71,7 @@ searched c = c.before.before
 
 -- the turn in which a part is taken off: from those that still wait, and from the parts that are left
 abbrev chosen : tie.After-remove-waiting invariant-loop decreases-loop → tie.Else-n-x invariant-loop decreases-loop
-chosen c = c.before.before.before.before
+chosen c = c.before.before.before.before.before
 
 abbrev taken : tie.After-remove-left invariant-loop decreases-loop → tie.Else-n-x invariant-loop decreases-loop
 taken c = chosen c.before.before
@@ -84,8 +84,8 @@ abbrev before-raise : tie.After-raise-reached invariant-loop decreases-loop → 
 before-raise c = taken (cleared c)
 
 -- the levels raised, before the next end is sought
-abbrev raised : tie.After-tight-end-arg2 invariant-loop decreases-loop → tie.After-raise-reached invariant-loop decreases-loop
-raised c = c.before.before.before
+abbrev raised : tie.After-slice_known-in-loop-p-1 invariant-loop decreases-loop → tie.After-raise-reached invariant-loop decreases-loop
+raised c = c.before.before
 
 no-words-requires : tie.Need-no_words-firsts_low-requires invariant-loop decreases-loop
 no-words-requires c κs = search rules
@@ -126,7 +126,7 @@ loop-holds c =
       c.tight_end-v.ensures,
       (put_2 c).put_parts.ensures,
       before-none a.firsts.now (length a.lasts.now),
-      rw (c.before.before.before.no-words3.ensures, c.before.before.no-words4.ensures) (held_none a.all a.low.now a.high.now),
+      rw (c.no_words-wait_low.ensures, c.no_words-wait_high.ensures) (held_none a.all a.low.now a.high.now),
     )
 
 -- the position of a turn is one, and so is the end
@@ -134,15 +134,15 @@ module _ (c : tie.In-loop-p invariant-loop decreases-loop) where
   abbrev lasts : List ℕ
   lasts = (called c.before).args.lasts.now
 
-  position_in : c.before.loop.p < length lasts
+  position_in : c.before.loop-p.p < length lasts
   position_in = omega arith
 
   few : length lasts ≤ 128
   few = (called c.before).requires.0.parts
 
-  within : c.before.loop.v < length lasts
+  within : c.before.loop-p.v < length lasts
   within =
-      let l = c.before.loop in
+      let l = c.before.loop-p in
       end_in l.left lasts l.levels l.p l.invariant.3 l.invariant.2.count l.v (called c.before).requires.3 position_in l.invariant.4
 
 add-p : tie.Need-overflow_add-p invariant-loop decreases-loop
@@ -204,8 +204,8 @@ module _ (w : tie.After-wait_high-in-loop-p-1 invariant-loop decreases-loop) whe
   -- the parts begun at the position, and the candidates
   abbrev begun : PartSet
   begun =
-      let rows = (put_2 t.before).put_parts.last.1.1 in
-      joined t.loop-p.begun (row_at rows.0 rows.1.0 (t.loop-p.p + 1))
+      let rows = (put_2 t.before).put_parts.new in
+      joined t.loop-p.begun (row_at rows.low rows.high (t.loop-p.p + 1))
 
   begun-at : (y : ℕ) → has_part begun y ≡ (ltb y (length (lasts i)) && ltb (get_or s.args.firsts.now y 0) (t.loop-p.p + 1))
   begun-at = before_more s.args.firsts.now _ _ (length (lasts i)) t.loop-p.p t.loop-p.begun (omega (arith, position_in i, few i))
@@ -215,11 +215,11 @@ module _ (w : tie.After-wait_high-in-loop-p-1 invariant-loop decreases-loop) whe
   begun-is = o.before.before.join-begun.ensures ∙ ap (joined t.loop-p.begun) o.before.before.before.row.ensures
 
   abbrev among : PartSet
-  among = candidates_at t.loop-p.p t.loop-p.v (met t.loop-p.left begun) s.args.ends_low.now s.args.ends-high.now
+  among = candidates_at t.loop-p.p t.loop-p.v (met t.loop-p.left begun) s.args.ends_low.now s.args.ends_high.now
 
   among-is : o.candidates-among.result ≡ among
   among-is =
-      o.candidates-among.ensures ∙ ap (λ b. candidates_at t.loop-p.p t.loop-p.v b s.args.ends_low.now s.args.ends-high.now)
+      o.candidates-among.ensures ∙ ap (λ b. candidates_at t.loop-p.p t.loop-p.v b s.args.ends_low.now s.args.ends_high.now)
       (o.before.meet.ensures ∙ ap (met t.loop-p.left) begun-is)
 
   abbrev test : ℕ → Bool
@@ -251,15 +251,15 @@ module _ (w : tie.After-wait_high-in-loop-p-1 invariant-loop decreases-loop) whe
         (subst (λ y. T (test y)) (sym found) (lowest_passes test (length (lasts i)) k))
 
 same_length : tie.Need-shape_of-levels-then-n-x invariant-loop decreases-loop
-same_length c = (t c.before).loop.invariant.3.size ∙ sym (s c.before).requires.6.size
+same_length c = (t c.before).loop-p.invariant.3.size ∙ sym (s c.before).requires.6.size
 
 same-length-2 : tie.Need-shape_of-order-then-n-x invariant-loop decreases-loop
-same-length-2 c = (t c.before).loop.invariant.2.size ∙ sym (s c.before).requires.1
+same-length-2 c = (t c.before).loop-p.invariant.2.size ∙ sym (s c.before).requires.1
 
 returns : tie.Need-returns-then-n-x invariant-loop decreases-loop
 returns c =
     let w = c.before in
-    placing_stops _ _ _ _ _ _ _ (position_in (i w)) (t w).loop.invariant.2 (omega (arith, picked w, c.if-n-x.true))
+    placing_stops _ _ _ _ _ _ _ (position_in (i w)) (t w).loop-p.invariant.2 (omega (arith, picked w, c.if-n-x.true))
 
 -- the part found is one of the parts
 part_in : (c : tie.Else-n-x invariant-loop decreases-loop) → x c.before < length (lasts (i c.before))
@@ -269,7 +269,7 @@ cast-order : tie.Need-overflow_cast-order invariant-loop decreases-loop
 cast-order c = record { fits = omega (arith, part_in c, few (i c.before)) }
 
 slice-write-order : tie.Need-bounds-order-at invariant-loop decreases-loop
-slice-write-order c = let w = c.before in omega (arith, position_in (i w), (t w).loop.invariant.2.size)
+slice-write-order c = let w = c.before in omega (arith, position_in (i w), (t w).loop-p.invariant.2.size)
 
 slice-aggregate-row-3 : tie.Need-slice_bounds-row-end-in-loop-p-2 invariant-loop decreases-loop
 slice-aggregate-row-3 c = search rules
@@ -280,12 +280,12 @@ slice-aggregate-row-4 c = search rules
 -- those that wait, after the search
 held : (w : tie.After-wait_high-in-loop-p-1 invariant-loop decreases-loop)
     → (let f = (searched w).lowest_free-found in let a = (s w).args in
-    Held (t w).loop.left f.result.waiting a.low.now a.high.now f.last.1.1.1.1.1.1.0 f.last.1.1.1.1.1.1.1.0)
+    Held (t w).loop-p.left f.result.waiting a.low.now a.high.now f.new.wait_low f.new.wait_high)
 held w = (searched w).lowest_free-found.ensures.1
 
 row-requires-2 : tie.Need-row-requires-in-loop-p invariant-loop decreases-loop
 row-requires-2 c κs =
-    let d = c.before.before in
+    let d = c.before.before.before in
     let h = held d.before in
     (omega (arith, part_in d, few (i d.before), h.lows), omega (arith, part_in d, few (i d.before), h.highs))
 
@@ -318,7 +318,7 @@ raise-requires c κs =
 
 -- the levels raised
 levelled : (c : tie.After-raise-reached invariant-loop decreases-loop)
-    → (let w = (before-raise c).before in Levels (removed (t w).loop.left (single (x w))) (lasts (i w)) ((t w).loop.p + 1) c.raise-reached.new.levels)
+    → (let w = (before-raise c).before in Levels (removed (t w).loop-p.left (single (x w))) (lasts (i w)) ((t w).loop-p.p + 1) c.raise-reached.new.levels)
 levelled c =
     let d = before-raise c in
     let w = d.before in
@@ -352,7 +352,7 @@ loop-again c =
     let freed = q.before.before in
     let f = (searched w).lowest_free-found in
     let still : freed.remove-waiting.result
-    ≡ removed f.result.waiting (row_at f.last.1.1.1.1.1.1.0 f.last.1.1.1.1.1.1.1.0 (x w)) =
+    ≡ removed f.result.waiting (row_at f.new.wait_low f.new.wait_high (x w)) =
     freed.remove-waiting.ensures ∙ ap (removed f.result.waiting) freed.before.row-in-loop-p.ensures in (
       omega (arith, position_in (i w)),
       refl,

@@ -147,8 +147,8 @@ lowest-part-requires-3 c κs = search rules
 
 -- what is known of the candidates that are left
 rest : (c : tie.After-lowest_part-x-in-loop-x invariant-loop decreases-loop)
-    → (let l = (turn (other c).before).loop in IsLowest (removed l.rest (single l.x)) c.lowest_part-x-in-loop-x.result)
-rest c = rw (← (one (other c).before).single-part.ensures, ← c.before.remove-rest-in-loop-x.ensures) c.lowest_part-x-in-loop-x.ensures
+    → (let l = (turn (other c).before).loop-x in IsLowest (removed l.rest (single l.x)) c.lowest_part-x-in-loop-x.result)
+rest c = rw (← (one (other c).before).single_part-one.ensures, ← c.before.remove-rest-in-loop-x.ensures) c.lowest_part-x-in-loop-x.ensures
 
 waits : (c : tie.Else-b-ge128 invariant-loop decreases-loop)
     → (let t = turn c.before in let s = (begun t).args in
@@ -180,7 +180,7 @@ loop-again c =
           (trying_more a.n _ a.left a.low.now a.high.now l.rest l.x (begun t).requires.0 (inside o.before) l.invariant.0 _
           (waits o) (rest c)),
       rw (c.before.before.join-waiting.ensures, (one o.before).single_part-one.ensures)
-          (held_more _ _ _ _ _ _ l.invariant.1 l.x _ (found o) ((blocks o.before).found o.if-b-ge128.left)),
+          (held_more _ _ _ _ _ _ l.invariant.1 l.x _ (found o) ((blocks o.before).found o.if-b-ge128.false)),
       l.invariant.2,
       l.invariant.3,
     )

@@ -33,7 +33,7 @@ returns-2 c =
     let l = c.before.before.before.loop-v in
     record { from = l.invariant.0; most = l.invariant.1; full = λ _. c.if-level-v.true; none = l.invariant.2 }
 
-add-v : tie.Need-overflow_add-v invariant-loop decreases-loop
+add-v : tie.Need-overflow_add-v-in-loop-v invariant-loop decreases-loop
 add-v c = search rules
 
 loop-less : tie.Need-loop-v-smaller invariant-loop decreases-loop

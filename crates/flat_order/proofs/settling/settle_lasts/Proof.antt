@@ -32,15 +32,12 @@ start c = c.before.before.before.before.before.before
 abbrev begun : tie.At-loop-e invariant-loop decreases-loop → tie.Start invariant-loop decreases-loop
 begun t = start t.before
 
--- the turn, before the parts that end at its position are read; and once the lowest that is due is known
-abbrev entered : tie.After-row-arg2 invariant-loop decreases-loop → tie.In-loop-e invariant-loop decreases-loop
-entered c = c.before.before
-
-abbrev entered-2 : tie.After-lowest_part-b invariant-loop decreases-loop → tie.In-loop-e invariant-loop decreases-loop
-entered-2 a = entered a.before.before.before.before
+-- the turn, once the lowest that is due is known
+abbrev entered : tie.After-lowest_part-b invariant-loop decreases-loop → tie.In-loop-e invariant-loop decreases-loop
+entered a = a.before.before.before.before
 
 abbrev turn : tie.After-lowest_part-b invariant-loop decreases-loop → tie.At-loop-e invariant-loop decreases-loop
-turn a = (entered-2 a).before
+turn a = (entered a).before
 
 -- the lowest part sought, where none is due
 abbrev passed : tie.After-remove-gone invariant-loop decreases-loop → tie.After-lowest_part-b invariant-loop decreases-loop
@@ -72,14 +69,13 @@ position_in : (c : tie.In-loop-e invariant-loop decreases-loop) → c.before.loo
 position_in c = omega arith
 
 add_row : tie.Need-overflow_add-e invariant-loop decreases-loop
-add_row c = let t = entered c in record { fits = omega (arith, position_in t, parts_in t.before) }
+add_row c = record { fits = omega (arith, position_in c, parts_in c.before) }
 
 row-requires : tie.Need-row-requires invariant-loop decreases-loop
 row-requires c κs =
-    let t = entered c in
-    let l = t.before.loop-e in
-    let p = position_in t in
-    let n = parts_in t.before in
+    let l = c.before.loop-e in
+    let p = position_in c in
+    let n = parts_in c.before in
     (omega (arith, p, n, l.invariant.4.lows), omega (arith, p, n, l.invariant.4.highs))
 
 join-requires : tie.Need-join-requires invariant-loop decreases-loop
@@ -100,13 +96,13 @@ module _ (a : tie.After-lowest_part-b invariant-loop decreases-loop) where
   lasts₀ = (begun (t)).args.lasts.now
 
   abbrev ends : PartSet
-  ends = row_at t.loop-e.ends_low t.loop-e.ends-high (t.loop-e.e + 1)
+  ends = row_at t.loop-e.ends_low t.loop-e.ends_high (t.loop-e.e + 1)
 
   abbrev here : PartSet
   here = met (joined t.loop-e.due ends) t.loop-e.left
 
   in-turn : t.loop-e.e < length lasts₀
-  in-turn = position_in (entered-2 a)
+  in-turn = position_in (entered a)
 
   here-is : a.before.meet-here.result ≡ here
   here-is =
@@ -128,7 +124,7 @@ remove-requires c κs = search rules
 slice-write-levels : tie.Need-bounds-levels-e invariant-loop decreases-loop
 slice-write-levels c = let a = passed c in omega (arith, in-turn a, parts_in (turn a), (turn a).loop-e.invariant.4.size)
 
-add-e : tie.Need-overflow_add-e invariant-loop decreases-loop
+add-e : tie.Need-overflow_add-e-then-b-ge128 invariant-loop decreases-loop
 add-e c = let a = passed c in record { fits = omega (arith, in-turn a, parts_in (turn a)) }
 
 mul-ends-low : tie.Need-offset_bounds-ends_low-e invariant-loop decreases-loop

@@ -60,7 +60,7 @@ returns-2 : tie.Need-returns
 returns-2 c =
     let one = c.before.before.one_if.ensures in
     let kept = one.0 ∙ ap {B = ℕ} (λ b. cond b 1 0) c.before.before.before.line_stays.ensures in
-    ((kept, one.1), (c.before.code_count.ensures, c.after_Line.ensures))
+    ((kept, one.1), (c.before.code_count.ensures, c.after_line.ensures))
 
 pub mend_line_spec : {M : Type 1} → statement M
 mend_line_spec =

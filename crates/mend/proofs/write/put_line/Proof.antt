@@ -35,7 +35,7 @@ put-set-requires : tie.Need-put_set-requires
 put-set-requires c κs =
     let quantity = quantity-put c in
     let start = begun quantity in
-    omega (arith, room start, line_long start.args.version, quantity.put_quantity.kept.1.1.1.0)
+    omega (arith, room start, line_long start.args.version, quantity.put_quantity.auto.out)
 
 line-length-requires : tie.Need-line_length-requires
 line-length-requires c κs = search rules
@@ -43,7 +43,7 @@ line-length-requires c κs = search rules
 add-result : tie.Need-overflow_add-result
 add-result c =
     let start = begun-2 c in
-    omega (arith, room start, start.good, c.line_length.ensures)
+    omega (arith, room start, c.line_length.ensures)
 
 same_length : tie.Need-shape_of-out
 same_length c = search rules
@@ -59,7 +59,7 @@ returns c =
     let quantity = quantity-put set.before in
     record {
       place = ap (λ k. a.at + k) (c.line_length.ensures ∙ sym long);
-      bytes = line-put a.version a.set a.quantity a.at a.out.now start.fits.quantity.fits (room start)
+      bytes = line-put a.version a.set a.quantity a.at a.out.now start.ranges.quantity.fits (room start)
           quantity.put_quantity.ensures set.put_set.ensures
           ∙ ap (λ k. take a.at a.out.now ++ line_of a.version whole ++ drop (a.at + k) a.out.now) (sym long);
     }

@@ -63,7 +63,7 @@ abbrev entry : tie.After-quantity_in-quantity invariant-loop decreases-loop → 
 entry c = begun (turn c)
 
 abbrev version : tie.After-quantity_in-quantity invariant-loop decreases-loop → ℕ
-version c = (versioned (turn c)).version-in.result
+version c = (versioned (turn c)).version_in-version.result
 
 -- one line more
 next : (c : tie.After-quantity_in-quantity invariant-loop decreases-loop) →
@@ -111,7 +111,7 @@ loop-again c =
     let at = (turn b).loop-i in
     let set = b.before.set_in-set in
     let quantity = b.quantity_in-quantity in
-    let new = c.after_Line in (
+    let new = c.after_line-total in (
       pass_next _ _ _ at.i at.total set.result quantity.result at.invariant.0 b.before.before.loop-i-test.true set.ensures
           quantity.ensures new.result new.ensures.0 new.ensures.1,
       at.invariant.1,

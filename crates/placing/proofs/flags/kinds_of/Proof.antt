@@ -19,7 +19,7 @@ decreases-loop n parts fine₀ short₀ i₀ fine short i = n - i
 
 loop-holds : tie.Need-loop-i-init invariant-loop decreases-loop
 loop-holds c =
-    let parts = c.args.t1.parts in
+    let parts = c.args.parts.parts in
     (search rules, members_none (λ x. fine_pitch (part_at parts x)), members_none (λ x. not (part_at parts x).tall))
 
 mul-p : tie.Need-offset_bounds-parts-i invariant-loop decreases-loop
@@ -57,7 +57,7 @@ loop-again c =
     let first = c.before.before.before in
     let one = first.before.before.before in
     let t = one.before.before.before in
-    let parts = t.before.args.t1.parts in (
+    let parts = t.before.args.parts.parts in (
       search rules,
       rw (first.join-fine.ensures, first.before.when.ensures, first.before.before.is_fine.ensures, one.single_part-one.ensures)
           (members_more (λ x. fine_pitch (part_at parts x)) _ _ t.loop-i.invariant.1),

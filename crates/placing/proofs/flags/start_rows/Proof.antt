@@ -31,7 +31,7 @@ loop-holds : tie.Need-loop-b-init invariant-loop decreases-loop
 loop-holds c =
     let r = c.before.before.no_rows-rows in
     let m = c.before.before.before.before in
-    let z : Rowed m.before.args.t1 m.at_most_128-n.result 0 r.result = rw r.ensures (rowed_none _ _) in
+    let z : Rowed m.before.args.parts m.at_most_128-n.result 0 r.result = rw r.ensures (rowed_none _ _) in
     (search rules, omega (arith, m.at_most_128-n.ensures), z)
 
 mul-p : tie.Need-offset_bounds-parts-b invariant-loop decreases-loop
@@ -71,10 +71,10 @@ loop-again c =
     let rows = made.no_rows-rows.result in
     let a = m.before.args in
     let n = m.at_most_128-n.result in
-    let f : (x : ℕ) → x < n → has_part kinds.kinds_of-kinds.result.fine x ≡ fine_pitch (part_at a.t1.parts x) =
-    λ x k. kinds.kinds_of-kinds.ensures.fine x ∙ ap (λ z. z && fine_pitch (part_at a.t1.parts x)) (lt-ltb x n k) in
-    let s : (x : ℕ) → x < n → has_part kinds.kinds_of-kinds.result.short x ≡ not (part_at a.t1.parts x).tall =
-    λ x k. kinds.kinds_of-kinds.ensures.short x ∙ ap (λ z. z && not (part_at a.t1.parts x).tall) (lt-ltb x n k) in (
+    let f : (x : ℕ) → x < n → has_part kinds.kinds_of-kinds.result.fine x ≡ fine_pitch (part_at a.parts.parts x) =
+    λ x k. kinds.kinds_of-kinds.ensures.fine x ∙ ap (λ z. z && fine_pitch (part_at a.parts.parts x)) (lt-ltb x n k) in
+    let s : (x : ℕ) → x < n → has_part kinds.kinds_of-kinds.result.short x ≡ not (part_at a.parts.parts x).tall =
+    λ x k. kinds.kinds_of-kinds.ensures.short x ∙ ap (λ z. z && not (part_at a.parts.parts x).tall) (lt-ltb x n k) in (
       search rules,
       l.invariant.1,
       rw c.flag_row-row.ensures
@@ -86,7 +86,7 @@ returns : tie.Need-returns invariant-loop decreases-loop
 returns c =
     let l = c.before.loop-b in
     let m = c.before.before.before.before.before.before in
-    let e : m.at_most_128-n.result ≡ min m.before.args.t1.count 128 = m.at_most_128-n.ensures in
+    let e : m.at_most_128-n.result ≡ min m.before.args.parts.count 128 = m.at_most_128-n.ensures in
     let r = l.invariant.2 in
     record {
       parts = r.parts;

@@ -78,13 +78,13 @@ array-read-low : tie.Need-bounds-low-b invariant-loop decreases-loop
 array-read-low c = (named c.before).1
 
 array-write-low : tie.Need-bounds-low-b-in-loop-i invariant-loop decreases-loop
-array-write-low c = (named (judged c)).1
+array-write-low c = (named c.before.before).1
 
 mul-high : tie.Need-offset_bounds-high-b invariant-loop decreases-loop
-mul-high c = record { fits = omega (arith, named (judged c)) }
+mul-high c = record { fits = omega (arith, named c.before.before) }
 
 array-read-high : tie.Need-bounds-high-b invariant-loop decreases-loop
-array-read-high c = (named (judged c)).1
+array-read-high c = (named c.before.before).1
 
 array-write-high : tie.Need-bounds-high-b-in-loop-i invariant-loop decreases-loop
 array-write-high c = (named (judged c.before)).1

@@ -135,7 +135,7 @@ slice-aggregate-search c = sym (lent c.before)
 search-requires : tie.Need-search-requires
 search-requires c κs =
     let b = c.before in
-    (omega arith, lent b, omega (arith, (windowed (ruled b).before).first-bad-window.ensures))
+    (omega arith, lent b, omega (arith, (windowed (ruled b).before).first_bad_window-w.ensures))
 
 returns-5 : tie.Need-returns-then-not-search
 returns-5 c =
@@ -165,7 +165,7 @@ copy-order-requires c κs =
     let f = searched c.before in
     let a = (begun-3 f).args in
     let n = a.parts.count in
-    let t = take n (f.search.last.1.1.0 ++ drop n (roomed f).no_bytes-found.result) in
+    let t = take n (f.search.new.order ++ drop n (roomed f).no_bytes-found.result) in
     let e : length t ≡ n = length-take-le _ _ (room f) in
     let q : length t ≤ length a.order.now = omega (arith, e) in
     q
@@ -186,7 +186,7 @@ returns-6 c =
     let buffer = s.args.order.now in
     let n = s.args.parts.count in
     let few : n ≤ 128 = omega arith in
-    let o = f.search.last.1.1.0 in
+    let o = f.search.new.order in
     let z : f.search.result ≡ true = passes {x = f.search.result} refl given.before.if-not-search.false-raw in
     let known : some o ≡ placing_order parts rules = ap (λ b. cond b (some o) none) (sym z) ∙ f.search.ensures rules (r few) (rows-good h) in
     let e = one_order parts rules (length buffer) (omega (arith, size s)) (omega (arith, size s, w.ensures))

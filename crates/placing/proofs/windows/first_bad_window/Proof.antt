@@ -29,7 +29,7 @@ is-window-ok-requires : tie.Need-is_window_ok-requires invariant-loop decreases-
 is-window-ok-requires c κs = search rules
 
 returns : tie.Need-returns-then-not-is_window_ok invariant-loop decreases-loop
-returns c = window_is c.before.before.before.before.before.args.t1 c.before.before.before.before.loop-i.i
+returns c = window_is c.before.before.before.before.before.args.parts c.before.before.before.before.loop-i.i
     (omega arith) c.before.before.before.before.loop-i.invariant.2
     (λ _. fails c.before.is_window_ok.ensures c.if-not-is_window_ok.true-raw)
 
@@ -49,7 +49,7 @@ loop-again c
     )
 
 returns-2 : tie.Need-returns invariant-loop decreases-loop
-returns-2 c = window_is c.before.before.args.t1 c.before.loop-i.i (omega arith) c.before.loop-i.invariant.2
+returns-2 c = window_is c.before.before.args.parts c.before.loop-i.i (omega arith) c.before.loop-i.invariant.2
     (λ h. absurd (omega arith))
 
 pub first_bad_window_spec : {M : Type 1} → statement M
