@@ -43,63 +43,47 @@ lay-tip-at t = and 4 lay-tip-kinds.ps (is 4 lay-tip-kinds.ps μ-lay-tip t) lay-t
 abbrev lay-tip-below : ℕ → In 4 lay-tip-kinds.ps
 lay-tip-below t = and 4 lay-tip-kinds.ps (falls 4 lay-tip-kinds.ps ◌<◌ μ-lay-tip t) lay-tip.Pre
 
--- what the callees of each of the two ask and give, and its call's start
+-- what the callees of each of the two ask and give
 abbrev lay-interval-claims : ℕ → lay-interval-lts.Claims
 lay-interval-claims t = (find-tip-reads.Asked, find-tip-reads.Learnt, lay-tip-below t, lay-tip.Post)
 
 abbrev lay-tip-claims : ℕ → lay-tip-lts.Claims
 lay-tip-claims t = (own-runs-reads.Asked, own-runs-reads.Learnt, lay-interval-below t, lay-interval.Post)
 
-module _ (t : ℕ) where
-  abbrev interval : lay-interval-lts.After-slice-known (lay-interval-claims t) (lay-interval-at t) lay-interval.Post
-      → lay-interval-lts.Start (lay-interval-claims t) (lay-interval-at t) lay-interval.Post
-  interval c = c.before.before.before.before
-
-  abbrev own : lay-tip-lts.After-lay_interval-arg-1 (lay-tip-claims t) (lay-tip-at t) lay-tip.Post
-      → lay-tip-lts.After-own_runs (lay-tip-claims t) (lay-tip-at t) lay-tip.Post
-  own c = c.before.before.before
-
-  abbrev tip : lay-tip-lts.After-own_runs-arg-1 (lay-tip-claims t) (lay-tip-at t) lay-tip.Post
-      → lay-tip-lts.Start (lay-tip-claims t) (lay-tip-at t) lay-tip.Post
-  tip c = c.before.before.before.before.before
-
-lay-interval-find-tip-requires : (t : ℕ) → lay-interval-lts.Need-find-tip-requires (lay-interval-claims t) (lay-interval-at t) lay-interval.Post
+lay-interval-find-tip-requires : (t : ℕ) → lay-interval-lts.Need-find_tip-i-requires (lay-interval-claims t) (lay-interval-at t) lay-interval.Post
 lay-interval-find-tip-requires t c κs =
-    let (p, right) = (interval t c.before).requires.1 in
-    (p.filled, p.inside, c.if1.true, right)
+    let (p, right) = c.requires.1 in
+    (p.filled, p.inside, c.if-w-gt0.true, right)
 
-lay-interval-lay-tip-requires : (t : ℕ) → lay-interval-lts.Need-lay-tip-requires (lay-interval-claims t) (lay-interval-at t) lay-interval.Post
+lay-interval-lay-tip-requires : (t : ℕ) → lay-interval-lts.Need-lay_tip-requires (lay-interval-claims t) (lay-interval-at t) lay-interval.Post
 lay-interval-lay-tip-requires t c κs =
-    let s = interval t c.before.before.before in
-    let a = s.args in
-    let found = c.before.find-tip.ensures in
+    let a = c.args in
+    let found = c.find_tip-i.ensures in
     let l = pick_lt (on_head a.mounted) a.m a.sums.now a.table.now a.a a.w (omega arith) in
-    (omega (arith, s.requires.0), (s.requires.1.0, omega (arith, found, l), found, s.requires.1.1))
+    (omega (arith, c.requires.0), (c.requires.1.0, omega (arith, found, l), found, c.requires.1.1))
 
-lay-interval-same-length : (t : ℕ) → lay-interval-lts.Need-same-length (lay-interval-claims t) (lay-interval-at t) lay-interval.Post
-lay-interval-same-length t c = c.before.before.lay-tip.auto.1.1.1.1.1.1.1.1.0
+lay-interval-same-length : (t : ℕ) → lay-interval-lts.Need-shape_of-owner (lay-interval-claims t) (lay-interval-at t) lay-interval.Post
+lay-interval-same-length t c = c.lay_tip.auto.owner
 
-lay-interval-returns : (t : ℕ) → lay-interval-lts.Need-returns (lay-interval-claims t) (lay-interval-at t) lay-interval.Post
-lay-interval-returns t c = c.before.before.lay-tip.ensures
+lay-interval-returns : (t : ℕ) → lay-interval-lts.Need-returns-then-w-gt0 (lay-interval-claims t) (lay-interval-at t) lay-interval.Post
+lay-interval-returns t c = c.lay_tip.ensures
 
-lay-interval-returns-2 : (t : ℕ) → lay-interval-lts.Need-returns-2 (lay-interval-claims t) (lay-interval-at t) lay-interval.Post
+lay-interval-returns-2 : (t : ℕ) → lay-interval-lts.Need-returns-else-w-gt0 (lay-interval-claims t) (lay-interval-at t) lay-interval.Post
 lay-interval-returns-2 t c =
-    let s = interval t c.before in
-    let a = s.args in
+    let a = c.args in
     let pick = pick_by (on_head a.mounted) a.m a.sums.now a.table.now in
     let e : a.w ≡ 0 = omega arith in
-    rw e (laid_none a.m pick a.a a.owner.now s.requires.1.0.filled.1.good.some)
+    rw e (laid_none a.m pick a.a a.owner.now c.requires.1.0.filled.1.good.some)
 
 lay-tip-own-runs-requires : (t : ℕ) → lay-tip-lts.Need-own_runs-requires (lay-tip-claims t) (lay-tip-at t) lay-tip.Post
 lay-tip-own-runs-requires t c κs =
-    let (p, inside, _, _) = tip (t c).requires.1 in
+    let (p, inside, _, _) = c.requires.1 in
     (inside, p.inside, p.filled.1.good.most, p.places)
 
 lay-tip-lay-interval-requires : (t : ℕ) → lay-tip-lts.Need-lay_interval-requires (lay-tip-claims t) (lay-tip-at t) lay-tip.Post
 lay-tip-lay-interval-requires t c κs =
-    let o = own t c in
-    let (e, (p, inside, _, right)) = tip (t o.before).requires in
-    let size = o.own_runs.kept.1.1.1.1.0 in
+    let (e, (p, inside, _, right)) = c.requires in
+    let size = c.own_runs.auto.owner in
     (omega (arith, e), (record { filled = p.filled; inside = omega (arith, p.inside); places = rw size p.places }, right))
 
 lay-tip-add-lay-interval : (t : ℕ) → lay-tip-lts.Need-overflow_add-a (lay-tip-claims t) (lay-tip-at t) lay-tip.Post
@@ -116,30 +100,21 @@ lay-tip-sub-lay-interval t c = omega arith
 
 lay-tip-lay-interval-requires-2 : (t : ℕ) → lay-tip-lts.Need-lay_interval-requires-2 (lay-tip-claims t) (lay-tip-at t) lay-tip.Post
 lay-tip-lay-interval-requires-2 t c κs =
-    let first = c.before.before.before in
-    let o = own t first.before in
-    let (e, (p, inside, _, right)) = tip (t o.before).requires in
-    let size = first.lay-interval.auto.1.1.1.1.1.1.1.0 ∙ o.own_runs.kept.1.1.1.1.0 in
+    let (e, (p, inside, _, right)) = c.requires in
+    let size = c.lay_interval.auto.owner ∙ c.own_runs.auto.owner in
     (omega (arith, e), (record { filled = p.filled; inside = omega (arith, p.inside); places = rw size p.places }, right))
 
 lay-tip-same-length : (t : ℕ) → lay-tip-lts.Need-shape_of-owner (lay-tip-claims t) (lay-tip-at t) lay-tip.Post
 lay-tip-same-length t c =
-    let second = c.before.before in
-    let first = second.before.before.before.before in
-    let o = own t first.before in
-    second.lay-interval2.auto.1.1.1.1.1.1.1.0 ∙ first.lay-interval.auto.1.1.1.1.1.1.1.0 ∙ o.own_runs.kept.1.1.1.1.0
+    c.lay_interval-2.auto.owner ∙ c.lay_interval.auto.owner ∙ c.own_runs.auto.owner
 
 lay-tip-returns : (t : ℕ) → lay-tip-lts.Need-returns (lay-tip-claims t) (lay-tip-at t) lay-tip.Post
 lay-tip-returns t c =
-    let second = c.before.before in
-    let first = second.before.before.before.before in
-    let o = first.before.before.before.before in
-    let s = o.before.before.before.before.before.before in
-    let a = s.args in
+    let a = c.args in
     let pick = pick_by (on_head a.mounted) a.m a.sums.now a.table.now in
     let under = pick_lt (on_head a.mounted) a.m a.sums.now a.table.now in
-    rw (second.lay-interval2.ensures, first.lay-interval.ensures, o.own_runs.ensures, s.requires.1.2)
-    (laid_step a.m s.requires.1.0.filled.1.good.some pick under a.a a.w a.owner.now (omega arith))
+    rw (c.lay_interval-2.ensures, c.lay_interval.ensures, c.own_runs.ensures, c.requires.1.2)
+    (laid_step a.m c.requires.1.0.filled.1.good.some pick under a.a a.w a.owner.now (omega arith))
 
 pub +lay_interval_lay_tip_spec : {M : Type 1} → statement M
 +lay_interval_lay_tip_spec = close μ-lay-interval μ-lay-tip (λ t. lay-interval-lts.spec (lay-interval-claims t)

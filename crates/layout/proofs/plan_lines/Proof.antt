@@ -19,13 +19,8 @@ same-length-2 c = search rules
 
 returns : tie.Need-returns
 returns c =
-    let planned = c.before.before in
-    let laid = planned.before.before.before.before.before in
-    let s = laid.before.before.before.before.before.before.before.before in
-    let p = s.requires in
-    λ lines r.
-    planned.plan_owners.ensures
-    ∙ rw c.lay_interval.ensures (plan_laid (on_head s.args.mounted) r s.args.owner.now p.4 p.1 p.2)
+    let p = c.requires in
+    λ lines r. c.plan_owners.ensures ∙ rw c.lay_interval.ensures (plan_laid (on_head c.args.mounted) r c.args.owner.now p.4 p.1 p.2)
 
 pub plan_lines_spec : {M : Type 1} → statement M
 plan_lines_spec =

@@ -118,8 +118,7 @@ returns-2 c =
 
 shared-slice-read-quantity : tie.Need-bounds-quantities-i
 shared-slice-read-quantity c =
-    let s = counted c in
-    omega (arith, s.requires.2, s.requires.0.good.same)
+    omega (arith, c.requires.2, c.requires.0.good.same)
 
 sums-without-requires : tie.Need-sums_without-requires
 sums-without-requires c κs =
