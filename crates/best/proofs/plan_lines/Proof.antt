@@ -72,7 +72,7 @@ last-pairs m lines some e = ap (λ t. get_or t (m - 1) 0) e ∙ table-last m lin
 
 slice-read-result : tie.Need-bounds-table-m
 slice-read-result c =
-    let l = laid c in
+    let l = c.before.before.before.before.before in
     let u = united l.before in
     omega (arith, last-place _ (placed u) (some u) l.plan_runs.ensures.1)
 
@@ -103,7 +103,7 @@ mul-result-2 c = search rules
 
 slice-read-result-2 : tie.Need-bounds-table-m-2
 slice-read-result-2 c =
-    let n = named-2 c in
+    let n = named c.before.before.before.before in
     let u = united-2 n.before in
     omega (arith, last-place _ (placed u) (some u) n.plan_named.ensures.1)
 

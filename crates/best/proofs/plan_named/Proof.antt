@@ -92,7 +92,7 @@ spread-table-requires c κs =
     let planned = laid (named c).before in
     let l = listed-3 planned.before in
     let p = (begun-2 l).requires in
-    (p.0.good.most, l.list_tips-r.ensures.0, planned.plan_ranks.kept.1.1.1.1.1.0 ∙ p.3)
+    (p.0.good.most, l.list_tips-r.ensures.0, planned.plan_ranks.auto.table ∙ p.3)
 
 same_length : tie.Need-shape_of-sets
 same_length c = search rules

@@ -105,7 +105,7 @@ quick-bytes c = omega (arith, few c.before, c.plan_buffer-quick.ensures)
 best-bytes : (d : tie.Else-refusal-ne0) → (read d).read_lines-read.result.count ≤ length (shared (read d)).best_of_file-shared.new.plan
 best-bytes d =
     let laid = shared (read d) in
-    omega (arith, few d, laid.best_of_file-shared.kept.1.1.1.0, (best-buffer laid).plan_buffer-best.ensures)
+    omega (arith, few d, laid.best_of_file-shared.auto.plan, (best-buffer laid).plan_buffer-best.ensures)
 
 array-borrow-prefix-sets : tie.Need-slice_bounds-sets-end
 array-borrow-prefix-sets c = let d = c.before in (given d).room d.if-refusal-ne0.false

@@ -31,7 +31,7 @@ write-report-requires : tie.Need-write_report-requires
 write-report-requires c κs =
     let laid = quick c in
     let ((good, room), ((quick-size, best-size), _)) = (begun (common laid.before.before.before).before.before).requires in
-    let size = laid.quick-laid.kept.1.1.1.1.1.1.0 ∙ quick-size in
+    let size = laid.quick-laid.auto.plan ∙ quick-size in
     record { same_lines = best-size ∙ sym size; few-lines = omega (arith, size, good.few-lines); room = room }
 
 same_length : tie.Need-shape_of-lines
