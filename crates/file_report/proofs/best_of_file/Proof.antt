@@ -20,7 +20,7 @@ abbrev told : tie.After-struct_known-1 → tie.After-read_lines-read
 told c = c.before.before.before.before.before.before
 
 abbrev read : tie.Else-refusal-ne0 → tie.After-read_lines-read
-read d = told d.before
+read d = d.before.before.before.before.before.before.before
 
 abbrev begun : tie.Else-refusal-ne0 → tie.Start
 begun d = entered (read d).before.before.before

@@ -28,14 +28,14 @@ abbrev told : tie.After-struct_known-1 → tie.After-read_lines-read
 told c = c.before.before.before.before
 
 abbrev read : tie.Else-refusal-ne0 → tie.After-read_lines-read
-read d = told d.before
+read d = d.before.before.before.before.before
 
 -- the quick plan's buffer, from its part that is lent and from the last argument of the text
 abbrev quick-buffer : tie.After-quick-1 → tie.After-plan_buffer-quick
 quick-buffer c = c.before.before.before
 
 abbrev quick-buffer-2 : tie.After-write_lines-arg-1 → tie.After-plan_buffer-quick
-quick-buffer-2 c = quick-buffer c.before.before
+quick-buffer-2 c = c.before.before.before.before.before
 
 no-sets-requires : tie.Need-no_sets-sets-requires
 no-sets-requires c κs = search rules

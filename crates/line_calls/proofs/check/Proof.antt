@@ -55,7 +55,7 @@ slice-aggregate-check-plan-2 c = sym (length-take-le _ _ (bytes c.before))
 check-plan-requires : tie.Need-check_plan-requires
 check-plan-requires c κs =
     let named = c.before.before in
-    let d = named.before.before in (
+    let d = c.before in (
       record { good = (begun (asked d)).requires.good (free d).free; runs = (free d).runs; all = c.names_of.ensures },
       length-take-le _ _ (bytes d) ∙ count d,
       (free d).cells,

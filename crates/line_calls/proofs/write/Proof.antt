@@ -46,7 +46,7 @@ abbrev found : tie.After-write_refusal-refusal → tie.After-version_for-version
 found w = w.before
 
 abbrev started : tie.After-write_refusal-refusal → tie.Else-earlier-ne0
-started w = (found w).before.before
+started w = w.before.before
 
 returns-2 : tie.Need-returns-then-refusal-ne0
 returns-2 c =

@@ -73,14 +73,14 @@ abbrev merged : tie.After-struct_known-2-1 → tie.After-merge-refusal
 merged c = c.before.before.before.before
 
 abbrev merged-2 : tie.After-write-arg-1 → tie.After-merge-refusal
-merged-2 c = merged c.before.before.before
+merged-2 c = c.before.before.before.before.before.before.before
 
 -- the bytes of both
 abbrev known : tie.After-first_of → tie.After-shared_slice_known-2-1
-known of = (read-first-2 of).before.before.before.before.before.before
+known of = of.before.before.before.before.before.before.before.before.before.before.before.before.before.before.before.before.before.before
 
 abbrev begun : tie.After-first_of → tie.Start
-begun of = (known of).before.before
+begun of = of.before.before.before.before.before.before.before.before.before.before.before.before.before.before.before.before.before.before.before.before
 
 bytes : (of : tie.After-first_of) → Bytes (begun of).args.first.now
 bytes of = all_get_d 0 (begun of).args.first.now (λ i l. ((known of).shared_slice_known-1.given i).fits)

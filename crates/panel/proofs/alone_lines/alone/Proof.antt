@@ -57,7 +57,7 @@ abbrev laid : tie.After-slice_known-5-1 → tie.After-quick-first
 laid c = c.before.before.before.before
 
 abbrev tried : tie.After-slice_known-5-1 → tie.Else-refusal-ne0
-tried c = (laid c).before.before.before
+tried c = c.before.before.before.before.before.before.before
 
 sub-quick : tie.Need-slice_bounds-quick-count
 sub-quick c = omega (arith, few (tried c.before), (laid c.before).quick-first.auto)

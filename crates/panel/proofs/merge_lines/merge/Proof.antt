@@ -37,7 +37,7 @@ returns c =
 
 -- nothing is refused: the racks are the same, and lines and placements together are few
 abbrev start : tie.Else-refusal-ne0 → tie.Start
-start d = begun d.before.before.before.before
+start d = d.before.before.before.before.before.before.before
 
 record Known (a : tie.Start) : Type 0 where
   room : a.args.other_count ≤ length a.args.other-sets.now
