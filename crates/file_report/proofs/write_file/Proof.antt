@@ -85,15 +85,15 @@ plan-buffer-requires-2 c κs = search rules
 -- nothing is refused: the sets and the quantities hold good lines
 given : (d : tie.Else-refusal-ne0)
     → let r = (read d).read_lines-read in
-    Given r.result.refusal r.result.rack r.result.count r.last.1.1.0 r.last.1.0
+    Given r.result.refusal r.result.rack r.result.count r.new.quantities r.new.sets
 given d = let (_, (_, (_, g))) = (read d).read_lines-read.ensures in g
 
 good : (d : tie.Else-refusal-ne0) → let r = (read d).read_lines-read in
-    GoodLines r.result.rack (take r.result.count r.last.1.1.0) (take r.result.count r.last.1.0)
-good d = (given d).well-formed d.if-refusal-ne0.false
+    GoodLines r.result.rack (take r.result.count r.new.quantities) (take r.result.count r.new.sets)
+good d = (given d).good d.if-refusal-ne0.false
 
 -- each of them is in the sets, and has a byte in a plan
-size : (d : tie.Else-refusal-ne0) → let r = (read d).read_lines-read in length (take r.result.count r.last.1.0) ≡ r.result.count
+size : (d : tie.Else-refusal-ne0) → let r = (read d).read_lines-read in length (take r.result.count r.new.sets) ≡ r.result.count
 size d = length-take-le _ _ ((given d).room d.if-refusal-ne0.false)
 
 few : (d : tie.Else-refusal-ne0) → (read d).read_lines-read.result.count ≤ most_lines

@@ -25,12 +25,12 @@ refuse-requires-2 : tie.Need-refuse-requires-2
 refuse-requires-2 c κs = search rules
 
 quick-requires : tie.Need-quick-laid-requires
-quick-requires c κs = given_whole (begun (common c.before.before).before.before).requires.0.0
+quick-requires c κs = given_whole c.requires.0.0
 
 write-report-requires : tie.Need-write_report-requires
 write-report-requires c κs =
     let laid = quick c in
-    let ((good, room), ((quick-size, best-size), _)) = (begun (common laid.before.before.before).before.before).requires in
+    let ((good, room), ((quick-size, best-size), _)) = c.requires in
     let size = laid.quick-laid.auto.plan ∙ quick-size in
     record { same_lines = best-size ∙ sym size; few-lines = omega (arith, size, good.few-lines); room = room }
 

@@ -77,6 +77,12 @@ alone-requires c κs =
       given_second _ _ e f g lines second-lines (λ z. same_lines (read z)) (λ z. same_lines (second-read z)),
     )
 
+cast-result : tie.Need-overflow_cast-result
+cast-result c = search rules
+
+cast-result-2 : tie.Need-overflow_cast-result-2
+cast-result-2 c = search rules
+
 same_length : tie.Need-shape_of-plan
 same_length c = search rules
 
@@ -109,5 +115,7 @@ alone_outcome_spec =
     slice-aggregate-alone-3
     slice-aggregate-alone-4
     alone-requires
+    cast-result
+    cast-result-2
     same_length
     returns)

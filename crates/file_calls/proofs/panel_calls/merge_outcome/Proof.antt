@@ -91,7 +91,7 @@ second-bytes of = all_get_d 0 (begun of).args.second.now (λ i l. ((known of).sh
 -- the lines of both, under the first refusal of the two
 first-lines : (of : tie.After-first_of)
     → let r = (read-first-2 of).read_lines-read in
-    Given of.first_of.result r.result.rack r.result.count r.last.1.1.0 r.last.1.0
+    Given of.first_of.result r.result.rack r.result.count r.new.quantities r.new.sets
 first-lines of =
     let (e, (read, (_, lines))) = (read-first-2 of).read_lines-read.ensures in
     let (f, (second-read, (_, second-lines))) = (read-second of).read_lines-other.ensures in
@@ -99,7 +99,7 @@ first-lines of =
 
 second-lines : (of : tie.After-first_of)
     → let r = (read-second of).read_lines-other in
-    Given of.first_of.result r.result.rack r.result.count r.last.1.1.0 r.last.1.0
+    Given of.first_of.result r.result.rack r.result.count r.new.quantities r.new.sets
 second-lines of =
     let (e, (read, (_, lines))) = (read-first-2 of).read_lines-read.ensures in
     let (f, (second-read, (_, others))) = (read-second of).read_lines-other.ensures in

@@ -30,7 +30,7 @@ returns c =
     let f = c.if-refusal-ne0.true in (
       merge_counts _ g h asked.merge_refusal-refusal.ensures,
       (
-        merge_stays r f (take a.count a.sets.now) (take a.other_count a.other-sets.now) a.sets.now,
+        merge_stays r f (take a.count a.sets.now) (take a.other_count a.other_sets.now) a.sets.now,
         merge_stays r f (take a.count a.quantities.now) (take a.other_count a.other_quantities.now) a.quantities.now,
       ),
     )
@@ -40,7 +40,7 @@ abbrev start : tie.Else-refusal-ne0 → tie.Start
 start d = d.before.before.before.before.before.before.before
 
 record Known (a : tie.Start) : Type 0 where
-  room : a.args.other_count ≤ length a.args.other-sets.now
+  room : a.args.other_count ≤ length a.args.other_sets.now
   quantity-room : a.args.other_count ≤ length a.args.other_quantities.now
   few : a.args.count + a.args.other_count ≤ most_lines
   sets-full : length a.args.sets.now ≡ most_lines
@@ -82,7 +82,7 @@ put-sets-requires c κs =
       arith,
       k.few,
       k.sets-full,
-      length-take-le a.other_count a.other-sets.now k.room,
+      length-take-le a.other_count a.other_sets.now k.room,
       mid_len a.count (length a.sets.now) a.sets.now (omega arith),
     )
 
