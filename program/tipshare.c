@@ -1,6 +1,6 @@
 /*
  * The program tipshare: reads one job file from standard input, and writes what the proved library says of it.
- * In C because a Rattle program has no exit status and takes no notice of a read or write that failed.
+ * In C because, when it was written, a Rattle program had no exit status and took no notice of a read or write that failed.
  */
 #include "tipshare.h"
 
