@@ -6,9 +6,19 @@ may hold several edits, each begun by the two lines `wrong: LABEL` and `refused:
 and no proof of one function looks into another, so that one check of the crate tells for each whether it is refused.
 """
 
+import contextlib
 import pathlib
+import re
+import shutil
+import tempfile
 
 FOLDERS = ("must-fail", "mutants")
+# What a check of a crate reads and writes; what is proved already is copied too.
+COPIED = ("crates.txt", "crates")
+# What only follows from an error elsewhere.
+FOLLOWS = re.compile(r"was not (admitted|checked)")
+ERROR = re.compile(r"(?:\./)?(\S+?):\d+:\d+: error: (`[^`]*`: )?(.*)")
+NO_NAME = re.compile(r"is not in scope|has no field|is no name|operand is missing|expected the end|cannot continue")
 
 
 class Edit:
@@ -72,3 +82,34 @@ def edits_of(crate_folder, folder):
 def all_edits(root=pathlib.Path(".")):
     crates = sorted(path for path in (root / "crates").iterdir() if path.is_dir())
     return [edit for folder in FOLDERS for crate in crates for edit in edits_of(crate, folder)]
+
+
+@contextlib.contextmanager
+def scratch_folder():
+    """A folder that is gone at the end, however that comes."""
+    folder = pathlib.Path(tempfile.mkdtemp(prefix="edits-"))
+    try:
+        yield folder
+    finally:
+        # What a prover that was ended had begun may still appear.
+        while folder.exists():
+            shutil.rmtree(folder, ignore_errors=True)
+
+
+def copy_crates(root, folder):
+    """A copy of the crates in a new folder, in which they can be changed and checked."""
+    folder.mkdir()
+    for part in COPIED:
+        if (root / part).is_dir():
+            shutil.copytree(root / part, folder / part, symlinks=True)
+        else:
+            shutil.copy(root / part, folder / part)
+
+
+def is_unread(line):
+    """Whether the prover says here that it could not read a text of src/ or specs/: that refuses no program."""
+    error = ERROR.match(line)
+    if not error or not error[1].startswith(("src/", "specs/")) or FOLLOWS.search(line):
+        return False
+    # A statement that is only false is told by its name.
+    return not error[2] or bool(NO_NAME.search(re.sub(r"`[^`]*`", "", error[3])))
