@@ -38,7 +38,7 @@ use Rattle.board.proofs.Sets.{Full, ReadyBoard, ready, state-free, lines-count}
 use Rattle.sorts.specs.Order.{SameCounts, Hides}
 use Rattle.sorts.specs.Boards.{SoundClosed, Reordered, LongEnough, AlikeBySet, AlikeByPart, SameAnswers}
 use Rattle.sorts.proofs.Counts.{placements-counts, lines-counts}
-use Rattle.sorts.proofs.Hidden.{order_hidden}
+use Rattle.sorts.proofs.HiddenOrder.{order_hidden}
 use Rattle.sorts.proofs.Refusals.{or_number, scan-number, lent_at, lent_front}
 
 table-length : (m : ℕ) (lines : List ℕ) → length (table m lines) ≡ m * m

@@ -1,5 +1,5 @@
 pub mod Counts
-pub mod Hidden
+pub mod HiddenOrder
 pub mod Refusals
 pub mod Boards
 pub mod Example
