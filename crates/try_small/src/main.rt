@@ -336,7 +336,15 @@ fn by_placements<W: Write>(out: &mut W) -> io::Result<()> {
     let total = try_placed(out, 2, 1, 3, 3, 2, total)?;
     let total = try_placed(out, 2, 2, 3 * 3, 3 * 3, 2 * 2, total)?;
     let total = try_placed(out, 2, 3, 3 * 3 * 3, 3 * 3 * 3, 2 * 2 * 2, total)?;
-    let total = try_placed(out, 2, 4, 3 * 3 * 3 * 3, 3 * 3 * 3 * 3, 2 * 2 * 2 * 2, total)?;
+    let total = try_placed(
+        out,
+        2,
+        4,
+        3 * 3 * 3 * 3,
+        3 * 3 * 3 * 3,
+        2 * 2 * 2 * 2,
+        total,
+    )?;
     let total = try_placed(out, 3, 1, 7, 3, 3, total)?;
     let total = try_placed(out, 3, 2, 7 * 7, 3 * 3, 3 * 3, total)?;
     let total = try_placed(out, 3, 3, 7 * 7 * 7, 3 * 3 * 3, 3 * 3 * 3, total)?;
