@@ -9,6 +9,8 @@ use crate::words::{
 };
 use board::{Answer, Board, Shared, Written};
 use head::Mounted;
+use std::io;
+use std::io::Write;
 use try_lib::{junk_file, junk_plan, junk_table, size, sum};
 
 // What junk_plan and junk_file, and junk_table, are filled with.
@@ -40,29 +42,29 @@ pub(crate) struct Numbers {
     pub(crate) e: u64,
 }
 
-fn show_number(number: u32, place: usize) {
-    say(NUMBER, number as u64);
-    say(PLACE, place as u64);
+fn show_number<W: Write>(out: &mut W, number: u32, place: usize) -> io::Result<()> {
+    say(out, NUMBER, number as u64)?;
+    say(out, PLACE, place as u64)
 }
 
 // The answer's board is the next one.
-fn answered(state: State, answer: Answer) -> State {
+fn answered<W: Write>(out: &mut W, state: State, answer: Answer) -> io::Result<State> {
     let mut next = state;
     let given = next.board;
     let back = answer.board;
-    show_number(answer.number, answer.place);
-    show_board(given, back);
+    show_number(out, answer.number, answer.place)?;
+    show_board(out, given, back)?;
     next.board = back;
-    next
+    Ok(next)
 }
 
-pub(crate) fn open(state: State, numbers: Numbers) -> State {
-    answered(state, Board::open(numbers.a as usize))
+pub(crate) fn open<W: Write>(out: &mut W, state: State, numbers: Numbers) -> io::Result<State> {
+    answered(out, state, Board::open(numbers.a as usize))
 }
 
-pub(crate) fn close(state: State) -> State {
+pub(crate) fn close<W: Write>(out: &mut W, state: State) -> io::Result<State> {
     let board = state.board;
-    answered(state, board.close())
+    answered(out, state, board.close())
 }
 
 // How far the i-th line is moved.
@@ -77,7 +79,7 @@ fn turned(i: u64, turns: u64) -> u64
 }
 
 // Adds lines one by one, and shows the answer to the last, with all that they changed.
-pub(crate) fn fill(state: State, numbers: Numbers) -> State {
+pub(crate) fn fill<W: Write>(out: &mut W, state: State, numbers: Numbers) -> io::Result<State> {
     let times = room(numbers.a, MOST_TIMES);
     let set = numbers.b;
     let sets = numbers.c;
@@ -94,11 +96,12 @@ pub(crate) fn fill(state: State, numbers: Numbers) -> State {
         let placed = byte(sum(quantity, turned(i as u64, quantities)));
         answer = given.add(set << turned(i as u64, sets), placed);
     }
-    answered(state, answer)
+    answered(out, state, answer)
 }
 
-pub(crate) fn add(state: State, numbers: Numbers) -> State {
+pub(crate) fn add<W: Write>(out: &mut W, state: State, numbers: Numbers) -> io::Result<State> {
     fill(
+        out,
         state,
         Numbers {
             a: 1,
@@ -110,37 +113,37 @@ pub(crate) fn add(state: State, numbers: Numbers) -> State {
     )
 }
 
-pub(crate) fn common(state: State) -> State {
+pub(crate) fn common<W: Write>(out: &mut W, state: State) -> io::Result<State> {
     let board = state.board;
     let answer = board.common_tip();
     let back = answer.board;
-    show_number(answer.number, answer.place);
-    say(TOP, answer.top as u64);
-    say(OFF, answer.off as u64);
-    say(TIPS, answer.tips);
-    show_board(board, back);
-    state
+    show_number(out, answer.number, answer.place)?;
+    say(out, TOP, answer.top as u64)?;
+    say(out, OFF, answer.off as u64)?;
+    say(out, TIPS, answer.tips)?;
+    show_board(out, board, back)?;
+    Ok(state)
 }
 
 fn bound(k: u64) -> u16 {
     if k < 65536 { k as u16 } else { 65535 }
 }
 
-fn show_margin(margin: i32) {
+fn show_margin<W: Write>(out: &mut W, margin: i32) -> io::Result<()> {
     let words = if margin < 0 { BELOW } else { MARGIN };
-    say(words, size(margin));
+    say(out, words, size(margin))
 }
 
-pub(crate) fn keep(state: State, numbers: Numbers) -> State {
+pub(crate) fn keep<W: Write>(out: &mut W, state: State, numbers: Numbers) -> io::Result<State> {
     let mut next = state;
     let board = next.board;
     let answer = board.keep(bound(numbers.a));
     let back = answer.board;
-    show_number(answer.number, answer.place);
-    show_margin(answer.margin);
-    show_board(board, back);
+    show_number(out, answer.number, answer.place)?;
+    show_margin(out, answer.margin)?;
+    show_board(out, board, back)?;
     next.held = back;
-    next
+    Ok(next)
 }
 
 // How much of a buffer an accepted call writes; a refused one writes none of it.
@@ -161,17 +164,17 @@ fn quick_in(board: Board, on: Mounted, plan: &mut [u8], lent: u64) -> Shared {
     board.quick(on, &mut plan[..room])
 }
 
-pub(crate) fn quick(state: State, numbers: Numbers) -> State {
+pub(crate) fn quick<W: Write>(out: &mut W, state: State, numbers: Numbers) -> io::Result<State> {
     let board = state.board;
     let mut plan = junk_plan();
     let answer = quick_in(board, mounted(numbers.b), &mut plan, numbers.a);
     let back = answer.board;
-    show_number(answer.number, answer.place);
-    say(PAIRS, answer.pairs as u64);
-    word(PLAN);
-    show_bytes(&plan, BLANK, written(answer.number, board.count));
-    show_board(board, back);
-    state
+    show_number(out, answer.number, answer.place)?;
+    say(out, PAIRS, answer.pairs as u64)?;
+    word(out, PLAN)?;
+    show_bytes(out, &plan, BLANK, written(answer.number, board.count))?;
+    show_board(out, board, back)?;
+    Ok(state)
 }
 
 fn best_in(
@@ -192,7 +195,7 @@ fn square(rack: usize) -> usize {
     if rack <= 64 { rack * rack } else { 0 }
 }
 
-pub(crate) fn best(state: State, numbers: Numbers) -> State {
+pub(crate) fn best<W: Write>(out: &mut W, state: State, numbers: Numbers) -> io::Result<State> {
     let board = state.board;
     let mut plan = junk_plan();
     let mut table = junk_table();
@@ -205,18 +208,19 @@ pub(crate) fn best(state: State, numbers: Numbers) -> State {
         numbers.b,
     );
     let back = answer.board;
-    show_number(answer.number, answer.place);
-    say(PAIRS, answer.pairs as u64);
-    word(PLAN);
-    show_bytes(&plan, BLANK, written(answer.number, board.count));
-    word(TABLE);
+    show_number(out, answer.number, answer.place)?;
+    say(out, PAIRS, answer.pairs as u64)?;
+    word(out, PLAN)?;
+    show_bytes(out, &plan, BLANK, written(answer.number, board.count))?;
+    word(out, TABLE)?;
     show_places(
+        out,
         &table,
         BLANK_PLACE,
         written(answer.number, square(board.rack)),
-    );
-    show_board(board, back);
-    state
+    )?;
+    show_board(out, board, back)?;
+    Ok(state)
 }
 
 fn write_in(board: Board, file: &mut [u8], lent: u64) -> Written {
@@ -224,19 +228,19 @@ fn write_in(board: Board, file: &mut [u8], lent: u64) -> Written {
     board.write(&mut file[..room])
 }
 
-pub(crate) fn write(state: State, numbers: Numbers) -> State {
+pub(crate) fn write<W: Write>(out: &mut W, state: State, numbers: Numbers) -> io::Result<State> {
     let mut next = state;
     let board = next.board;
     let mut file = junk_file();
     let answer = write_in(board, &mut file, numbers.a);
     let back = answer.board;
-    show_number(answer.number, answer.place);
-    say(BYTES, answer.bytes as u64);
-    word(FILE);
-    show_bytes(&file, BLANK, answer.bytes);
-    show_board(board, back);
+    show_number(out, answer.number, answer.place)?;
+    say(out, BYTES, answer.bytes as u64)?;
+    word(out, FILE)?;
+    show_bytes(out, &file, BLANK, answer.bytes)?;
+    show_board(out, board, back)?;
     next.file = file;
-    next
+    Ok(next)
 }
 
 fn read_in(file: &[u8], length: u64) -> Answer {
@@ -244,44 +248,44 @@ fn read_in(file: &[u8], length: u64) -> Answer {
     Board::read(&file[..length])
 }
 
-pub(crate) fn read(state: State, numbers: Numbers) -> State {
+pub(crate) fn read<W: Write>(out: &mut W, state: State, numbers: Numbers) -> io::Result<State> {
     let mut next = state;
     let file = next.file;
     let once = with_number(file, numbers.b, numbers.c, 1);
     let bytes = with_number(once, numbers.d, numbers.e, 1);
-    let shown = answered(state, read_in(&bytes, numbers.a));
+    let shown = answered(out, state, read_in(&bytes, numbers.a))?;
     let back = shown.board;
     next.held = back;
-    next
+    Ok(next)
 }
 
 // The record in a stage, then each call on it.
-pub(crate) fn every(state: State, numbers: Numbers) -> State {
+pub(crate) fn every<W: Write>(out: &mut W, state: State, numbers: Numbers) -> io::Result<State> {
     let mut record = state;
     let given = state.board;
     let board = with_field(given, STAGE, numbers.a);
     record.board = board;
-    word(RECORD);
-    show_board(Board::open(1).board, board);
+    word(out, RECORD)?;
+    show_board(out, Board::open(1).board, board)?;
     let mut few = numbers;
     few.a = 1;
     few.b = 1;
-    word(ADD);
-    add(record, few);
-    word(CLOSE);
-    close(record);
-    word(COMMON);
-    common(record);
+    word(out, ADD)?;
+    add(out, record, few)?;
+    word(out, CLOSE)?;
+    close(out, record)?;
+    word(out, COMMON)?;
+    common(out, record)?;
     few.a = 5;
-    word(KEEP);
-    keep(record, few);
+    word(out, KEEP)?;
+    keep(out, record, few)?;
     few.a = NOT_GIVEN;
     few.b = NOT_GIVEN;
-    word(QUICK);
-    quick(record, few);
-    word(BEST);
-    best(record, few);
-    word(WRITE);
-    write(record, few);
-    state
+    word(out, QUICK)?;
+    quick(out, record, few)?;
+    word(out, BEST)?;
+    best(out, record, few)?;
+    word(out, WRITE)?;
+    write(out, record, few)?;
+    Ok(state)
 }

@@ -13,8 +13,12 @@ use crate::words::{
     QUICK, RACK, READ, SET, STAGE, TAKE, WRITE,
 };
 use board::Board;
-use libc::{STDIN_FILENO, STDOUT_FILENO};
-use try_lib::{junk_file, sum, text, wide};
+use std::io;
+use std::io::{BufWriter, Read, Write};
+use try_lib::{junk_file, number, sum, text, wide};
+
+// The most bytes of a script that are read.
+const MOST: u64 = 65536;
 
 // A line of the script as far as it is read: its word and its numbers, the one of them that is read and its base, the one that runs and from where.
 // Where none runs, the last one does, from 0 to 0.
@@ -114,57 +118,58 @@ fn changed(state: State, word: u64, numbers: Numbers) -> State {
     next
 }
 
-fn run(state: State, word: u64, numbers: Numbers) -> State {
+fn run<W: Write>(out: &mut W, state: State, word: u64, numbers: Numbers) -> io::Result<State> {
     match word {
-        OPEN => calls::open(state, numbers),
-        ADD => calls::add(state, numbers),
-        FILL => calls::fill(state, numbers),
-        CLOSE => calls::close(state),
-        COMMON => calls::common(state),
-        KEEP => calls::keep(state, numbers),
-        QUICK => calls::quick(state, numbers),
-        BEST => calls::best(state, numbers),
-        WRITE => calls::write(state, numbers),
-        READ => calls::read(state, numbers),
-        EVERY => calls::every(state, numbers),
-        _ => changed(state, word, numbers),
+        OPEN => calls::open(out, state, numbers),
+        ADD => calls::add(out, state, numbers),
+        FILL => calls::fill(out, state, numbers),
+        CLOSE => calls::close(out, state),
+        COMMON => calls::common(out, state),
+        KEEP => calls::keep(out, state, numbers),
+        QUICK => calls::quick(out, state, numbers),
+        BEST => calls::best(out, state, numbers),
+        WRITE => calls::write(out, state, numbers),
+        READ => calls::read(out, state, numbers),
+        EVERY => calls::every(out, state, numbers),
+        _ => Ok(changed(state, word, numbers)),
     }
 }
 
 // The numbers of a line, with a value for the one that runs; it is printed before what is answered.
-fn numbers_of(line: Line, value: u64) -> Numbers {
+fn numbers_of<W: Write>(out: &mut W, line: Line, value: u64) -> io::Result<Numbers> {
     let mut parts = line.parts;
     let runs = line.runs;
     if runs < 6 {
         parts[runs] = value;
-        io::print_decimal(STDOUT_FILENO, value);
+        number(out, value)?;
     }
-    Numbers {
+    Ok(Numbers {
         a: parts[1],
         b: parts[2],
         c: parts[3],
         d: parts[4],
         e: parts[5],
-    }
+    })
 }
 
 // Runs a line for each value of the number that runs.
-fn run_line(state: State, line: Line) -> State {
+fn run_line<W: Write>(out: &mut W, state: State, line: Line) -> io::Result<State> {
     let mut now = state;
     let runs = line.runs;
     if 6 < runs {
-        return now;
+        return Ok(now);
     }
     let word = line.parts[0];
     let until = sum(line.parts[runs], 1);
     for value in line.first..until {
-        now = run(now, word, numbers_of(line, value));
+        let numbers = numbers_of(out, line, value)?;
+        now = run(out, now, word, numbers)?;
     }
-    now
+    Ok(now)
 }
 
 // Each line of the script is printed before it is run.
-fn run_script(script: &[u8]) {
+fn run_script<W: Write>(out: &mut W, script: &[u8]) -> io::Result<()> {
     let board = Board::open(1).board;
     let file = junk_file();
     let mut state = State {
@@ -175,18 +180,21 @@ fn run_script(script: &[u8]) {
     let mut line = new_line();
     for i in 0..script.len() {
         let byte = script[i];
-        text(&[byte]);
+        text(out, &[byte])?;
         if byte == b'\n' {
-            state = run_line(state, line);
+            state = run_line(out, state, line)?;
             line = new_line();
         } else {
             line = with_byte(line, byte);
         }
     }
+    Ok(())
 }
 
-fn main() {
-    let mut script = io::large_buffer();
-    let length = io::read_full(STDIN_FILENO, &mut script);
-    run_script(&script[..length]);
+fn main(rt: HostRuntime) -> io::Result<()> {
+    let mut script = Vec::new(rt.alloc());
+    rt.reader().take(MOST).read_to_end(&mut script)?;
+    let mut out = BufWriter::new(rt.alloc(), io::writer(&rt))?;
+    run_script(&mut out, script.as_slice())?;
+    out.flush()
 }

@@ -1,7 +1,8 @@
 // How a call's answer is printed: words with their numbers, buffers and boards.
 use crate::words::{BEHIND, BOARD, CHANGED, COUNT, QUANTITY, RACK, SETS, STAGE, SUM};
 use board::Board;
-use libc::STDOUT_FILENO;
+use std::io;
+use std::io::Write;
 use try_lib::{closed, differences, sum, text, wide};
 
 // How many values are shown one by one.
@@ -10,9 +11,9 @@ const SHOWN: usize = 32;
 // A set with one tip more or less has another remainder.
 const PRIME: u64 = 1000003;
 
-pub(crate) fn number(x: u64) {
-    text(b" ");
-    io::print_decimal(STDOUT_FILENO, x);
+pub(crate) fn number<W: Write>(out: &mut W, x: u64) -> io::Result<()> {
+    text(out, b" ")?;
+    try_lib::number(out, x)
 }
 
 pub(crate) fn byte(x: u64) -> u8 {
@@ -20,21 +21,22 @@ pub(crate) fn byte(x: u64) -> u8 {
 }
 
 // Prints the letters of a word.
-pub(crate) fn word(letters: u64) {
-    text(b" ");
+pub(crate) fn word<W: Write>(out: &mut W, letters: u64) -> io::Result<()> {
+    text(out, b" ")?;
     let mut rest = letters;
     for _ in 0..8u64 {
         let letter = byte(rest >> 56);
         if letter != 0 {
-            text(&[letter]);
+            text(out, &[letter])?;
         }
         rest <<= 8;
     }
+    Ok(())
 }
 
-pub(crate) fn say(letters: u64, x: u64) {
-    word(letters);
-    number(x);
+pub(crate) fn say<W: Write>(out: &mut W, letters: u64, x: u64) -> io::Result<()> {
+    word(out, letters)?;
+    number(out, x)
 }
 
 // Of the values of a list: how many are not blank, how many of those stand behind the first `written`, their sum, and the
@@ -59,77 +61,93 @@ fn new_tally(written: usize) -> Tally {
 }
 
 // The tally with one value more; it is printed where it is not blank and among the first.
-fn tallied(tally: Tally, i: usize, value: u64, blank: u64) -> Tally {
+fn tallied<W: Write>(
+    out: &mut W,
+    tally: Tally,
+    i: usize,
+    value: u64,
+    blank: u64,
+) -> io::Result<Tally> {
     let mut next = tally;
     next.first = sum(next.first, value % PRIME);
     next.all = sum(next.all, next.first);
     if value == blank {
-        return next;
+        return Ok(next);
     }
     next.changed = sum(next.changed, 1);
     if next.written <= i {
         next.behind = sum(next.behind, 1);
     }
     if i < SHOWN {
-        number(value);
+        number(out, value)?;
     }
-    next
+    Ok(next)
 }
 
-fn show_tally(tally: Tally) {
-    say(CHANGED, tally.changed);
+fn show_tally<W: Write>(out: &mut W, tally: Tally) -> io::Result<()> {
+    say(out, CHANGED, tally.changed)?;
     if tally.changed == 0 {
-        return;
+        return Ok(());
     }
-    say(BEHIND, tally.behind);
-    say(SUM, tally.all);
+    say(out, BEHIND, tally.behind)?;
+    say(out, SUM, tally.all)
 }
 
 // Bytes of which the first `written` may be other than blank.
-pub(crate) fn show_bytes(bytes: &[u8], blank: u64, written: usize) {
+pub(crate) fn show_bytes<W: Write>(
+    out: &mut W,
+    bytes: &[u8],
+    blank: u64,
+    written: usize,
+) -> io::Result<()> {
     let mut tally = new_tally(written);
     for i in 0..bytes.len() {
-        tally = tallied(tally, i, wide(bytes[i]), blank);
+        tally = tallied(out, tally, i, wide(bytes[i]), blank)?;
     }
-    show_tally(tally);
+    show_tally(out, tally)
 }
 
 fn wide_place(x: u32) -> u64 {
     x as u64
 }
 
-pub(crate) fn show_places(table: &[u32], blank: u64, written: usize) {
+pub(crate) fn show_places<W: Write>(
+    out: &mut W,
+    table: &[u32],
+    blank: u64,
+    written: usize,
+) -> io::Result<()> {
     let mut tally = new_tally(written);
     for i in 0..table.len() {
-        tally = tallied(tally, i, wide_place(table[i]), blank);
+        tally = tallied(out, tally, i, wide_place(table[i]), blank)?;
     }
-    show_tally(tally);
+    show_tally(out, tally)
 }
 
-fn show_sets(sets: &[u64], written: usize) {
+fn show_sets<W: Write>(out: &mut W, sets: &[u64], written: usize) -> io::Result<()> {
     let mut tally = new_tally(written);
     for i in 0..sets.len() {
-        tally = tallied(tally, i, sets[i], 0);
+        tally = tallied(out, tally, i, sets[i], 0)?;
     }
-    show_tally(tally);
+    show_tally(out, tally)
 }
 
 // The board that a call hands back, beside the one that it was given; its lines only where something differs.
-pub(crate) fn show_board(given: Board, back: Board) {
+pub(crate) fn show_board<W: Write>(out: &mut W, given: Board, back: Board) -> io::Result<()> {
     let stage = back.stage;
     let sets = back.sets;
     let quantities = back.quantities;
     let changed = differences(given, back);
-    word(BOARD);
-    say(RACK, back.rack as u64);
-    say(STAGE, closed(stage));
-    say(COUNT, back.count as u64);
-    say(CHANGED, changed);
+    word(out, BOARD)?;
+    say(out, RACK, back.rack as u64)?;
+    say(out, STAGE, closed(stage))?;
+    say(out, COUNT, back.count as u64)?;
+    say(out, CHANGED, changed)?;
     if changed != 0 {
-        word(SETS);
-        show_sets(&sets, back.count);
-        word(QUANTITY);
-        show_bytes(&quantities, 0, back.count);
+        word(out, SETS)?;
+        show_sets(out, &sets, back.count)?;
+        word(out, QUANTITY)?;
+        show_bytes(out, &quantities, 0, back.count)?;
     }
-    text(b"\n");
+    text(out, b"\n")
 }

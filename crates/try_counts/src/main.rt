@@ -4,6 +4,8 @@
 
 ghost use Rattle.std.specs.Prelude.{◌≤◌};
 
+use std::io;
+use std::io::{BufWriter, Write};
 use try_lib::{closed_board, digits, off, one_if, show, sum, with_tips};
 
 // How many assignments are within the bound, have boards whose common tip has at most `bound` lines off it, and have boards that keep accepts for it.
@@ -31,7 +33,13 @@ fn counted(before: Counts, code: u64, n: usize, rack: usize, bound: u16) -> Coun
     }
 }
 
-fn show_bound(n: usize, rack: usize, assignments: u64, bound: u16)
+fn show_bound<W: Write>(
+    out: &mut W,
+    n: usize,
+    rack: usize,
+    assignments: u64,
+    bound: u16,
+) -> io::Result<()>
     requires { n ≤ 8 }
 {
     let mut counts = Counts {
@@ -43,6 +51,7 @@ fn show_bound(n: usize, rack: usize, assignments: u64, bound: u16)
         counts = counted(counts, code, n, rack, bound);
     }
     show(
+        out,
         b"variables # assignments # bound # within # common tip # kept #\n",
         &[
             n as u64,
@@ -52,17 +61,19 @@ fn show_bound(n: usize, rack: usize, assignments: u64, bound: u16)
             counts.common,
             counts.kept,
         ],
-    );
+    )
 }
 
-fn main() {
-    show_bound(3, 4, 4 * 4 * 4, 0);
-    show_bound(3, 4, 4 * 4 * 4, 1);
-    show_bound(3, 4, 4 * 4 * 4, 2);
-    show_bound(3, 4, 4 * 4 * 4, 3);
-    show_bound(4, 5, 5 * 5 * 5 * 5, 0);
-    show_bound(4, 5, 5 * 5 * 5 * 5, 1);
-    show_bound(4, 5, 5 * 5 * 5 * 5, 2);
-    show_bound(4, 5, 5 * 5 * 5 * 5, 3);
-    show_bound(4, 5, 5 * 5 * 5 * 5, 4);
+fn main(rt: HostRuntime) -> io::Result<()> {
+    let mut out = BufWriter::new(rt.alloc(), io::writer(&rt))?;
+    show_bound(&mut out, 3, 4, 4 * 4 * 4, 0)?;
+    show_bound(&mut out, 3, 4, 4 * 4 * 4, 1)?;
+    show_bound(&mut out, 3, 4, 4 * 4 * 4, 2)?;
+    show_bound(&mut out, 3, 4, 4 * 4 * 4, 3)?;
+    show_bound(&mut out, 4, 5, 5 * 5 * 5 * 5, 0)?;
+    show_bound(&mut out, 4, 5, 5 * 5 * 5 * 5, 1)?;
+    show_bound(&mut out, 4, 5, 5 * 5 * 5 * 5, 2)?;
+    show_bound(&mut out, 4, 5, 5 * 5 * 5 * 5, 3)?;
+    show_bound(&mut out, 4, 5, 5 * 5 * 5 * 5, 4)?;
+    out.flush()
 }

@@ -4,7 +4,8 @@
 ghost use Rattle.std.specs.Prelude.{◌≤◌};
 
 use board::{Board, Stage};
-use libc::STDOUT_FILENO;
+use std::io;
+use std::io::Write;
 
 // No tip, and no byte of the job files that are written here.
 pub const JUNK: u8 = 170;
@@ -12,26 +13,31 @@ pub const JUNK: u8 = 170;
 // More than any number of pairs.
 pub const JUNK_PLACE: u32 = 2863311530;
 
-pub fn text(words: &[u8]) {
-    io::write_all(STDOUT_FILENO, words);
+pub fn text<W: Write>(out: &mut W, words: &[u8]) -> io::Result<()> {
+    out.write_all(words)
+}
+
+pub fn number<W: Write>(out: &mut W, x: u64) -> io::Result<()> {
+    write!(out, "{x}")
 }
 
 // Prints a byte, or for # the next of the values, and returns the place of the one after it.
-fn show_byte(byte: u8, values: &[u64], next: usize) -> usize {
+fn show_byte<W: Write>(out: &mut W, byte: u8, values: &[u64], next: usize) -> io::Result<usize> {
     if byte == b'#' && next < values.len() {
-        io::print_decimal(STDOUT_FILENO, values[next]);
-        return std::num::wrapping_add_usize(next, 1);
+        number(out, values[next])?;
+        return Ok(std::num::wrapping_add_usize(next, 1));
     }
-    text(&[byte]);
-    next
+    text(out, &[byte])?;
+    Ok(next)
 }
 
 // Prints the words, with a value in the place of each #.
-pub fn show(words: &[u8], values: &[u64]) {
+pub fn show<W: Write>(out: &mut W, words: &[u8], values: &[u64]) -> io::Result<()> {
     let mut next = 0;
     for i in 0..words.len() {
-        next = show_byte(words[i], values, next);
+        next = show_byte(out, words[i], values, next)?;
     }
+    Ok(())
 }
 
 // A number without its sign.

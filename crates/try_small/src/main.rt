@@ -12,6 +12,8 @@ use crate::plans::{
 };
 use board::{Board, Kept, Shared, Stage};
 use head::Mounted;
+use std::io;
+use std::io::{BufWriter, Write};
 use try_lib::{
     JUNK_PLACE, changed_bytes, changed_places, differences, different, digits, junk_plan,
     junk_table, one_if, only, placed_board, placements, show, size, sum, text, tips_of,
@@ -261,20 +263,28 @@ fn try_boards(rack: u64, n: usize, boards: u64, plans: u64, quantities: [u8; 8])
     tally
 }
 
-fn show_tally(tally: [u64; 12]) {
+fn show_tally<W: Write>(out: &mut W, tally: [u64; 12]) -> io::Result<()> {
     show(
+        out,
         b" boards # wrong #; common tip # wrong #; keep # refused 26: # wrong #; quick # wrong #; best # refused 25: # wrong #\n",
         &tally,
-    );
+    )
 }
 
-fn try_all(rack: u64, n: usize, boards: u64, plans: u64, total: [u64; 12]) -> [u64; 12]
+fn try_all<W: Write>(
+    out: &mut W,
+    rack: u64,
+    n: usize,
+    boards: u64,
+    plans: u64,
+    total: [u64; 12],
+) -> io::Result<[u64; 12]>
     requires { n ≤ 8 }
 {
     let tally = try_boards(rack, n, boards, plans, [1; 8]);
-    show(b"rack # lines # plans #", &[rack, n as u64, plans]);
-    show_tally(tally);
-    added(total, tally)
+    show(out, b"rack # lines # plans #", &[rack, n as u64, plans])?;
+    show_tally(out, tally)?;
+    Ok(added(total, tally))
 }
 
 fn byte(x: u64) -> u8 {
@@ -292,14 +302,15 @@ fn quantities_of(code: u64) -> [u8; 8] {
 }
 
 // Every board of n lines, each with every quantity from 1 to 3: `counts` ways.
-fn try_placed(
+fn try_placed<W: Write>(
+    out: &mut W,
     rack: u64,
     n: usize,
     boards: u64,
     counts: u64,
     plans: u64,
     total: [u64; 12],
-) -> [u64; 12]
+) -> io::Result<[u64; 12]>
     requires { n ≤ 8 }
 {
     let mut tally = [0u64; 12];
@@ -311,52 +322,63 @@ fn try_placed(
         tally = more;
     }
     show(
+        out,
         b"rack # lines # plans # quantities 1 to 3",
         &[rack, n as u64, plans],
-    );
-    show_tally(tally);
-    added(total, tally)
+    )?;
+    show_tally(out, tally)?;
+    Ok(added(total, tally))
 }
 
-fn by_placements() {
-    let total = try_placed(1, 1, 1, 3, 1, [0; 12]);
-    let total = try_placed(1, 2, 1, 3 * 3, 1, total);
-    let total = try_placed(2, 1, 3, 3, 2, total);
-    let total = try_placed(2, 2, 3 * 3, 3 * 3, 2 * 2, total);
-    let total = try_placed(2, 3, 3 * 3 * 3, 3 * 3 * 3, 2 * 2 * 2, total);
-    let total = try_placed(2, 4, 3 * 3 * 3 * 3, 3 * 3 * 3 * 3, 2 * 2 * 2 * 2, total);
-    let total = try_placed(3, 1, 7, 3, 3, total);
-    let total = try_placed(3, 2, 7 * 7, 3 * 3, 3 * 3, total);
-    let total = try_placed(3, 3, 7 * 7 * 7, 3 * 3 * 3, 3 * 3 * 3, total);
-    let total = try_placed(4, 1, 15, 3, 4, total);
-    let total = try_placed(4, 2, 15 * 15, 3 * 3, 4 * 4, total);
-    text(b"all quantities 1 to 3");
-    show_tally(total);
+fn by_placements<W: Write>(out: &mut W) -> io::Result<()> {
+    let total = try_placed(out, 1, 1, 1, 3, 1, [0; 12])?;
+    let total = try_placed(out, 1, 2, 1, 3 * 3, 1, total)?;
+    let total = try_placed(out, 2, 1, 3, 3, 2, total)?;
+    let total = try_placed(out, 2, 2, 3 * 3, 3 * 3, 2 * 2, total)?;
+    let total = try_placed(out, 2, 3, 3 * 3 * 3, 3 * 3 * 3, 2 * 2 * 2, total)?;
+    let total = try_placed(
+        out,
+        2,
+        4,
+        3 * 3 * 3 * 3,
+        3 * 3 * 3 * 3,
+        2 * 2 * 2 * 2,
+        total,
+    )?;
+    let total = try_placed(out, 3, 1, 7, 3, 3, total)?;
+    let total = try_placed(out, 3, 2, 7 * 7, 3 * 3, 3 * 3, total)?;
+    let total = try_placed(out, 3, 3, 7 * 7 * 7, 3 * 3 * 3, 3 * 3 * 3, total)?;
+    let total = try_placed(out, 4, 1, 15, 3, 4, total)?;
+    let total = try_placed(out, 4, 2, 15 * 15, 3 * 3, 4 * 4, total)?;
+    text(out, b"all quantities 1 to 3")?;
+    show_tally(out, total)
 }
 
-fn by_lines() {
-    let total = try_all(1, 0, 1, 1, [0; 12]);
-    let total = try_all(1, 1, 1, 1, total);
-    let total = try_all(1, 2, 1, 1, total);
-    let total = try_all(1, 3, 1, 1, total);
-    let total = try_all(2, 0, 1, 1, total);
-    let total = try_all(2, 1, 3, 2, total);
-    let total = try_all(2, 2, 3 * 3, 2 * 2, total);
-    let total = try_all(2, 3, 3 * 3 * 3, 2 * 2 * 2, total);
-    let total = try_all(2, 4, 3 * 3 * 3 * 3, 2 * 2 * 2 * 2, total);
-    let total = try_all(3, 0, 1, 1, total);
-    let total = try_all(3, 1, 7, 3, total);
-    let total = try_all(3, 2, 7 * 7, 3 * 3, total);
-    let total = try_all(3, 3, 7 * 7 * 7, 3 * 3 * 3, total);
-    let total = try_all(3, 4, 7 * 7 * 7 * 7, 3 * 3 * 3 * 3, total);
-    let total = try_all(4, 1, 15, 4, total);
-    let total = try_all(4, 2, 15 * 15, 4 * 4, total);
-    let total = try_all(4, 3, 15 * 15 * 15, 4 * 4 * 4, total);
-    text(b"all");
-    show_tally(total);
+fn by_lines<W: Write>(out: &mut W) -> io::Result<()> {
+    let total = try_all(out, 1, 0, 1, 1, [0; 12])?;
+    let total = try_all(out, 1, 1, 1, 1, total)?;
+    let total = try_all(out, 1, 2, 1, 1, total)?;
+    let total = try_all(out, 1, 3, 1, 1, total)?;
+    let total = try_all(out, 2, 0, 1, 1, total)?;
+    let total = try_all(out, 2, 1, 3, 2, total)?;
+    let total = try_all(out, 2, 2, 3 * 3, 2 * 2, total)?;
+    let total = try_all(out, 2, 3, 3 * 3 * 3, 2 * 2 * 2, total)?;
+    let total = try_all(out, 2, 4, 3 * 3 * 3 * 3, 2 * 2 * 2 * 2, total)?;
+    let total = try_all(out, 3, 0, 1, 1, total)?;
+    let total = try_all(out, 3, 1, 7, 3, total)?;
+    let total = try_all(out, 3, 2, 7 * 7, 3 * 3, total)?;
+    let total = try_all(out, 3, 3, 7 * 7 * 7, 3 * 3 * 3, total)?;
+    let total = try_all(out, 3, 4, 7 * 7 * 7 * 7, 3 * 3 * 3 * 3, total)?;
+    let total = try_all(out, 4, 1, 15, 4, total)?;
+    let total = try_all(out, 4, 2, 15 * 15, 4 * 4, total)?;
+    let total = try_all(out, 4, 3, 15 * 15 * 15, 4 * 4 * 4, total)?;
+    text(out, b"all")?;
+    show_tally(out, total)
 }
 
-fn main() {
-    by_lines();
-    by_placements();
+fn main(rt: HostRuntime) -> io::Result<()> {
+    let mut out = BufWriter::new(rt.alloc(), io::writer(&rt))?;
+    by_lines(&mut out)?;
+    by_placements(&mut out)?;
+    out.flush()
 }
