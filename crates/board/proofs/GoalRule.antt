@@ -47,7 +47,7 @@ module _ (b : Board) (K : ℕ) (full : Full b) where
       record {
         goal = record { runs = rule.runs; exact = λ z. rw (struck-lines z) (rule.exact z); refuses = rule.refuses };
         refused_same = replaced-refused b full decided struck;
-        stays-sound = replaced-sound b full decided struck free (laws.goal_good state K good);
+        stays_sound = replaced-sound b full decided struck free (laws.goal_good state K good);
         stays_closed = λ z. (ready Closed b full refl (free z)).stage_is;
         same_rack = refl;
         same_count = refl;

@@ -61,7 +61,7 @@ module _ (b : Board) (k : ℕ) (full : Full b) where
     exact = λ z. rw (kept-lines z) (keep_exact state k good z);
     refuses = refuses;
     refused_same = replaced-refused b full keep pruned;
-    stays-sound = replaced-sound b full keep pruned free (keep_good state k good);
+    stays_sound = replaced-sound b full keep pruned free (keep_good state k good);
     stays_closed = λ z. (ready Closed b full refl (free z)).stage_is;
     same_rack = refl;
     same_count = refl;

@@ -114,7 +114,7 @@ module _ (a b : Board) (full : Full a) (other : Full b) where
         panel_sets s =
             s ∙ accepted _ _ {d = d} refl z
             ∙ ap₂ (λ k l. lines ++ drop (k + l) a.sets) first_count second_count
-            ∙ ap (λ l. lines ++ l) (behind no_sets a.sets (after no-sets a.count a.sets full.sets-full ready_first.sound.rest))
+            ∙ ap (λ l. lines ++ l) (behind no_sets a.sets (after no-sets a.count a.sets full.sets_full ready_first.sound.rest))
 
         panel_quantities : {quantities : List ℕ} → quantities ≡ merged_by d (quantities_of a) (quantities_of b) a.quantities
             → quantities ≡ qs ++ drop n no_quantities
@@ -124,14 +124,14 @@ module _ (a b : Board) (full : Full a) (other : Full b) where
             (ready_first.sound.good.same ∙ first_count) (ready_second.sound.good.same ∙ second_count)
             ∙ ap (λ l. qs ++ l)
             (behind no_quantities a.quantities
-            (after no-quantities a.count a.quantities full.quantities-full ready_first.sound.quantities_rest))
+            (after no-quantities a.count a.quantities full.quantities_full ready_first.sound.quantities_rest))
 
         pub few : n ≤ most_lines
         few = omega (arith, lines-rule.good.few-lines, lines_size)
 
         pub panel_full : Full (panel_of a b)
         panel_full =
-            record { sets-full = filled no-sets lines n lines_size few; quantities-full = filled no-quantities qs n quantities_size few }
+            record { sets_full = filled no-sets lines n lines_size few; quantities_full = filled no-quantities qs n quantities_size few }
 
         panel-rule : MergeRule a b (merged a b (panel_of a b) none)
         panel-rule =

@@ -53,11 +53,11 @@ module _ (b : Board) (full : Full b) (d : Refusal) (lines : List ℕ) where
     -- so it is as full as it was, and sound
     pub replaced_full : Full (replaced b d lines)
     replaced_full = record {
-      sets-full = rw its_sets (
+      sets_full = rw its_sets (
           length-append lines (drop b.count b.sets)
-          ∙ omega (arith, size, length-drop b.count b.sets, full.sets-full, was.sound.count_most)
+          ∙ omega (arith, size, length-drop b.count b.sets, full.sets_full, was.sound.count_most)
           );
-      quantities-full = full.quantities-full;
+      quantities_full = full.quantities_full;
     }
 
     pub replaced-sound : T (sound (replaced b d lines))

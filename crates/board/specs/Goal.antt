@@ -31,7 +31,7 @@ asked_before b = Lines.goal_asked (state_refusal Closed b) (lines_of b)
 pub record GoalRule (b : Board) (K : ℕ) (r : Answer) : Type 0 where
   pub goal : Lines.GoalRule (asked_before b).number b.rack (quantities_of b) (lines_of b) K (lines_of r.board) r.number
   pub refused_same : (r.number ≡ 0 → ⊥) → r.board ≡ b
-  pub stays-sound : r.number ≡ 0 → T (sound r.board)
+  pub stays_sound : r.number ≡ 0 → T (sound r.board)
   pub stays_closed : r.number ≡ 0 → r.board.stage ≡ Closed
   pub same_rack : r.board.rack ≡ b.rack
   pub same_count : r.board.count ≡ b.count

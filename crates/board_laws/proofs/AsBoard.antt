@@ -162,7 +162,7 @@ module _ (file : List ℕ) (b : Board) (given : read_of file ≡ answer b none) 
     kept-state =
         let a = kept_board b k in
         let rule = keep-rule b k full in
-        kept-none ∙ sym (state-free Closed a (kept_full b k full kept_free) (rule.stays-sound z) (rule.stays_closed z))
+        kept-none ∙ sym (state-free Closed a (kept_full b k full kept_free) (rule.stays_sound z) (rule.stays_closed z))
 
     pub keep_as_board : (room : ℕ) → keep_in file k room ≡ of_written (keep_of b k) (write_of (keep_of b k).board room)
     unfolding keep_in keep_of Lines.keep_of write_of

@@ -59,7 +59,7 @@ module _ (file : List ℕ) (b : Board) (given : read_of file ≡ answer b none) 
     met-state =
         let a = struck_board b K in
         let rule = goal-rule b K (full file b given) in
-        met-none ∙ sym (state-free Closed a (struck_full b K (full file b given) met) (rule.stays-sound z) (rule.stays_closed z))
+        met-none ∙ sym (state-free Closed a (struck_full b K (full file b given) met) (rule.stays_sound z) (rule.stays_closed z))
 
     pub goal_as_board : (room : ℕ) → goal_in file K room ≡ of_file (write_of (goal_of b K).board room)
     unfolding goal_in goal_of write_of

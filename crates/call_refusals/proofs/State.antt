@@ -41,7 +41,7 @@ module _ (asked : Stage) (m : ℕ) (stage : Stage) (n : ℕ) (qs sets : List ℕ
         let ready = state_ready (all ∙ sym full) in
         record {
           room = λ z. omega (arith, full, (ready z).sound.count_most);
-          quantity-room = λ z. omega (arith, all, (ready z).sound.count_most);
+          quantity_room = λ z. omega (arith, all, (ready z).sound.count_most);
           good = λ z. (ready z).sound.good;
         }
 

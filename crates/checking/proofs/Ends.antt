@@ -122,13 +122,13 @@ module _ {m : ℕ} {xs tab : List ℕ} (r : Ready m xs tab) (a c : ℕ) (from : 
             most = part_at tab _ (a * m + m) j _ (omega arith) (omega arith) ∙ sym (entry_some m tab a w (omega arith));
           }
 
-      module _ {left : ℕ} (is-left : left ≡ entry m tab a (c - a)) (narrow : left < 2 ^ 32) where
+      module _ {left : ℕ} (is_left : left ≡ entry m tab a (c - a)) (narrow : left < 2 ^ 32) where
         pub end_lists : EndLists left shift nexts firsts rights mosts
         end_lists = record {
           as_nexts = part_length xs _ ((c + 1) * (m + 1) + (m + 1)) rows.next_sums ∙ omega (arith, mosts-length);
           as_firsts = part_length xs _ (a * (m + 1) + (m + 1)) rows.first-sums ∙ omega (arith, mosts-length);
           as_rights = part_length tab _ ((c + 1) * m + m) (omega (arith, rows, r.size)) ∙ omega (arith, mosts-length);
-          entry-left = narrow;
+          entry_left = narrow;
           covers = λ j h. (numbers j (omega (arith, mosts-length))).covers;
           few = λ j h.
               let k : j < m - (c + 1) = omega (arith, mosts-length) in
@@ -140,4 +140,4 @@ module _ {m : ℕ} {xs tab : List ℕ} (r : Ready m xs tab) (a c : ℕ) (from : 
         unfolding ends_at
         ends_same = rw mosts-length (every_cong _ _ (m - (c + 1)) (λ j h.
             let n = numbers j h in
-            rw (n.own, n.right, n.most, is-left)))
+            rw (n.own, n.right, n.most, is_left)))

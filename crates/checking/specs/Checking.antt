@@ -76,6 +76,6 @@ pub record EndLists (left shift : ℕ) (nexts firsts rights mosts : List ℕ) : 
   pub as_nexts : length nexts ≡ length mosts
   pub as_firsts : length firsts ≡ length mosts
   pub as_rights : length rights ≡ length mosts
-  pub entry-left : left < 2 ^ 32
+  pub entry_left : left < 2 ^ 32
   pub covers : (i : ℕ) → i < length mosts → slice_index firsts i ≤ (slice_index nexts i + shift) % 2 ^ 32
   pub few : (i : ℕ) → i < length mosts → (slice_index nexts i + shift) % 2 ^ 32 ≤ slice_index firsts i + most_placements

@@ -42,7 +42,7 @@ module _ {d : Refusal} {m n : ℕ} {qs sets : List ℕ} (given : Given d m n qs 
   pub given-left : length last ≡ length sets → Given r m n qs last
   given-left e = record {
     room = λ z. omega (arith, e, given.room (free z));
-    quantity-room = λ z. given.quantity-room (free z);
+    quantity_room = λ z. given.quantity_room (free z);
     good = λ z. rw (left-lines z) (good z);
   }
 

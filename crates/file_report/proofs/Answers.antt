@@ -39,7 +39,7 @@ whole_quantities {qs = qs} {lines = lines} good = take_all (length lines) qs (om
 pub given_whole : {r : Refusal} {m : ℕ} {qs lines : List ℕ} → GoodLines m qs lines → Given r m (length lines) qs lines
 given_whole {lines = lines} good = record {
   room = λ _. le_refl _;
-  quantity-room = λ _. omega (arith, good.same);
+  quantity_room = λ _. omega (arith, good.same);
   good = λ _. rw (take-length lines, whole_quantities good) good;
 }
 

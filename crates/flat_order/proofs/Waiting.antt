@@ -154,11 +154,11 @@ module _ (low high lasts₀ lasts : List ℕ) (j e b : ℕ) (left due : PartSet)
   abbrev due₂ : PartSet
   due₂ = met (joined due (row_at low high b)) left₂
 
-  is-left : T (has_part left b)
-  is-left = w.part b is-due
+  is_left : T (has_part left b)
+  is_left = w.part b is-due
 
   b_in : b < m
-  b_in = w.inside b is-left
+  b_in = w.inside b is_left
 
   now_size : length now ≡ m
   unfolding viewed
@@ -182,7 +182,7 @@ module _ (low high lasts₀ lasts : List ℕ) (j e b : ℕ) (left due : PartSet)
   earliest_is = lowest-only (weight_of left now) (length now) b (omega (arith, now_size, b_in)) most less
     where
       full : weight_of left now b ≡ m - e
-      full = rw (true_T (has_part left b) is-left, now-due b is-due, now_size)
+      full = rw (true_T (has_part left b) is_left, now-due b is-due, now_size)
 
       most : (t : ℕ) → t < length now → weight_of left now t ≤ weight_of left now b
       most t l =
@@ -226,7 +226,7 @@ module _ (low high lasts₀ lasts : List ℕ) (j e b : ℕ) (left due : PartSet)
     size = length-set lasts b e ∙ w.size;
     count =
         let off : has_part left₂ b ≡ false = false_T (has_part left₂ b) (not_T (has_part left₂ b) (λ t. (left_keeps b t).1 refl)) in
-        let on : has_part left b ≡ true = true_T (has_part left b) is-left in
+        let on : has_part left b ≡ true = true_T (has_part left b) is_left in
         let k = number_but (has_part left₂) (has_part left) b m b_in (λ i l d. same_test (has_part left₂ i) (has_part left i)
         (λ t. (left_keeps i t).0) (λ t. left-stays i t d)) in
         omega (arith, rw (off, on) at k, w.count);

@@ -53,6 +53,6 @@ unfolding bounds every entry table list_of repeated named occ C most lies inside
 check7 = (refl, refl, refl)
 
 -- a hole in the rack: no line names tip 1, and the line for tips 0 and 2 is a run
-strike-hole : strike 4 (1 ∷ 1 ∷ 1 ∷ []) (5 ∷ 4 ∷ 12 ∷ []) 3 ≡ 4 ∷ 4 ∷ 4 ∷ []
+strike_hole : strike 4 (1 ∷ 1 ∷ 1 ∷ []) (5 ∷ 4 ∷ 12 ∷ []) 3 ≡ 4 ∷ 4 ∷ 4 ∷ []
 unfolding strike list_of goal_tips set_of only repeated named occ C most lies inside largest low high choose2 has count count_leading_zeros count_trailing_zeros
-strike-hole = refl
+strike_hole = refl

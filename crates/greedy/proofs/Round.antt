@@ -263,7 +263,7 @@ module _ {mounted : Mounted} {m : ℕ} {qs lines left plan counts : List ℕ} {s
       → Ongoing mounted m shared qs lines left plan counts n list → Sizes list₀ places₀ sets₀ taken₀ list places sets taken
       → ListsFit (length lines) list₀ places₀ sets₀ taken₀ → RoundReady tip n qs left plan counts list places sets taken
   round_ready o s f = record {
-    tip-inside = omega (arith, busiest_is, busiest_lt mounted m (to_plan qs left) r.begun.good.some, r.begun.good.most);
+    tip_inside = omega (arith, busiest_is, busiest_lt mounted m (to_plan qs left) r.begun.good.some, r.begun.good.most);
     same = same r.begun;
     few = r.begun.good.few;
     size = was.plan_size;

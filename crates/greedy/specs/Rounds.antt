@@ -44,7 +44,7 @@ pub record ListsFit (n : ℕ) (list places sets taken : List ℕ) : Type 0 where
 
 -- r listed lines to take the tip for: each has it, and none is listed twice
 pub record TakeReady (tip r : ℕ) (places list qs left plan sets taken : List ℕ) : Type 0 where
-  pub tip-inside : tip < most_tips
+  pub tip_inside : tip < most_tips
   pub same : length qs ≡ length left
   pub size : length plan ≡ length left
   pub fit : ListsFit r list places sets taken
@@ -70,7 +70,7 @@ pub record ListTaken (tip r : ℕ) (places list qs left plan left' plan' sets ta
   pub listed : (p : ℕ) → p < r → LineDone tip (line_at list places p) left plan left' plan'
   pub others : (i : ℕ) → LineDone tip i left plan left' plan' ⊎ LineKept i left plan left' plan'
   pub sum : (t : ℕ) → weighted (λ s. has s t) qs left' + weighted (λ s. has s t) (take r taken) (take r sets) ≡ weighted (λ s. has s t) qs left
-  pub sum-tip : weighted (λ s. has s tip) qs left' + total (take r taken) ≡ weighted (λ s. has s tip) qs left
+  pub sum_tip : weighted (λ s. has s tip) qs left' + total (take r taken) ≡ weighted (λ s. has s tip) qs left
 
 -- the tip is taken for all lines
 pub record Taken (tip : ℕ) (left plan left' plan' : List ℕ) : Type 0 where
@@ -79,7 +79,7 @@ pub record Taken (tip : ℕ) (left plan left' plan' : List ℕ) : Type 0 where
 
 -- what a round needs: a tip to take for lines whose occurrences are counted in placements, m lines without a tip, and lists with room for all
 pub record RoundReady (tip m : ℕ) (qs left plan counts list places sets taken : List ℕ) : Type 0 where
-  pub tip-inside : tip < most_tips
+  pub tip_inside : tip < most_tips
   pub same : length qs ≡ length left
   pub few : total qs ≤ most_placements
   pub size : length plan ≡ length left

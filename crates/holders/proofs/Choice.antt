@@ -15,7 +15,7 @@ use Rattle.model.proofs.Pairs.{choose2_square}
 use Rattle.model.proofs.Valid.{valid_length}
 use Rattle.holders.specs.Holders.{serves, gathered, two_plan, is_choice, OnTips}
 use Rattle.holders.proofs.Two.{On, pairs-one, pairs-two, or_out, or_in, Served, serves_iff, on_swap, valid_served}
-use Rattle.holders.proofs.Two.{gathered-pairs, two-pairs, two_valid, two_on, two-most}
+use Rattle.holders.proofs.Two.{gathered-pairs, two_pairs, two_valid, two_on, two-most}
 
 -- each passes, or some do not
 all_or : (f : ℕ → Bool) (xs : List ℕ) → All (λ x. T (f x)) xs ⊎ (0 < count (λ x. not (f x)) xs)
@@ -113,11 +113,11 @@ module _ {lines : List ℕ} where
     λ c. let (_, _, f) = (choice_iff lines u v).0 c in
         let (p, q) = f l in (
           ⊎_elim
-              (λ h. absurd (alone u v (λ e. omega arith) h p q (two-pairs lines u v).0 (two_on lines u v)))
+              (λ h. absurd (alone u v (λ e. omega arith) h p q (two_pairs lines u v).0 (two_on lines u v)))
               (λ h. h)
               (all_or (λ s. has s u) lines),
           ⊎_elim
-              (λ h. absurd (alone v u (λ e. omega arith) h q p (two-pairs lines u v).1 (on_swap (two_on lines u v))))
+              (λ h. absurd (alone v u (λ e. omega arith) h q p (two_pairs lines u v).1 (on_swap (two_on lines u v))))
               (λ h. h)
               (all_or (λ s. has s v) lines),
         ),

@@ -150,9 +150,9 @@ module _ (lines : List ℕ) (u v : ℕ) where
   unfolding two_plan
   two_case P p q = cond_case P (to_first lines u v) (λ _. p) (λ _. q)
 
-  pub two-pairs : (pairs (gathered lines u v) ≤ pairs (two_plan lines u v)) × (pairs (gathered lines v u) ≤ pairs (two_plan lines u v))
+  pub two_pairs : (pairs (gathered lines u v) ≤ pairs (two_plan lines u v)) × (pairs (gathered lines v u) ≤ pairs (two_plan lines u v))
   unfolding two_plan to_first
-  two-pairs =
+  two_pairs =
       let p = pairs (gathered lines u v) in
       let q = pairs (gathered lines v u) in
       cond_case (λ x. (p ≤ pairs x) × (q ≤ pairs x)) (leb q p) (λ y. omega (arith, leb→le q p y)) (λ n. omega (arith, nleb→lt q p n))
@@ -177,12 +177,12 @@ module _ (lines : List ℕ) (u v : ℕ) where
         arith,
         spread_le (uses plan u) (uses plan v) (uses (gathered lines u v) u) (uses (gathered lines u v) v)
             (omega (arith, valid_length w)) h (omega (arith, gathered-uses lines n, uses_le w u)),
-        two-pairs,
+        two_pairs,
       ))
       (λ h. omega (
         arith,
         spread_le (uses plan v) (uses plan u) (uses (gathered lines v u) v) (uses (gathered lines v u) u)
             (omega (arith, valid_length w)) (omega arith) (omega (arith, gathered-uses lines k, uses_le w v)),
-        two-pairs,
+        two_pairs,
       ))
       (le_or_lt (uses plan v) (uses plan u))

@@ -2,7 +2,7 @@
 use Prim.Native.Nat.{ℕ, zero, suc, ◌+◌, ◌*◌, ◌-◌, ◌≤◌, ◌<◌}
 use native.Mathlib.Omega.{arith}
 use mathlib.Core.Path.{◌≡◌, refl, ap, sym}
-use mathlib.Core.Logic.{◌⊎◌, ⊎_elim}
+use mathlib.Core.Logic.{⊎_elim}
 use mathlib.Core.Bool.{Bool, true, cond, ◌&&◌}
 use lib.Dec.{T, T_not, ltb, eqb, ltb→lt, lt→ltb, eqb→eq, eqb_refl, leb-suc-zero}
 use borrow.Author.Tests.{ne_eqb, le-leb, lt-leb}

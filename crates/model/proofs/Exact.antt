@@ -16,7 +16,7 @@ use Rattle.model.specs.Choice.{bare}
 use Rattle.model.specs.Greedy.{busiest}
 use Rattle.model.specs.CommonTip.{top, W, covers, narrowed, kept, prune, most_used, off, Supported, Exact}
 use Rattle.model.proofs.Tests.{test, true_T, false_T, eqb_T, cond_case, one_le, one_T}
-use Rattle.model.proofs.Lists.{all, all-mapped, all-at, all_get_d, get_d_map, count_pos, count_set}
+use Rattle.model.proofs.Lists.{all-mapped, all-at, all_get_d, get_d_map, count_pos, count_set}
 use Rattle.model.proofs.Largest.{largest_ge, lowest_lt, lowest_attains}
 use Rattle.model.proofs.Sets.{has_some, covers_or, covers_iff, covers_and}
 use Rattle.model.proofs.Occ.{occ_le, top_le, busiest_lt}

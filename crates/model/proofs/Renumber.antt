@@ -1,5 +1,5 @@
 -- A board renumbered: each line is a set of ranks, its lowest and highest tip are ranks, and as many lines of an interval allow a tip.
-use Prim.Native.Nat.{ℕ, ◌+◌, ◌-◌, ◌≤◌, ◌<◌}
+use Prim.Native.Nat.{ℕ, ◌+◌, ◌≤◌, ◌<◌}
 use native.Mathlib.Omega.{arith}
 use mathlib.Core.Path.{◌≡◌, ap₂, ◌∙◌}
 use mathlib.Core.Logic.{◌↔◌}

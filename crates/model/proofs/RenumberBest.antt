@@ -2,12 +2,11 @@
 use Prim.Native.Nat.{ℕ, zero, suc, ◌+◌, ◌-◌, ◌≤◌, ◌<◌}
 use native.Mathlib.Omega.{arith}
 use mathlib.Core.Path.{◌≡◌, ap, sym}
-use mathlib.Core.Logic.{◌⊎◌, ⊎_elim}
+use mathlib.Core.Logic.{⊎_elim}
 use mathlib.Core.Bool.{Bool}
 use mathlib.Core.List.{List}
 use lib.Dec.{T}
 use Rattle.model.specs.Count.{All}
-use Rattle.model.specs.Choice.{from}
 use Rattle.model.specs.Interval.{any, split, most_of}
 use Rattle.model.specs.Renumber.{rank, tip_at, renumbered, width, Fits}
 use Rattle.model.proofs.Tests.{test}

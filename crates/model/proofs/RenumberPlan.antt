@@ -2,14 +2,14 @@
 use Prim.Native.Nat.{ℕ, zero, suc, ◌+◌, ◌-◌, ◌≤◌, ◌<◌}
 use native.Mathlib.Omega.{arith}
 use mathlib.Core.Path.{◌≡◌, ap, sym, ◌∙◌}
-use mathlib.Core.Logic.{◌⊎◌, ⊎_elim}
+use mathlib.Core.Logic.{⊎_elim}
 use mathlib.Core.Bool.{Bool, cond}
 use mathlib.Core.List.{List}
 use lib.Dec.{T, ltb, ltb→lt, lt→ltb}
 use Rattle.model.specs.Count.{All, lowest_at}
 use Rattle.model.specs.Plan.{has}
 use Rattle.model.specs.Choice.{Mounted, is_on, from}
-use Rattle.model.specs.Interval.{any, low, high, lies, most, most_of, worth, pick_of, tip_by, Line}
+use Rattle.model.specs.Interval.{any, low, high, lies, most_of, worth, pick_of, tip_by, Line}
 use Rattle.model.specs.Renumber.{rank, tip_at, ranks, renumbered, rank_on, width, Fits}
 use Rattle.model.proofs.Tests.{same_test}
 use Rattle.model.proofs.Lists.{all_map}

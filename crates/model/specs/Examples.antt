@@ -9,9 +9,9 @@ use Rattle.model.specs.Greedy.{busiest, rounds, first, quick_tip, quick_plan}
 use Rattle.model.specs.Interval.{low, high, named, fills, is_run_of, lies, inside, most, C, tip_by, worth, pick_of, best_tip, best_plan}
 
 -- {1}, {2}, {0,1}, {0,2}: each tip is in two lines, and the lowest is taken, not the highest, nor the first line's
-lowest-tied : quick_plan bare 3 (2 ∷ 4 ∷ 3 ∷ 5 ∷ []) ≡ 1 ∷ 2 ∷ 0 ∷ 0 ∷ []
+lowest_tied : quick_plan bare 3 (2 ∷ 4 ∷ 3 ∷ 5 ∷ []) ≡ 1 ∷ 2 ∷ 0 ∷ 0 ∷ []
 unfolding quick_plan quick_tip rounds first busiest choice lowest_at occ has count select list_of
-lowest-tied = refl
+lowest_tied = refl
 
 -- {0} three times, {1,3}, {2,3}: the second round shares tip 3
 shared_later : quick_plan bare 4 (1 ∷ 1 ∷ 1 ∷ 10 ∷ 12 ∷ []) ≡ 0 ∷ 0 ∷ 0 ∷ 3 ∷ 3 ∷ []
@@ -29,9 +29,9 @@ unfolding is_run_of fills every named occ count has low high count_leading_zeros
 holed = refl
 
 -- {0}, {2}, {0,1}, {1,2}: two pairs; {0,1} does not lie within the interval of tip 0
-two-pairs : C (1 ∷ 4 ∷ 3 ∷ 6 ∷ []) 0 3 ≡ 2
+two_pairs : C (1 ∷ 4 ∷ 3 ∷ 6 ∷ []) 0 3 ≡ 2
 unfolding C most named occ lies inside largest low high choose2 has count count_leading_zeros count_trailing_zeros
-two-pairs = refl
+two_pairs = refl
 
 -- {1,3}: tip 2, which no line has, is not taken though it is mounted; nor is tip 3, the higher of the tied
 unnamed : best_plan (tip 2) 4 (10 ∷ []) ≡ 1 ∷ []

@@ -16,8 +16,8 @@ abbrev rule : ℕ → ℕ → Rule
 rule a b = record { earlier = a; later = b }
 
 -- parts 2 and 3 are due by position 1, and 2 not before it; part 3 is to precede part 2, which is due by position 1
-due-first : (placing_order (plain 0 3 ∷ plain 0 3 ∷ plain 1 1 ∷ plain 0 1 ∷ []) [] ≡ some (3 ∷ 2 ∷ 0 ∷ 1 ∷ []))
+due_first : (placing_order (plain 0 3 ∷ plain 0 3 ∷ plain 1 1 ∷ plain 0 1 ∷ []) [] ≡ some (3 ∷ 2 ∷ 0 ∷ 1 ∷ []))
     × (placing_order (plain 0 3 ∷ plain 0 3 ∷ plain 0 1 ∷ plain 0 3 ∷ []) (rule 3 2 ∷ []) ≡ some (3 ∷ 2 ∷ 0 ∷ 1 ∷ []))
 unfolding placing_order least_order lasts_of settle earliest relax greedy pick prepend tight due fits is_free_part
     before by_flags ruled number lowest lowest_at every list_of
-due-first = (refl, refl)
+due_first = (refl, refl)

@@ -22,7 +22,7 @@ use Rattle.panel.proofs.Panel.{good_append, panel-rule}
 -- lines that are given are counted
 pub given_counted : {earlier : Refusal} {m n : ℕ} {qs sets : List ℕ} → Given earlier m n qs sets → earlier.number ≡ 0 → Counted n qs
 given_counted {n} {sets} g z = record {
-  room = g.quantity-room z;
+  room = g.quantity_room z;
   lines = omega (arith, (g.good z).few-lines, length-take-le n sets (g.room z));
   few = (g.good z).few;
 }
@@ -138,18 +138,18 @@ module _ (earlier : Refusal) {m n o p : ℕ} {qs sets rs others : List ℕ} (g :
 
     pub merged_quantities : take (n + p) last-qs ≡ take n qs ++ take p rs
     merged_quantities =
-        let a = length-take-le n qs (g.quantity-room free) in
-        let b = length-take-le p rs (h.quantity-room free) in
+        let a = length-take-le n qs (g.quantity_room free) in
+        let b = length-take-le p rs (h.quantity_room free) in
         merged-front d z n p (take n qs) (take p rs) a b qs f
 
   -- so the lines are given to a call after the merge
   pub given-merged : Given d m (n + p) last-qs last
   given-merged = record {
     room = λ z. omega (arith, first_size z, second_size z, merged-length d z (take n sets) (take p others) sets e);
-    quantity-room = λ z. omega (
+    quantity_room = λ z. omega (
       arith,
-      length-take-le n qs (g.quantity-room (free z)),
-      length-take-le p rs (h.quantity-room (free z)),
+      length-take-le n qs (g.quantity_room (free z)),
+      length-take-le p rs (h.quantity_room (free z)),
       merged-length d z (take n qs) (take p rs) qs f,
     );
     good = λ z. rw (merged-lines z, merged_quantities z) (merged-rule earlier g h (number_of told_is z)).good;

@@ -103,4 +103,4 @@ by_number r number x y e = by (accepts r) refl
 
 -- lines given after one refusal are given after a later one
 pub later : {r d : Refusal} {m n : ℕ} {qs sets : List ℕ} → (d.number ≡ 0 → r.number ≡ 0) → Given r m n qs sets → Given d m n qs sets
-later f g = record { room = λ z. g.room (f z); quantity-room = λ z. g.quantity-room (f z); good = λ z. g.good (f z) }
+later f g = record { room = λ z. g.room (f z); quantity_room = λ z. g.quantity_room (f z); good = λ z. g.good (f z) }

@@ -42,5 +42,5 @@ lent_by r n new old = cond (accepts r) (new ++ drop n old) old
 -- where nothing is refused earlier, the lines are the first n of the sets, each with its quantity, and good
 pub record Given (earlier : Refusal) (m n : ℕ) (qs sets : List ℕ) : Type 0 where
   pub room : earlier.number ≡ 0 → n ≤ length sets
-  pub quantity-room : earlier.number ≡ 0 → n ≤ length qs
+  pub quantity_room : earlier.number ≡ 0 → n ≤ length qs
   pub good : earlier.number ≡ 0 → GoodLines m (take n qs) (take n sets)

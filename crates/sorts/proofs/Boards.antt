@@ -53,7 +53,7 @@ placements_of b = repeated (quantities_of b) (lines_of b)
 
 module _ (b : Board) (r : SoundClosed b) where
   full : Full b
-  full = record { sets-full = r.sets-full; quantities-full = r.quantities-full }
+  full = record { sets_full = r.sets_full; quantities_full = r.quantities_full }
 
   free : state_refusal Closed b ≡ none
   free = state-free Closed b full r.is_sound r.is_closed
@@ -243,15 +243,15 @@ module _ (b₁ b₂ : Board) (r : Reordered b₁ b₂) where
       tops = ap₂ told same_state same_top;
       offs = ap₂ told same_state (ap₂ ◌-◌ same_total same_top);
       tips = ap₂ told same_state (same W (λ m. (order_hidden m 0 bare).tips));
-      keep-number = ap (λ d. d.number) (same_keep k);
+      keep_number = ap (λ d. d.number) (same_keep k);
       margins = ap₂ (λ d z. cond (accepts d) z (pos 0)) same_state (same_margin k);
       kept_sets = same_kept k;
       quick_number = ap (λ d. d.number) same_quick;
       quick-pairs = ap₂ told same_quick same_pairs;
       quick_tips = λ z. same_tips (quick_tip mounted) (λ m. (order_hidden m 0 mounted).quick_tips) quick₁ quick₂ z (number_of same_quick z);
-      best-number = same_best;
+      best_number = same_best;
       best-pairs = ap₂ (λ n x. cond (eqb n 0) x 0) same_best (same (λ m l. C l 0 m) (λ m. (order_hidden m 0 mounted).best-pairs));
-      best-tips = λ z. same_tips (best_tip mounted) (λ m. (order_hidden m 0 mounted).best-tips) best₁ best₂ z (sym same_best ∙ z);
+      best_tips = λ z. same_tips (best_tip mounted) (λ m. (order_hidden m 0 mounted).best_tips) best₁ best₂ z (sym same_best ∙ z);
       tables = same_table;
     }
 

@@ -26,8 +26,8 @@ backward = counted_board 3 (1 ∷ 1 ∷ 2 ∷ 1 ∷ []) (5 ∷ 3 ∷ 4 ∷ 2 ∷
 pub turned_round : Reordered backward forward
 unfolding sound_board rack_ok count_ok each is_domain in_rack total zip zip_with
 turned_round = record {
-  own₁ = record { sets-full = refl; quantities-full = refl; is_sound = tt; is_closed = refl };
-  own₂ = record { sets-full = refl; quantities-full = refl; is_sound = tt; is_closed = refl };
+  own₁ = record { sets_full = refl; quantities_full = refl; is_sound = tt; is_closed = refl };
+  own₂ = record { sets_full = refl; quantities_full = refl; is_sound = tt; is_closed = refl };
   racks = refl;
   parts = reverse_perm (parts_of forward);
 }

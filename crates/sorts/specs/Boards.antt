@@ -15,8 +15,8 @@ parts_of b = zip (lines_of b) (quantities_of b)
 
 -- sound and closed; a record's arrays have their 512 places
 pub record SoundClosed (b : Board) : Type 0 where
-  pub sets-full : length b.sets ≡ most_lines
-  pub quantities-full : length b.quantities ≡ most_lines
+  pub sets_full : length b.sets ≡ most_lines
+  pub quantities_full : length b.quantities ≡ most_lines
   pub is_sound : T (sound b)
   pub is_closed : b.stage ≡ Closed
 
@@ -49,15 +49,15 @@ pub record SameAnswers (k : ℕ) (mounted : Mounted) (b₁ b₂ : Board) (plan�
   pub tops : (common_of b₁).top ≡ (common_of b₂).top
   pub offs : (common_of b₁).off ≡ (common_of b₂).off
   pub tips : (common_of b₁).tips ≡ (common_of b₂).tips
-  pub keep-number : (keep_of b₁ k).number ≡ (keep_of b₂ k).number
+  pub keep_number : (keep_of b₁ k).number ≡ (keep_of b₂ k).number
   pub margins : (keep_of b₁ k).margin ≡ (keep_of b₂ k).margin
   pub kept_sets : AlikeByPart b₁ b₂ (keep_of b₁ k).board.sets (keep_of b₂ k).board.sets
   pub quick_number : (quick_of b₁ mounted (length plan₁)).number ≡ (quick_of b₂ mounted (length plan₂)).number
   pub quick-pairs : (quick_of b₁ mounted (length plan₁)).pairs ≡ (quick_of b₂ mounted (length plan₂)).pairs
   pub quick_tips : (quick_of b₁ mounted (length plan₁)).number ≡ 0 → AlikeBySet b₁ b₂ (quick_buffer b₁ mounted plan₁) (quick_buffer b₂ mounted plan₂)
-  pub best-number : (best_of b₁ mounted (length plan₁) (length cells₁)).number ≡ (best_of b₂ mounted (length plan₂) (length cells₂)).number
+  pub best_number : (best_of b₁ mounted (length plan₁) (length cells₁)).number ≡ (best_of b₂ mounted (length plan₂) (length cells₂)).number
   pub best-pairs : (best_of b₁ mounted (length plan₁) (length cells₁)).pairs ≡ (best_of b₂ mounted (length plan₂) (length cells₂)).pairs
-  pub best-tips : (best_of b₁ mounted (length plan₁) (length cells₁)).number ≡ 0
+  pub best_tips : (best_of b₁ mounted (length plan₁) (length cells₁)).number ≡ 0
       → AlikeBySet b₁ b₂ (best_buffer b₁ mounted plan₁ (length cells₁)) (best_buffer b₂ mounted plan₂ (length cells₂))
   pub tables : (best_of b₁ mounted (length plan₁) (length cells₁)).number ≡ 0
       → take (b₁.rack * b₁.rack) (best_table b₁ mounted (length plan₁) cells₁)

@@ -25,7 +25,7 @@ pub record OrderHidden (m k : ℕ) (mounted : Mounted) : Type 0 where
   pub kept : (q s : ℕ) → Hides (λ lines. kept_q m lines k q s)
   pub quick_tips : (s : ℕ) → Hides (λ lines. quick_tip mounted m lines s)
   pub quick-pairs : Hides (λ lines. pairs (quick_plan mounted m lines))
-  pub best-tips : (s : ℕ) → Hides (λ lines. best_tip mounted m lines s)
+  pub best_tips : (s : ℕ) → Hides (λ lines. best_tip mounted m lines s)
   pub best-pairs : Hides (λ lines. C lines 0 m)
   pub tables : Hides (table m)
   pub runs : Hides (λ lines. each (is_run_of (named lines)) lines)

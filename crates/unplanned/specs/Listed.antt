@@ -33,7 +33,7 @@ line_at list places p = get_or list (get_or places p 0) 0
 
 -- what finding the lines with a tip needs of the list and of the places that it is lent
 pub record Findable (tip m : ℕ) (list sets places : List ℕ) : Type 0 where
-  pub tip-inside : tip < most_tips
+  pub tip_inside : tip < most_tips
   pub inside : Below (length sets) m list
   pub room : m ≤ length list
   pub for_places : m ≤ length places

@@ -61,10 +61,10 @@ slice-aggregate-best-lines : tie.Need-slice_bounds-best_lines-end-2
 slice-aggregate-best-lines c = sym (size c.before)
 
 slice-reshare-prefix-best-lines : tie.Need-slice_bounds-best_lines-end-3
-slice-reshare-prefix-best-lines c = let d = c.before in (given d).quantity-room d.if-refusal-ne0.false
+slice-reshare-prefix-best-lines c = let d = c.before in (given d).quantity_room d.if-refusal-ne0.false
 
 slice-aggregate-best-lines-2 : tie.Need-slice_bounds-best_lines-end-4
-slice-aggregate-best-lines-2 c = let d = c.before in sym (length-take-le _ _ ((given d).quantity-room d.if-refusal-ne0.false))
+slice-aggregate-best-lines-2 c = let d = c.before in sym (length-take-le _ _ ((given d).quantity_room d.if-refusal-ne0.false))
 
 slice-relend-prefix-best-lines-2 : tie.Need-slice_bounds-best_lines-end-5
 slice-relend-prefix-best-lines-2 c = bytes c.before

@@ -114,12 +114,12 @@ slice-aggregate-write-lines : tie.Need-slice_bounds-write_lines-end
 slice-aggregate-write-lines c = sym (size c.before.before)
 
 array-share-prefix-quantities : tie.Need-slice_bounds-quantities-end
-array-share-prefix-quantities c = let d = c.before.before in (given d).quantity-room d.if-refusal-ne0.false
+array-share-prefix-quantities c = let d = c.before.before in (given d).quantity_room d.if-refusal-ne0.false
 
 slice-aggregate-write-lines-2 : tie.Need-slice_bounds-write_lines-end-2
 slice-aggregate-write-lines-2 c =
     let d = c.before.before.before in
-    sym (length-take-le _ _ ((given d).quantity-room d.if-refusal-ne0.false))
+    sym (length-take-le _ _ ((given d).quantity_room d.if-refusal-ne0.false))
 
 array-borrow-prefix-quick : tie.Need-slice_bounds-quick-end
 array-borrow-prefix-quick c = quick-bytes c.before.before

@@ -50,7 +50,7 @@ slice-aggregate-plan-lines c = count c.before
 slice-aggregate-plan-lines-2 : tie.Need-slice_bounds-plan_lines-end-3
 slice-aggregate-plan-lines-2 c =
     let d = c.before in
-    sym (length-take-le _ _ ((begun d).requires.quantity-room (asked d).free))
+    sym (length-take-le _ _ ((begun d).requires.quantity_room (asked d).free))
 
 slice-relend-prefix-plan-lines-2 : tie.Need-slice_bounds-plan_lines-end-4
 slice-relend-prefix-plan-lines-2 c = bytes c.before

@@ -47,7 +47,7 @@ names-of-requires c κs = search rules
 slice-aggregate-check-plan : tie.Need-slice_bounds-check_plan-end
 slice-aggregate-check-plan c =
     let d = c.before in
-    sym (length-take-le _ _ ((begun (asked d)).requires.quantity-room (free d).free))
+    sym (length-take-le _ _ ((begun (asked d)).requires.quantity_room (free d).free))
 
 slice-aggregate-check-plan-2 : tie.Need-slice_bounds-check_plan-end-2
 slice-aggregate-check-plan-2 c = sym (length-take-le _ _ (bytes c.before))

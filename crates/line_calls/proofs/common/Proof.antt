@@ -22,7 +22,7 @@ slice-aggregate-common-tip c = sym (length-take-le _ _ ((begun c).requires.room 
 slice-aggregate-common-tip-2 : tie.Need-slice_bounds-common_tip-end-2
 slice-aggregate-common-tip-2 c =
     let d = c in
-    sym (length-take-le _ _ ((begun d).requires.quantity-room d.if-earlier-ne0.false))
+    sym (length-take-le _ _ ((begun d).requires.quantity_room d.if-earlier-ne0.false))
 
 common-tip-requires : tie.Need-common_tip-found-requires
 common-tip-requires c κs = let g = good c in (g.most, record { same = g.same; few = g.few })

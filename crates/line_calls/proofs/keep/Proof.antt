@@ -33,7 +33,7 @@ slice-aggregate-keep-lines c = size c.before
 slice-aggregate-keep-lines-2 : tie.Need-slice_bounds-keep_lines-end-3
 slice-aggregate-keep-lines-2 c =
     let d = c.before in
-    sym (length-take-le _ _ ((begun d).requires.quantity-room d.if-earlier-ne0.false))
+    sym (length-take-le _ _ ((begun d).requires.quantity_room d.if-earlier-ne0.false))
 
 keep-lines-requires : tie.Need-keep_lines-margin-requires
 keep-lines-requires c κs = let g = good c.before in (g.most, record { same = g.same; few = g.few }, g.placed)

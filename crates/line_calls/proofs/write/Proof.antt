@@ -33,7 +33,7 @@ few d = omega (arith, count d, (good d).few-lines)
 slice-aggregate-version-for : tie.Need-slice_bounds-version_for-end
 slice-aggregate-version-for c =
     let d = c in
-    sym (length-take-le _ _ ((begun d).requires.quantity-room d.if-earlier-ne0.false))
+    sym (length-take-le _ _ ((begun d).requires.quantity_room d.if-earlier-ne0.false))
 
 version-for-requires : tie.Need-version_for-version-requires
 version-for-requires c κs = search rules
@@ -78,7 +78,7 @@ room e = omega (arith, e.file_length-bytes.ensures, room_for (measured e))
 slice-aggregate-write-file : tie.Need-slice_bounds-write_file-end
 slice-aggregate-write-file c =
     let d = started (asked (measured c)) in
-    sym (length-take-le _ _ ((begun d).requires.quantity-room d.if-earlier-ne0.false))
+    sym (length-take-le _ _ ((begun d).requires.quantity_room d.if-earlier-ne0.false))
 
 slice-aggregate-write-file-2 : tie.Need-slice_bounds-write_file-end-2
 slice-aggregate-write-file-2 c = count (started (asked (measured c)))

@@ -35,11 +35,11 @@ asked a = a.before.before
 
 full : (a : tie.After-quantities-2-1) → Full (begun a).args.self
 full a =
-    record { sets-full = sym (slice-aggregate-state-refusal a.before); quantities-full = sym (slice-aggregate-state-refusal-2 a) }
+    record { sets_full = sym (slice-aggregate-state-refusal a.before); quantities_full = sym (slice-aggregate-state-refusal-2 a) }
 
 other : (a : tie.After-other_quantities-2-1) → Full (begun (asked a).before).args.other
 other a =
-    record { sets-full = sym (slice-aggregate-state-refusal-3 a.before); quantities-full = sym (slice-aggregate-state-refusal-4 a) }
+    record { sets_full = sym (slice-aggregate-state-refusal-3 a.before); quantities_full = sym (slice-aggregate-state-refusal-4 a) }
 
 -- both states, before the working copies are lent
 abbrev lent : tie.After-left-3-1 → tie.After-other_quantities-2-1

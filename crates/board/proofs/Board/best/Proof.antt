@@ -16,7 +16,7 @@ slice-aggregate-state-refusal-2 c = search rules
 
 full : (a : tie.After-quantities-2-1) → Full (begun a).args.self
 full a =
-    record { sets-full = sym (slice-aggregate-state-refusal a.before); quantities-full = sym (slice-aggregate-state-refusal-2 a) }
+    record { sets_full = sym (slice-aggregate-state-refusal a.before); quantities_full = sym (slice-aggregate-state-refusal-2 a) }
 
 state-refusal-requires : tie.Need-state_refusal-state-requires
 state-refusal-requires c κs = search rules

@@ -16,7 +16,7 @@ slice-aggregate-lent-quantities : tie.Need-slice_bounds-lent_quantities-end
 slice-aggregate-lent-quantities c = search rules
 
 full : (a : tie.After-quantities-2-1) → Full (begun a).args.self
-full a = record { sets-full = sym (slice-aggregate-lent-sets a.before); quantities-full = sym (slice-aggregate-lent-quantities a) }
+full a = record { sets_full = sym (slice-aggregate-lent-sets a.before); quantities_full = sym (slice-aggregate-lent-quantities a) }
 
 state-refusal-requires : tie.Need-state_refusal-state-requires
 state-refusal-requires c κs = search rules

@@ -37,11 +37,11 @@ other-lent a = a.before.before
 
 full : (a : tie.After-quantities-2-1) → Full (begun (other-lent a)).args.self
 full a =
-    record { sets-full = sym (slice-aggregate-state-refusal a.before); quantities-full = sym (slice-aggregate-state-refusal-2 a) }
+    record { sets_full = sym (slice-aggregate-state-refusal a.before); quantities_full = sym (slice-aggregate-state-refusal-2 a) }
 
 other : (a : tie.After-other_quantities-2-1) → Full (begun a).args.other
 other a =
-    record { sets-full = sym (slice-aggregate-lent-sets a.before); quantities-full = sym (slice-aggregate-lent-quantities a) }
+    record { sets_full = sym (slice-aggregate-lent-sets a.before); quantities_full = sym (slice-aggregate-lent-quantities a) }
 
 slice-aggregate-merge : tie.Need-slice_bounds-merge-end
 slice-aggregate-merge c = slice-aggregate-state-refusal c.before.before.before.before.before
@@ -71,7 +71,7 @@ second-lines of =
 merge-requires : tie.Need-merge-refusal-requires
 merge-requires c κs =
     let of = c.before.before in
-    (first-lines of, (second-lines of, ((all of).sets-full, (all of).quantities-full)))
+    (first-lines of, (second-lines of, ((all of).sets_full, (all of).quantities_full)))
 
 no-sets-requires : tie.Need-no_sets-requires
 no-sets-requires c κs = search rules

@@ -168,16 +168,16 @@ module _ (o : tie.Else-b-ge128 invariant-loop decreases-loop) where
   is-due : T (has_part (here o.before) o.before.lowest_part-b.result)
   is-due = (is-lowest o.before).found o.if-b-ge128.false
 
-  is-left : T (has_part (turn o.before).loop-e.left o.before.lowest_part-b.result)
-  is-left = (waits o.before).part _ is-due
+  is_left : T (has_part (turn o.before).loop-e.left o.before.lowest_part-b.result)
+  is_left = (waits o.before).part _ is-due
 
   part_in : o.before.lowest_part-b.result < length (lasts₀ o.before)
-  part_in = (waits o.before).inside _ is-left
+  part_in = (waits o.before).inside _ is_left
 
   more_left : (turn o.before).loop-e.j < length (lasts₀ o.before)
   more_left =
       let k = (turn o.before).loop-e in
-      omega (arith, k.invariant.2.count, number_pos (has_part k.left) (length (lasts₀ o.before)) _ part_in is-left)
+      omega (arith, k.invariant.2.count, number_pos (has_part k.left) (length (lasts₀ o.before)) _ part_in is_left)
 
 mul-lasts : tie.Need-offset_bounds-lasts-b invariant-loop decreases-loop
 mul-lasts c = record { fits = omega (arith, part_in c, parts_in (turn c.before)) }
@@ -232,7 +232,7 @@ loop-again-2 c =
       k.invariant.1,
       z.0,
       z.1,
-      ended-set s.args.all (lasts₀ a) k.lasts k.j k.e _ _ _ k.left k.due s.requires.4 k.invariant.2 k.invariant.4 q (is-left o),
+      ended-set s.args.all (lasts₀ a) k.lasts k.j k.e _ _ _ k.left k.due s.requires.4 k.invariant.2 k.invariant.4 q (is_left o),
     )
 
 same_length : tie.Need-shape_of-lasts invariant-loop decreases-loop

@@ -42,7 +42,7 @@ names-of-requires c κs = search rules
 slice-aggregate-strike : tie.Need-slice_bounds-strike-end
 slice-aggregate-strike c =
     let d = left (asked c.before) in
-    sym (length-take-le _ _ ((begun d).requires.0.quantity-room d.if-earlier-ne0.false))
+    sym (length-take-le _ _ ((begun d).requires.0.quantity_room d.if-earlier-ne0.false))
 
 slice-relend-prefix-strike : tie.Need-slice_bounds-strike-end-2
 slice-relend-prefix-strike c =

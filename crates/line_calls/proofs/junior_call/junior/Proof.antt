@@ -49,7 +49,7 @@ slice-aggregate-plan-lines c = count c
 slice-aggregate-plan-lines-2 : tie.Need-slice_bounds-plan_lines-end-2
 slice-aggregate-plan-lines-2 c =
     let d = c in
-    sym (length-take-le _ _ ((begun d.before.before).requires.quantity-room (free d).0))
+    sym (length-take-le _ _ ((begun d.before.before).requires.quantity_room (free d).0))
 
 slice-relend-prefix-plan-lines : tie.Need-slice_bounds-plan_lines-end-3
 slice-relend-prefix-plan-lines c = (free c).1

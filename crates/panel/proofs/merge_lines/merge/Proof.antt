@@ -41,10 +41,10 @@ start d = d.before.before.before.before.before.before.before
 
 record Known (a : tie.Start) : Type 0 where
   room : a.args.other_count ≤ length a.args.other_sets.now
-  quantity-room : a.args.other_count ≤ length a.args.other_quantities.now
+  quantity_room : a.args.other_count ≤ length a.args.other_quantities.now
   few : a.args.count + a.args.other_count ≤ most_lines
-  sets-full : length a.args.sets.now ≡ most_lines
-  quantities-full : length a.args.quantities.now ≡ most_lines
+  sets_full : length a.args.sets.now ≡ most_lines
+  quantities_full : length a.args.quantities.now ≡ most_lines
 
 known : (d : tie.Else-refusal-ne0) → Known (start d)
 known d =
@@ -52,10 +52,10 @@ known d =
     let (g, (h, (sets, quantities))) = (start d).requires in
     record {
       room = h.room k.free;
-      quantity-room = h.quantity-room k.free;
+      quantity_room = h.quantity_room k.free;
       few = k.lines_few;
-      sets-full = sets;
-      quantities-full = quantities;
+      sets_full = sets;
+      quantities_full = quantities;
     }
 
 slice-aggregate-put-sets : tie.Need-slice_bounds-put_sets-end
@@ -65,10 +65,10 @@ mul-put-sets : tie.Need-offset_bounds-sets-count
 mul-put-sets c = let k = known c in omega (arith, k.few)
 
 sub-put-sets : tie.Need-slice_bounds-put_sets-count
-sub-put-sets c = let k = known c in omega (arith, k.few, k.sets-full)
+sub-put-sets c = let k = known c in omega (arith, k.few, k.sets_full)
 
 part-put-sets-start : tie.Need-slice_bounds-put_sets-start
-part-put-sets-start c = let k = known c in omega (arith, k.few, k.sets-full)
+part-put-sets-start c = let k = known c in omega (arith, k.few, k.sets_full)
 
 part-put-sets-end : tie.Need-slice_bounds-put_sets-end-2
 part-put-sets-end c = search rules
@@ -81,7 +81,7 @@ put-sets-requires c κs =
     omega (
       arith,
       k.few,
-      k.sets-full,
+      k.sets_full,
       length-take-le a.other_count a.other_sets.now k.room,
       mid_len a.count (length a.sets.now) a.sets.now (omega arith),
     )
@@ -91,13 +91,13 @@ abbrev behind : tie.After-slice_known-3-1 → tie.Else-refusal-ne0
 behind c = c.before.before.before.before
 
 slice-aggregate-put-quantities : tie.Need-slice_bounds-put_quantities-end
-slice-aggregate-put-quantities c = sym (length-take-le _ _ (known (behind c)).quantity-room)
+slice-aggregate-put-quantities c = sym (length-take-le _ _ (known (behind c)).quantity_room)
 
 sub-put-quantities : tie.Need-slice_bounds-put_quantities-count
-sub-put-quantities c = let k = known (behind c) in omega (arith, k.few, k.quantities-full)
+sub-put-quantities c = let k = known (behind c) in omega (arith, k.few, k.quantities_full)
 
 part-put-quantities-start : tie.Need-slice_bounds-put_quantities-start
-part-put-quantities-start c = let k = known (behind c) in omega (arith, k.few, k.quantities-full)
+part-put-quantities-start c = let k = known (behind c) in omega (arith, k.few, k.quantities_full)
 
 part-put-quantities-end : tie.Need-slice_bounds-put_quantities-end-2
 part-put-quantities-end c = search rules
@@ -110,8 +110,8 @@ put-quantities-requires c κs =
     omega (
       arith,
       k.few,
-      k.quantities-full,
-      length-take-le a.other_count a.other_quantities.now k.quantity-room,
+      k.quantities_full,
+      length-take-le a.other_count a.other_quantities.now k.quantity_room,
       mid_len a.count (length a.quantities.now) a.quantities.now (omega arith),
     )
 
@@ -134,8 +134,8 @@ returns-2 c =
     let z = d.if-refusal-ne0.false in (
       merge_counts _ g h asked.merge_refusal-refusal.ensures,
       (
-        put-behind a.count _ a.sets.now (omega (arith, k.few, k.sets-full)) r z c.put_sets.ensures,
-        put-behind a.count _ a.quantities.now (omega (arith, k.few, k.quantities-full)) r z put.put_quantities.ensures,
+        put-behind a.count _ a.sets.now (omega (arith, k.few, k.sets_full)) r z c.put_sets.ensures,
+        put-behind a.count _ a.quantities.now (omega (arith, k.few, k.quantities_full)) r z put.put_quantities.ensures,
       ),
     )
 
