@@ -220,8 +220,8 @@ tips-again-2 c =
       omega (arith, ordered l),
       omega (arith, inside l),
       rw (sym (next l)) (elim c.if-best-score.branch [
-        then-best-score w ↦ rw w.best-is (sought_moves (u l) (v l) (sought l) (inside l) scored w.if-best-score.true
-        (rw (p.side_pairs-to_u.ensures, p.side_pairs-to_v.ensures) side))
+        | then-best-score w ↦ rw w.best-is (sought_moves (u l) (v l) (sought l) (inside l) scored w.if-best-score.true
+            (rw (p.side_pairs-to_u.ensures, p.side_pairs-to_v.ensures) side))
         | else-best-score w ↦ rw w.best-is (sought_stays (sought l) (omega (arith, scored, w.if-best-score.false)))
       ]),
     )
