@@ -123,7 +123,8 @@ module _ (file : List ℕ) (b : Board) (given : read_of file ≡ answer b none) 
   unfolding best_in best_of
   best_as_board mounted room places = on_board (λ r m q l. plan_outcome (Lines.best_of (mounted_refusal r m mounted) m q l room places))
 
-  pub best_plan_as_board : (mounted : Mounted) (plan : List ℕ) (places : ℕ) → best_plan_in file mounted plan places ≡ best_buffer b mounted plan places
+  pub best_plan_as_board : (mounted : Mounted) (plan : List ℕ) (places : ℕ) → best_plan_in
+      file mounted plan places ≡ best_buffer b mounted plan places
   unfolding best_plan_in best_buffer
   best_plan_as_board mounted plan places = on_board (λ r m q l. Lines.best_buffer (mounted_refusal r m mounted) m mounted q l plan places)
 

@@ -115,7 +115,8 @@ module _ (first second : List ℕ) (a b : Board) (given : read_of first ≡ answ
     unfolding merge_of
     refused_merge z = h (ap (λ x. x.number) (accepted through stopped {d = merge_refusal a b} refl z))
 
-    pub merge_refused_as_board : (out : List ℕ) → (merge_of_files first second (length out) ≡ of_merged (merge_of a b)) × (merge_file_in first second out ≡ out)
+    pub merge_refused_as_board : (out : List ℕ) → (merge_of_files first second (length out) ≡ of_merged (merge_of a b)) ×
+        (merge_file_in first second out ≡ out)
     unfolding merge_of
     merge_refused_as_board out =
         let writes = write_stopped (merge_refusal a b) a.rack qs lines out refused_merge in (

@@ -39,7 +39,8 @@ run_refusal lines = scan (is_run_of (named lines)) (λ _. 25) lines
 
 -- best: those of a plan, then a table shorter than m * m places, then a line that is no run
 unfoldable pub best_refusal : Refusal → ℕ → List ℕ → ℕ → ℕ → Refusal
-best_refusal earlier m lines room places = or_else (plan_refusal earlier (length lines) room) (or_else (when (ltb places (m * m)) 5) (run_refusal lines))
+best_refusal earlier m lines room places = or_else (plan_refusal earlier (length lines) room)
+    (or_else (when (ltb places (m * m)) 5) (run_refusal lines))
 
 -- write: an output of room bytes that is shorter than the file of n lines in version v
 unfoldable pub write_refusal : Refusal → ℕ → ℕ → ℕ → Refusal

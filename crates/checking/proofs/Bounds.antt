@@ -1,5 +1,6 @@
 -- What the loops find is what the definitions say: the bounds of the table by the sums of the placements.
-use Rattle.std.proofs.Common.{◌≡◌, ℕ, zero, suc, ◌+◌, ◌-◌, ◌*◌, ◌<◌, ◌≤◌, Bool, true, false, not, ◌&&◌, ◌||◌, T, eqb, List, length, get_or, ap, ◌∙◌, mul-le-mul_right, add-one, arith, le→leb, eqb→eq, leb→le}
+use Rattle.std.proofs.Common.{◌≡◌, ℕ, zero, suc, ◌+◌, ◌-◌, ◌*◌, ◌<◌, ◌≤◌, Bool, true, false, not, ◌&&◌}
+use Rattle.std.proofs.Common.{◌||◌, T, eqb, List, length, get_or, ap, ◌∙◌, mul-le-mul_right, add-one, arith, le→leb, eqb→eq, leb→le}
 use lib.Dec.{not_T}
 use Rattle.model.specs.Limits.{most_placements}
 use Rattle.model.specs.Count.{All, every}

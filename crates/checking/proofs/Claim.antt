@@ -1,5 +1,7 @@
 -- The pass over a plan: lines on tips of their own, and their placements, which join those on their tips.
-use Rattle.std.proofs.Common.{◌≡◌, ℕ, zero, suc, ◌+◌, ◌*◌, ◌<◌, ◌≤◌, true, false, cond, not, ◌&&◌, T, eqb, ◌≢◌, ◌⊎◌, List, [], ◌∷◌, length, get_or, take, drop, set, replicate, refl, ◌∙◌, inl, inr, add-one, arith, eqb→eq, T_not, length-set, drop_of_length-le, length-take, take_all, drop-cons, get_or-set_other, get_or-set_same}
+use Rattle.std.proofs.Common.{◌≡◌, ℕ, zero, suc, ◌+◌, ◌*◌, ◌<◌, ◌≤◌, true, false, cond, not, ◌&&◌, T, eqb, ◌≢◌, ◌⊎◌, List, [], ◌∷◌}
+use Rattle.std.proofs.Common.{length, get_or, take, drop, set, replicate, refl, ◌∙◌, inl, inr, add-one, arith, eqb→eq, T_not}
+use Rattle.std.proofs.Common.{length-set, drop_of_length-le, length-take, take_all, drop-cons, get_or-set_other, get_or-set_same}
 use lib.Dec.{eqb_refl}
 use Rattle.model.specs.Limits.{most_tips, most_placements, most_pairs}
 use Rattle.model.specs.Count.{count}
@@ -126,7 +128,8 @@ module _ (qs plan : List ℕ) (same : length qs ≡ length plan) (few : total qs
         let e = rw (true_T (eqb t t) (eqb_refl t)) at (uses_join (get_or qs i 0) t joins t) in
         omega (arith, e, count_le (eqb t) (placed qs plan (i + 1)), placed_few (i + 1))
 
-    pub on_more : get_or plan i 0 < most_tips → set (on_tips (placed qs plan i)) (get_or plan i 0) (there + get_or qs i 0) ≡ on_tips (placed qs plan (i + 1))
+    pub on_more : get_or plan i 0 < most_tips → set (on_tips (placed qs plan i)) (get_or plan i 0) (there + get_or qs i 0) ≡ on_tips
+        (placed qs plan (i + 1))
     on_more = on_join (get_or qs i 0) (get_or plan i 0) joins
 
     pub pairs-more : pairs (placed qs plan (i + 1)) + choose2 there ≡ pairs (placed qs plan i) + choose2 (there + get_or qs i 0)

@@ -1,5 +1,6 @@
 -- The intervals with one first tip and one tip to split at: the one that ends there, and the others from parts of the sums and of the table.
-use Rattle.std.proofs.Common.{◌≡◌, ℕ, zero, suc, ◌+◌, ◌-◌, ◌*◌, ◌%◌, ◌^◌, ◌<◌, ◌≤◌, Bool, true, false, ◌&&◌, leb, List, length, get_or, sym, refl, ap, ◌∙◌, add-zero, mul-le-mul_right, mul-le-mul, arith, le-leb}
+use Rattle.std.proofs.Common.{◌≡◌, ℕ, zero, suc, ◌+◌, ◌-◌, ◌*◌, ◌%◌, ◌^◌, ◌<◌, ◌≤◌, Bool, true, false}
+use Rattle.std.proofs.Common.{◌&&◌, leb, List, length, get_or, sym, refl, ap, ◌∙◌, add-zero, mul-le-mul_right, mul-le-mul, arith, le-leb}
 use borrow.Author.Tests.{lt-leb}
 use Rattle.model.specs.Limits.{most_tips}
 use Rattle.model.specs.Count.{every}

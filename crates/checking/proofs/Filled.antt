@@ -1,5 +1,6 @@
 -- The sums count right at a named tip: there a run of the named tips is as the unbroken run with its ends, and the sums see the ends only.
-use Rattle.std.proofs.Common.{◌≡◌, ℕ, ◌+◌, ◌/◌, ◌%◌, ◌<◌, ◌≤◌, Bool, ◌&&◌, T, ltb, leb, List, map, ◌∙◌, lt_of_lt_of_le, le_antisymm, arith, le→leb, lt→ltb, leb→le, pow_mono}
+use Rattle.std.proofs.Common.{◌≡◌, ℕ, ◌+◌, ◌/◌, ◌%◌, ◌<◌, ◌≤◌, Bool, ◌&&◌, T, ltb}
+use Rattle.std.proofs.Common.{leb, List, map, ◌∙◌, lt_of_lt_of_le, le_antisymm, arith, le→leb, lt→ltb, leb→le, pow_mono}
 use Rattle.model.specs.Limits.{most_tips}
 use Rattle.model.specs.Count.{All}
 use Rattle.model.specs.Plan.{has, Domain}

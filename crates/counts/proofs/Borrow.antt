@@ -48,7 +48,8 @@ module _ {gone old : List ℕ} (s : Subtractable gone old) where
     pub lowered_more : j < plane_count
         → let a = get_or planes j 0 in
         let b = get_or gone j 0 in
-        length (set planes j (bit_xor (bit_xor a b) c)) ≡ plane_count → Lowered gone old (j + 1) (borrow a b c) (set planes j (bit_xor (bit_xor a b) c))
+        length (set planes j (bit_xor (bit_xor a b) c)) ≡ plane_count →
+        Lowered gone old (j + 1) (borrow a b c) (set planes j (bit_xor (bit_xor a b) c))
     lowered_more h size = record {
       within = omega arith;
       size = size;

@@ -67,7 +67,8 @@ module _ (file : List ℕ) {d : Refusal} (e : d ≡ read_refusal file) {m : ℕ}
     module _ (plan : List ℕ) {a : PlanAnswer} {last : List ℕ} where
       pub quick-in : a ≡ quick_of h m mounted qs lines (length plan) → last ≡ quick_buffer h m mounted qs lines plan
           → HalfRule qs lines last a.refusal.number a.pairs
-          → (plan_outcome a ≡ quick_in file mounted (length plan)) × ((last ≡ quick_plan_in file mounted plan) × HalfRuleOf file last (plan_outcome a))
+          → (plan_outcome a ≡ quick_in file mounted (length plan)) ×
+          ((last ≡ quick_plan_in file mounted plan) × HalfRuleOf file last (plan_outcome a))
       unfolding quick_in quick_plan_in quick_of
       quick-in p q rule =
           let free : a.refusal.number ≡ 0 → h.number ≡ 0 =
@@ -89,7 +90,8 @@ module _ (file : List ℕ) {d : Refusal} (e : d ≡ read_refusal file) {m : ℕ}
       best-in cells p q t rule =
           let free : a.refusal.number ≡ 0 → h.number ≡ 0 =
           λ z. (best_none h m lines (length plan) (length cells) (ap (λ x. x.refusal.number) (sym p) ∙ z)).free in (
-            ap plan_outcome (p ∙ best_same h mounted_lines plan cells ∙ of-file file by-file (λ r k q l. best_of r k q l (length plan) (length cells))),
+            ap plan_outcome (p ∙ best_same h mounted_lines plan cells ∙
+                of-file file by-file (λ r k q l. best_of r k q l (length plan) (length cells))),
             (
               q ∙ best_buffer_same h mounted_lines plan cells mounted
                   ∙ of-file file by-file (λ r k q l. best_buffer r k mounted q l plan (length cells)),

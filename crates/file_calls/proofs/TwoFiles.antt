@@ -74,11 +74,13 @@ module _ (first second : List ℕ) {d e state : Refusal} (p : d ≡ read_refusal
       λ z. (plan_none state (length (take n sets) + length (take k others)) (length plan) (ap (λ x. x.refusal.number) (sym s) ∙ z)).0 in (
         ap alone_outcome (s ∙ alone_same state same_both plan)
             ∙ ap (λ r. alone_outcome
-            (alone_of r (rack_in first) (quantities_in first) (sets_in first) (rack_in second) (quantities_in second) (sets_in second) (length plan))) reads,
+            (alone_of r (rack_in first) (quantities_in first) (sets_in first) (rack_in second) (quantities_in second) (sets_in second)
+            (length plan))) reads,
         (
           t ∙ alone_buffer_same state same_both plan
               ∙ ap (λ r.
-              alone_buffer r (rack_in first) (quantities_in first) (sets_in first) (rack_in second) (quantities_in second) (sets_in second) plan) reads,
+              alone_buffer r (rack_in first) (quantities_in first) (sets_in first) (rack_in second) (quantities_in second) (sets_in second) plan)
+              reads,
           alone_rule_same (λ z. same_both (free z)) rule,
         ),
       )
@@ -92,7 +94,8 @@ module _ (first second : List ℕ) {d e state : Refusal} (p : d ≡ read_refusal
         ∙ ap (λ x. merge_of x (rack_in first) (quantities_in first) (sets_in first) (rack_in second) (quantities_in second) (sets_in second)) reads
 
     same_merged : r.number ≡ 0
-        → Same m (rack_in first) (take (n + k) last-qs) (quantities_in first ++ quantities_in second) (take (n + k) last) (sets_in first ++ sets_in second)
+        → Same m (rack_in first) (take (n + k) last-qs) (quantities_in first ++ quantities_in second) (take (n + k) last)
+        (sets_in first ++ sets_in second)
     same_merged z =
         let free = (known state given-first given_second (number_of h z)).free in
         let ((rack, quantities, read), (_, second-quantities, second-read)) = same_both free in (

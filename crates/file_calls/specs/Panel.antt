@@ -17,7 +17,8 @@ reads_refusal first second = first_of (read_refusal first) (read_refusal second)
 -- then those of merging their lines
 abbrev pub merge_refusal_in : List ℕ → List ℕ → Refusal
 merge_refusal_in first second =
-    merge_of (reads_refusal first second) (rack_in first) (quantities_in first) (sets_in first) (rack_in second) (quantities_in second) (sets_in second)
+    merge_of (reads_refusal first second) (rack_in first) (quantities_in first) (sets_in first) (rack_in second) (quantities_in second)
+    (sets_in second)
 
 -- the bytes of a file that is written
 abbrev pub file_outcome : FileAnswer → Outcome

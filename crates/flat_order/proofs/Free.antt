@@ -157,7 +157,8 @@ module _ (left waiting : PartSet) (low high wait-low wait-high : List ℕ) (h : 
         let (b, m, w) = h.each y (and_left (has_part waiting y) (not (has_part freed y)) k) in
         let row = row_at low high y in
         let q : T (has_part row b && has_part (removed left (single y)) b) = rw (has-met row (removed left (single y)) b) at m in
-        let o : T (without y (has_part left) b) = rw (left-without left y b) at (and_right (has_part row b) (has_part (removed left (single y)) b) q) in
+        let o : T (without y (has_part left) b) = rw (left-without left y b) at
+        (and_right (has_part row b) (has_part (removed left (single y)) b) q) in
         let d : x ≢ b = λ e. T_not (has_part freed y) (and_right (has_part waiting y) (not (has_part freed y)) k) (rw e w) in
         let l : T (has_part (removed left (single x)) b) =
         rw (left-without left x b) (without_in (has_part left) x b (without-left (has_part left) y b o) d) in

@@ -61,7 +61,8 @@ module _ (firsts lasts low high : List ℕ) (left : PartSet) (inside : (i : ℕ)
       apart_none (row_at low high x) (removed left (single x)) u y (and_right (without x (has_part left) y) (t.before y x) h)
       (rw (left-without left x y) (and_left (without x (has_part left) y) (t.before y x) h)))))
 
-  module _ (ll lh : List ℕ) (begun : PartSet) (p : ℕ) (begins : (x : ℕ) → has_part begun x ≡ (ltb x (length lasts) && ltb (get_or firsts x 0) (p + 1)))
+  module _ (ll lh : List ℕ) (begun : PartSet) (p : ℕ) (begins : (x : ℕ) →
+      has_part begun x ≡ (ltb x (length lasts) && ltb (get_or firsts x 0) (p + 1)))
       (closes : Below lasts (length lasts) ll lh) where
     -- a candidate by the sets is one by its window
     among-is : (v x : ℕ) → p < length lasts → v < length lasts → x < length lasts → has_part (candidates_at p v (met left begun) ll lh) x

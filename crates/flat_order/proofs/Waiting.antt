@@ -209,7 +209,8 @@ module _ (low high lasts₀ lasts : List ℕ) (j e b : ℕ) (left due : PartSet)
   left-stays x t d = rw (left-without left b x) (without_in (has_part left) b x t d)
 
   due-left₂ : (x : ℕ) → T (has_part due₂ x) → T (has_part left₂ x)
-  due-left₂ x t = and_right (has_part (joined due (row_at low high b)) x) (has_part left₂ x) (rw (has-met (joined due (row_at low high b)) left₂ x) at t)
+  due-left₂ x t = and_right (has_part (joined due (row_at low high b)) x) (has_part left₂ x)
+      (rw (has-met (joined due (row_at low high b)) left₂ x) at t)
 
   set_other : (x : ℕ) → b ≢ x → get_or (set lasts b e) x 0 ≡ get_or lasts x 0
   set_other x d = get_or-set_other lasts b x e 0 (λ z. d (sym z))

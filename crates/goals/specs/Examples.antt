@@ -25,7 +25,8 @@ qs4 = 1 ∷ 2 ∷ 1 ∷ 3 ∷ []
 
 -- with the goal of 19 pairs each line keeps one tip, with that of 17 all
 strike7 : (strike 3 qs7 sets7 19 ≡ 1 ∷ 1 ∷ 4 ∷ 4 ∷ []) × (strike 3 qs7 sets7 17 ≡ sets7)
-unfolding strike list_of goal_tips set_of only repeated named occ C most lies inside largest low high choose2 has count count_leading_zeros count_trailing_zeros
+unfolding strike list_of goal_tips set_of only repeated named occ C most lies inside largest low high choose2 has count count_leading_zeros
+    count_trailing_zeros
 strike7 = (refl, refl)
 
 -- the second line on each of its four tips, by one table and by two: that inside of all lines, and that outside of the others
@@ -49,10 +50,12 @@ tab7 = 4 ∷ 10 ∷ 20 ∷ 7 ∷ 0 ∷ 10 ∷ 7 ∷ 7 ∷ 1 ∷ []
 check7 : (bounds (named sets7) 3 (repeated qs7 sets7) tab7 ≡ true)
     × (bounds (named sets7) 3 (repeated qs7 sets7) (table 3 (repeated qs7 sets7)) ≡ true)
     × (bounds (named sets7) 3 (repeated qs7 sets7) (1 ∷ 9 ∷ 20 ∷ 0 ∷ 0 ∷ 10 ∷ 0 ∷ 0 ∷ 1 ∷ []) ≡ false)
-unfolding bounds every entry table list_of repeated named occ C most lies inside largest low high choose2 has count count_leading_zeros count_trailing_zeros
+unfolding bounds every entry table list_of repeated named occ C most lies inside largest low high choose2 has count count_leading_zeros
+    count_trailing_zeros
 check7 = (refl, refl, refl)
 
 -- a hole in the rack: no line names tip 1, and the line for tips 0 and 2 is a run
 strike_hole : strike 4 (1 ∷ 1 ∷ 1 ∷ []) (5 ∷ 4 ∷ 12 ∷ []) 3 ≡ 4 ∷ 4 ∷ 4 ∷ []
-unfolding strike list_of goal_tips set_of only repeated named occ C most lies inside largest low high choose2 has count count_leading_zeros count_trailing_zeros
+unfolding strike list_of goal_tips set_of only repeated named occ C most lies inside largest low high choose2 has count count_leading_zeros
+    count_trailing_zeros
 strike_hole = refl

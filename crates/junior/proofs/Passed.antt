@@ -29,7 +29,8 @@ module _ {m : ℕ} {qs lines : List ℕ} (good : GoodLines m qs lines) (u v i : 
   served-more l h one = h ∙ each-rest (λ s. has s u || has s v) lines i l ∙ rw one
 
   -- the next line has neither: these tips are no choice
-  pub given_up : v < m → i < length lines → serves lines u v ≡ serves (drop i lines) u v → (has (get_or lines i 0) u || has (get_or lines i 0) v) ≡ false
+  pub given_up : v < m → i < length lines → serves lines u v ≡ serves (drop i lines) u v →
+      (has (get_or lines i 0) u || has (get_or lines i 0) v) ≡ false
       → score m (repeated qs lines) (u * m + v) ≡ 0
   unfolding serves each
   given_up b l h none =

@@ -59,7 +59,8 @@ module _ (earlier : Refusal) {m n : ℕ} {qs rs lines others : List ℕ} (same :
   pub goal_same : (K : ℕ) → goal_of earlier m qs lines K ≡ goal_of earlier n rs others K
   goal_same K = by_earlier (λ k q l. goal_of earlier k q l K) (λ h k q l. (goal-stopped earlier k q l K l (asked_earlier earlier l h) h).0)
 
-  pub check_same : (plan : List ℕ) (claim : ℕ) (tab : List ℕ) → check_of earlier m qs lines plan claim tab ≡ check_of earlier n rs others plan claim tab
+  pub check_same : (plan : List ℕ) (claim : ℕ) (tab : List ℕ) →
+      check_of earlier m qs lines plan claim tab ≡ check_of earlier n rs others plan claim tab
   check_same plan claim tab =
       by_earlier (λ k q l. check_of earlier k q l plan claim tab)
       (λ h k q l. check_first earlier k q l plan claim tab (best-stopped earlier h k l (length plan) (length tab)) h)

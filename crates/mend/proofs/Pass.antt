@@ -70,7 +70,8 @@ module _ (file : List ℕ) (rack count i total set quantity : ℕ) (p : Passed f
 
   pub lines_next : (v : ℕ)
       → bytes_of_lines v (kept_to file (i + 1))
-      ≡ bytes_of_lines v (kept_to file i) ++ cond (stays rack total (line_with set quantity)) (line_of v (mended_line rack (line_with set quantity))) []
+      ≡ bytes_of_lines v (kept_to file i) ++ cond (stays rack total (line_with set quantity))
+      (line_of v (mended_line rack (line_with set quantity))) []
   lines_next v =
       written-more m lines i short v
       ∙ ap (λ x. bytes_of_lines v (kept_to file i) ++ x) (sym (same (λ a b l. cond (stays a b l) (line_of v (mended_line a l)) [])))

@@ -36,7 +36,8 @@ module _ (file : List ℕ) (k : ℕ) where
       let b = drop k (read_lines file) in
       let rest = changes m (0 + length a) (running m 0 a) b in
       let e : bytes_of_changes (changes m 0 0 (read_lines file)) ≡ bytes_of_changes (changes_to file k) ++ bytes_of_changes rest =
-      ap (λ x. bytes_of_changes (changes m 0 0 x)) (sym whole) ∙ ap bytes_of_changes (changes-append m 0 0 a b) ∙ report_append (changes_to file k) rest in
+      ap (λ x. bytes_of_changes (changes m 0 0 x)) (sym whole) ∙ ap bytes_of_changes (changes-append m 0 0 a b) ∙
+      report_append (changes_to file k) rest in
       omega (arith, ap length e, length-append (bytes_of_changes (changes_to file k)) (bytes_of_changes rest))
 
 module _ (file : List ℕ) where

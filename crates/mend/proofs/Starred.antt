@@ -13,8 +13,10 @@ use Rattle.mend.specs.Rows.{B81_counted, B82_empty, B82_outside, B83, B84_first,
 use Rattle.mend.specs.Rows.{B88_none, B88_mark, B88_version_3, B88_version_0, B88_rack_0, B88_rack_65, B89_2, B89_0, B89_3}
 
 pub starred : All Gives rows
-unfolding run mend_of out_after report_after mend_refusal or_else start_number version_ok rack_ok mended_file changes_in bytes_of_changes changes codes kept stays
-    after left_empty mended_line read_count in_rack lines_in paired list_of line_length number_at number_of file_of header_of bytes_of_lines line_of bytes_of
+unfolding run mend_of out_after report_after mend_refusal or_else start_number version_ok rack_ok mended_file changes_in
+    bytes_of_changes changes codes kept stays
+    after left_empty mended_line read_count in_rack lines_in
+    paired list_of line_length number_at number_of file_of header_of bytes_of_lines line_of bytes_of
 starred =
     more {x = B75_plain} refl
     (more {x = B75_counted} refl

@@ -17,7 +17,8 @@ use Rattle.job.proofs.Header.{version_back}
 use Rattle.job.proofs.Lines.{paired_again, paired_quantities, line_long, Held}
 use Rattle.job.proofs.Reading.{read_iff}
 use Rattle.job.proofs.Writing.{reads_as, form_again}
-use Rattle.mending.specs.Mending.{lines_in, kept, changes, read_count, read_lines, lines_kept_in, mended_file, changes_in, bytes_of_changes, mended_report}
+use Rattle.mending.specs.Mending.{lines_in, kept, changes, read_count, read_lines}
+use Rattle.mending.specs.Mending.{lines_kept_in, mended_file, changes_in, bytes_of_changes, mended_report}
 use Rattle.mending.specs.Rules.{sets_of, quantities_of, placements_of, lines_within}
 use Rattle.mending.proofs.Lines.{GoodLine, good-lines, lines_good, length-lines_in, lines-held, all_lines, bytes_file_of}
 use Rattle.mending.proofs.Kept.{kept_good, kept-fits, length-kept, kept-within, kept_same, kept_is}
@@ -84,7 +85,8 @@ module _ (file : List ℕ) where
         let v = version_in file in
         let n = count_in file in
         let e : length file - header_length ≡ line_length v * n = omega (arith, g.whole) in
-        let q : (length file - header_length) / line_length v ≡ n = ap (λ x. x / line_length v) e ∙ mul-div_cancel_left n (omega (arith, line_long v)) in
+        let q : (length file - header_length) / line_length v ≡ n = ap (λ x. x / line_length v) e ∙
+        mul-div_cancel_left n (omega (arith, line_long v)) in
         omega (arith, q, g.few_lines)
 
     read_same : read_lines file ≡ lines_in file (count_in file)

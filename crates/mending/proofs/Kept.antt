@@ -30,10 +30,12 @@ pub data Fate (m t : ℕ) (l : JobLine) : Type 0 where
   -- it has no tip in the rack
   bare : t ≤ most_placements → left_empty m l ≡ true → after m t l ≡ t → stays m t l ≡ false → Fate m t l
   -- the total passes with it
-  passing : t ≤ most_placements → left_empty m l ≡ false → most_placements < t + (mended_line m l).quantity → after m t l ≡ t + (mended_line m l).quantity
+  passing : t ≤ most_placements → left_empty m l ≡ false → most_placements < t + (mended_line m l).quantity →
+      after m t l ≡ t + (mended_line m l).quantity
       → stays m t l ≡ false → Fate m t l
   -- it is kept
-  fitting : t ≤ most_placements → left_empty m l ≡ false → t + (mended_line m l).quantity ≤ most_placements → after m t l ≡ t + (mended_line m l).quantity
+  fitting : t ≤ most_placements → left_empty m l ≡ false → t + (mended_line m l).quantity ≤ most_placements →
+      after m t l ≡ t + (mended_line m l).quantity
       → stays m t l ≡ true → Fate m t l
 
 module _ (m t : ℕ) (l : JobLine) where

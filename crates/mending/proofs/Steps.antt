@@ -137,7 +137,8 @@ module _ (m : ℕ) where
       by (passing k e p a s) u r f = absurd (omega (arith, rw e at u))
       by (fitting k e p a s) u r f = rw (a, e) (f (omega (arith, rw e at u)) ∙ omega arith)
 
-  pub running_passed : (t : ℕ) (lines : List JobLine) → most_placements < t + placements_of (mended_lines m lines) → most_placements < running m t lines
+  pub running_passed : (t : ℕ) (lines : List JobLine) → most_placements < t + placements_of (mended_lines m lines) →
+      most_placements < running m t lines
   unfolding running total select left_empty
   running_passed t [] h = omega arith
   running_passed t (l ∷ lines) h = by (fate m t l) h (running_passed t lines) (running_passed (t + (mended_line m l).quantity) lines)

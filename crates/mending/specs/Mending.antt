@@ -109,7 +109,8 @@ has_more_bytes file = ltb (file_length (version_in file) (read_count file)) (len
 
 -- all changes made to a file
 unfoldable pub changes_in : List ℕ → List (ℕ × ℕ)
-changes_in file = changes (rack_in file) 0 0 (read_lines file) ++ noted (recounted file) (whole_file, 5) (noted (has_more_bytes file) (whole_file, 6) [])
+changes_in file = changes (rack_in file) 0 0 (read_lines file) ++ noted (recounted file) (whole_file, 5)
+    (noted (has_more_bytes file) (whole_file, 6) [])
 
 -- changes as bytes, three for each: two for the line and one for the code
 unfoldable pub bytes_of_changes : List (ℕ × ℕ) → List ℕ

@@ -1,5 +1,6 @@
 -- Best sharing on lines that are runs of the named tips. An interval of tips, which RULES calls a stretch, has a first tip a and a width w.
-use Rattle.std.specs.Prelude.{ℕ, zero, suc, ◌+◌, ◌*◌, ◌-◌, ◌/◌, ◌%◌, ◌≤◌, ◌<◌, ◌≡◌, ◌⊎◌, Bool, true, not, cond, ◌&&◌, ◌||◌, List, map, T, ltb, leb, eqb}
+use Rattle.std.specs.Prelude.{ℕ, zero, suc, ◌+◌, ◌*◌, ◌-◌, ◌/◌, ◌%◌, ◌≤◌, ◌<◌, ◌≡◌, ◌⊎◌}
+use Rattle.std.specs.Prelude.{Bool, true, not, cond, ◌&&◌, ◌||◌, List, map, T, ltb, leb, eqb}
 use Rattle.std.specs.Int.Count.{ones, count_leading_zeros, count_trailing_zeros}
 use Rattle.model.specs.Count.{count, every, list_of, largest}
 use Rattle.model.specs.Plan.{has, occ, choose2, Domain, prefer}

@@ -112,7 +112,8 @@ placing_rule parts rules buffer = record {
       sym (ap (λ (t : Refusal). t.number) (none_told parts rules (length buffer) z e));
 }
   where
-    found : (order_refusal parts rules (length buffer)).number ≡ 0 → Obeys (task_of parts rules) (take (length parts) (order_after parts rules buffer))
+    found : (order_refusal parts rules (length buffer)).number ≡ 0 →
+        Obeys (task_of parts rules) (take (length parts) (order_after parts rules buffer))
         × ((other : List ℕ) → Obeys (task_of parts rules) other → LexLe (take (length parts) (order_after parts rules buffer)) other)
     found z =
         let (a, (order, h)) = accepted_some parts rules (length buffer) z in

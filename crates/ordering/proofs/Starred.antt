@@ -11,7 +11,8 @@ use Rattle.ordering.specs.Rows.{B90_junk, B90_none, B91, B93, B94, B95, B96_late
 use Rattle.ordering.specs.Rows.{B104_twice, B105, B106}
 
 pub starred : All Gives rows
-unfolding run order_refusal order_after given_refusal or_else scan first_fail window_ok rule_ok placing_order least_order lasts_of settle earliest relax greedy
+unfolding run order_refusal order_after given_refusal or_else scan first_fail window_ok rule_ok placing_order least_order lasts_of settle earliest
+    relax greedy
     pick prepend tight due fits is_free_part before by_flags ruled number lowest lowest_at every list_of
 starred =
     more {x = B90_junk} refl

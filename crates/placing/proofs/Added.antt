@@ -103,7 +103,8 @@ added n rows i (r ∷ rs) m o =
     (test (rule_ok n r))
 
 -- the rows by the flags, with all rules added
-pub rows_for : (p : Parts) (rules : List Rule) (start : Rows) → p.count ≤ 128 → Started p start → RowsFor (parts_of p) rules (with_rules start 0 rules)
+pub rows_for : (p : Parts) (rules : List Rule) (start : Rows) → p.count ≤ 128 → Started p start →
+    RowsFor (parts_of p) rules (with_rules start 0 rules)
 unfolding before
 rows_for p rules start m s =
     let n = length (parts_of p) in

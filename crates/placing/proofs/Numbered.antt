@@ -43,7 +43,8 @@ part-more numbers parts i x l e h k m =
     (le_or_lt i k)
 
 -- all parts are read
-pub parts_all : (numbers : List ℕ) (p : Parts) → p.count ≡ length numbers / 4 → ((k : ℕ) → k < p.count → part_at p.parts k ≡ part_of_numbers numbers k)
+pub parts_all : (numbers : List ℕ) (p : Parts) → p.count ≡ length numbers / 4 →
+    ((k : ℕ) → k < p.count → part_at p.parts k ≡ part_of_numbers numbers k)
     → parts_of p ≡ parts_in numbers
 parts_all numbers p e h =
     let n = length numbers / 4 in

@@ -28,7 +28,8 @@ use Rattle.rows.specs.PanelRows.{B72_alone_27, B72_alone_28, B72_alone_23, B72_a
 use Rattle.rows.specs.PanelRows.{B73_longer, B74_first, B74_second, B74_both, B74_no_bytes}
 
 pub merge_starred : All Merges merge_rows
-unfolding merge_of Panel.merge_of merge_refusal or_else stage_refusal state_refusal sound_refusal first_wrong first_held first_over count_ok rack_ok is_domain
+unfolding merge_of Panel.merge_of merge_refusal or_else stage_refusal state_refusal sound_refusal first_wrong first_held first_over count_ok
+    rack_ok is_domain
     in_rack each first_fail total no_sets no_quantities has
 merge_starred =
     more {x = B66_merge} refl
@@ -51,8 +52,10 @@ merge_starred =
     (more {x = B72_short_first} refl none)))))))))))))))))
 
 pub alone_starred : All PlansAlone alone_rows
-unfolding alone_of alone_buffer Panel.alone_of Panel.alone_buffer plan_refusal or_else stage_refusal state_refusal sound_refusal first_wrong first_held first_over
-    count_ok rack_ok is_domain in_rack each first_fail total repeated largest occ has count quick_plan_q quick_tip rounds first busiest choice lowest_at
+unfolding alone_of alone_buffer Panel.alone_of Panel.alone_buffer plan_refusal or_else stage_refusal state_refusal sound_refusal first_wrong
+    first_held first_over
+    count_ok rack_ok is_domain in_rack each first_fail total repeated largest occ has count quick_plan_q quick_tip rounds first busiest choice
+    lowest_at
     select pairs uses
 alone_starred =
     more {x = B72_alone_21} (refl, refl)
@@ -70,7 +73,9 @@ alone_starred =
     (more {x = B74_no_bytes} (refl, refl) none))))))))))))
 
 pub sums : Sums
-unfolding common_of Lines.common_of best_of Lines.best_of mounted_refusal plan_refusal best_refusal or_else scan stage_refusal state_refusal sound_refusal
-    first_wrong first_held first_over count_ok rack_ok is_domain in_rack each first_fail total repeated W set_of top largest occ has count select pairs uses
+unfolding common_of Lines.common_of best_of Lines.best_of mounted_refusal plan_refusal best_refusal or_else scan stage_refusal state_refusal
+    sound_refusal
+    first_wrong first_held first_over count_ok rack_ok is_domain
+    in_rack each first_fail total repeated W set_of top largest occ has count select pairs uses
     choice lowest_at from named C most lies inside low high choose2 count_leading_zeros count_trailing_zeros fills is_run_of every list_of
 sums = record { B66_off = refl; B66_best = refl; B67_off = refl; B67_best = refl }

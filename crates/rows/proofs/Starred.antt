@@ -13,7 +13,8 @@ use Rattle.placements.specs.Totals.{first_over}
 use Rattle.placements.specs.Plans.{quick_plan_q, best_plan_q}
 use Rattle.placements.specs.Keep.{common_within, scarce, kept_q, prune_q}
 use Rattle.refusal.specs.Refusal.{or_else, scan}
-use Rattle.job.specs.Job.{bytes_of, number_of, number_at, line_length, paired, header_of, line_of, bytes_of_lines, file_of, version_for, sets_in, quantities_in}
+use Rattle.job.specs.Job.{bytes_of, number_of, number_at, line_length, paired, header_of}
+use Rattle.job.specs.Job.{line_of, bytes_of_lines, file_of, version_for, sets_in, quantities_in}
 use Rattle.job.specs.Job.{version_ok, start_number, size_number, header_number, line_number, line_numbers, read_refusal}
 use Rattle.sound.specs.Sound.{count_ok, first_wrong, first_held, sound_refusal}
 use Rattle.call_refusals.specs.State.{stage_refusal, state_refusal}
@@ -25,7 +26,8 @@ use Rattle.striking.specs.Striking.{goal_refusal}
 use Rattle.line_calls.specs.Lines
 use Rattle.line_calls.specs.Goal
 use Rattle.call_refusals.specs.Junior.{junior_refusal}
-use Rattle.holders.specs.Holders.{is_served, first_tip, second_tip, junior_plan, line_plan, chosen, score, is_choice, serves, two_plan, to_first, gathered}
+use Rattle.holders.specs.Holders.{is_served, first_tip, second_tip, junior_plan, line_plan, chosen}
+use Rattle.holders.specs.Holders.{score, is_choice, serves, two_plan, to_first, gathered}
 use Rattle.line_calls.specs.Junior as LinesJunior
 use Rattle.board.specs.Board.{no_sets, no_quantities, add_of, close_of}
 use Rattle.board.specs.Common.{common_of, keep_of}
@@ -50,13 +52,18 @@ use Rattle.rows.specs.Rows.{B59_junior, B60_junior, B61_junior, B62_most, B62_ov
 use Rattle.rows.specs.Rows.{B65_open, B65_short}
 
 pub starred : All Gives rows
-unfolding run add_of close_of common_of keep_of quick_of quick_buffer best_of best_buffer best_table check_of Lines.check_of check_refusal claim_refusal
+unfolding run add_of close_of common_of keep_of quick_of quick_buffer best_of best_buffer best_table check_of Lines.check_of check_refusal
+    claim_refusal
     table_ok is_valid bounds entry Lines.common_of Lines.keep_of Lines.sets_kept Lines.quick_of Lines.quick_buffer Lines.best_of Lines.best_buffer
-    Lines.best_table add_refusal keep_refusal mounted_refusal plan_refusal best_refusal or_else scan stage_refusal state_refusal sound_refusal first_wrong
-    first_held first_over count_ok rack_ok is_domain in_rack each first_fail line_number total repeated margin prune_q zip_with kept_q scarce common_within
+    Lines.best_table add_refusal keep_refusal mounted_refusal plan_refusal best_refusal or_else scan stage_refusal state_refusal sound_refusal
+    first_wrong
+    first_held first_over count_ok rack_ok is_domain in_rack each first_fail line_number total repeated margin
+    prune_q zip_with kept_q scarce common_within
     narrowed covers every W set_of top largest occ has count quick_plan_q quick_tip rounds first busiest choice lowest_at select pairs uses table
-    list_of best_plan_q best_tip tip_by pick_of worth from named C most lies inside low high choose2 count_leading_zeros count_trailing_zeros fills is_run_of read_of
-    write_of write_buffer Lines.write_of Lines.write_buffer write_refusal read_refusal header_number start_number size_number version_ok line_numbers sets_in
+    list_of best_plan_q best_tip tip_by pick_of worth from named C most lies inside low high choose2 count_leading_zeros count_trailing_zeros
+    fills is_run_of read_of
+    write_of write_buffer Lines.write_of Lines.write_buffer write_refusal read_refusal header_number start_number size_number version_ok
+    line_numbers sets_in
     quantities_in number_at number_of bytes_of line_length header_of line_of bytes_of_lines file_of version_for paired no_sets no_quantities
     goal_of Goal.goal_of Goal.goal_asked Goal.struck_sets goal_refusal strike goal_tips only
     junior_of junior_buffer LinesJunior.junior_of LinesJunior.junior_buffer LinesJunior.junior_refusal junior_refusal is_served first_tip second_tip

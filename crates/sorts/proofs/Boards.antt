@@ -236,7 +236,8 @@ module _ (b₁ b₂ : Board) (r : Reordered b₁ b₂) where
 
     -- THE SORT DOES NOT SHOW
     pub sort_hidden : (k : ℕ) → SameAnswers k mounted b₁ b₂ plan₁ plan₂ cells₁ cells₂
-    unfolding common_of keep_of quick_of quick_buffer best_of best_buffer Lines.common_of Lines.keep_of Lines.quick_of Lines.quick_buffer Lines.best_of
+    unfolding common_of keep_of quick_of quick_buffer best_of best_buffer Lines.common_of Lines.keep_of Lines.quick_of Lines.quick_buffer
+        Lines.best_of
         Lines.best_buffer quick_plan_q best_plan_q
     sort_hidden k = record {
       common_number = ap (λ d. d.number) same_state;

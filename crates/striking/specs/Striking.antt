@@ -145,5 +145,6 @@ pub record Known (names m q : ℕ) (lines rest xs inner upper : List ℕ) : Type
 pub record Followed (m q s K : ℕ) (is_open : ℕ → ℕ → Bool) (D : ℕ → ℕ → ℕ) (rest tab : List ℕ) (kept w a : ℕ) : Type 0 where
   pub table : Outside m is_open D rest tab w a
   pub right : (t : ℕ) → T (has kept t) → T (has s t) × Ends is_open m D rest q K t
-  pub wider : (b v i : ℕ) → w < v → b + v ≤ m → i < v → T (is_open b v) → T (has s (b + i)) → K ≤ ended is_open m D rest q b v i → T (has kept (b + i))
+  pub wider : (b v i : ℕ) → w < v → b + v ≤ m → i < v → T (is_open b v) → T (has s (b + i)) → K ≤ ended is_open m D rest q b v i →
+      T (has kept (b + i))
   pub row : (b i : ℕ) → b < a → b + w ≤ m → i < w → T (is_open b w) → T (has s (b + i)) → K ≤ ended is_open m D rest q b w i → T (has kept (b + i))

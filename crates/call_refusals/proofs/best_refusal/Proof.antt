@@ -34,7 +34,8 @@ refuse-requires-2 c κs = search rules
 returns-3 : tie.Need-returns-then-places-rack
 returns-3 c =
     let d = c.before.before.before in
-    c.refuse-then-places-rack.ensures ∙ best_few _ d.if-earlier-ne0.false _ _ _ _ (omega (arith, lines d, c.if-room-count.false)) c.if-places-rack.true
+    c.refuse-then-places-rack.ensures ∙ best_few _ d.if-earlier-ne0.false _ _ _ _ (omega (arith, lines d, c.if-room-count.false))
+    c.if-places-rack.true
 
 slice-aggregate-run-refusal : tie.Need-slice_bounds-run_refusal-end
 slice-aggregate-run-refusal c = sym (lines c.before.before)

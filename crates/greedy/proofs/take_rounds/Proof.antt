@@ -37,10 +37,12 @@ looped c = c.before
 abbrev counted : tie.After-choose-tip invariant-loop decreases-loop → tie.After-busiest_tips-busiest invariant-loop decreases-loop
 counted c = c.before.before.before
 
-abbrev paired : tie.After-take_lines-arg-in-loop-mounted-2-1 invariant-loop decreases-loop → tie.After-pairs_among-shared invariant-loop decreases-loop
+abbrev paired : tie.After-take_lines-arg-in-loop-mounted-2-1 invariant-loop decreases-loop →
+    tie.After-pairs_among-shared invariant-loop decreases-loop
 paired c = c.before.before.before
 
-abbrev paired-2 : tie.After-take_lines-arg-in-loop-mounted-6-1 invariant-loop decreases-loop → tie.After-pairs_among-shared invariant-loop decreases-loop
+abbrev paired-2 : tie.After-take_lines-arg-in-loop-mounted-6-1 invariant-loop decreases-loop →
+    tie.After-pairs_among-shared invariant-loop decreases-loop
 paired-2 c = paired c.before.before.before.before
 
 -- the lines taken: once the sets are back, the lines left, and the counts
@@ -72,7 +74,12 @@ chosen : (c : tie.After-choose-tip invariant-loop decreases-loop)
 chosen c =
     let b = counted c in
     let mounted = on_head (called (looped b)).args.mounted in
-    record { begun = begun b; lines_left = c.if-busiest-eq0.false; is_tip = c.choose-tip.ensures ∙ ap (chosen_of mounted) b.busiest_tips-busiest.ensures.1 }
+    record {
+      begun = begun b;
+      lines_left = c.if-busiest-eq0.false;
+      is_tip = c.choose-tip.ensures ∙
+          ap (chosen_of mounted) b.busiest_tips-busiest.ensures.1;
+    }
 
 list-all-requires : tie.Need-list_all-requires invariant-loop decreases-loop
 list-all-requires c κs =

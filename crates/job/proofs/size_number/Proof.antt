@@ -17,7 +17,8 @@ count-in-requires c κs = search rules
 returns : tie.Need-returns-then-count-gt-MOST_LINES
 unfolding size_number
 returns c =
-    let many : most_lines < count_in c.before.before.before.args.file.now = omega (arith, c.before.count_in-count.ensures, c.if-count-gt-MOST_LINES.true) in
+    let many : most_lines < count_in c.before.before.before.args.file.now =
+    omega (arith, c.before.count_in-count.ensures, c.if-count-gt-MOST_LINES.true) in
     rw (lt-ltb _ _ many)
 
 version-in-requires : tie.Need-version_in-requires

@@ -39,7 +39,8 @@ cast-quantity c = search rules
 abbrev file_at : tie.At-loop-i invariant-loop decreases-loop → List ℕ
 file_at c = c.before.before.before.args.file.now
 
-next : (c : tie.After-quantity_in-quantity invariant-loop decreases-loop) (b : Bool) → ltb c.before.before.loop-i.left c.quantity_in-quantity.result ≡ b →
+next : (c : tie.After-quantity_in-quantity invariant-loop decreases-loop) (b : Bool) →
+    ltb c.before.before.loop-i.left c.quantity_in-quantity.result ≡ b →
     let head = c.before.before in
     let i = head.loop-i.i in
     over_in (file_at head) ≡ cond b i (i + 1 + over_from (file_at head) (head.loop-i.left - c.quantity_in-quantity.result) (i + 1))

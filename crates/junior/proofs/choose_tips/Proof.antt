@@ -43,14 +43,17 @@ abbrev begun : tie.After-shared_slice_known-3-1 invariant-loop2 decreases-loop2 
 begun c = c.before.before.before
 
 -- the loop over the lower tip, from that over the higher; and this one, from the loop over lines
-abbrev lower : tie.At-tips invariant-loop2 decreases-loop2 invariant-tips decreases-tips invariant-loop decreases-loop → tie.At-loop-u invariant-loop2 decreases-loop2 invariant-tips decreases-tips invariant-loop decreases-loop
+abbrev lower : tie.At-tips invariant-loop2 decreases-loop2 invariant-tips decreases-tips invariant-loop decreases-loop →
+    tie.At-loop-u invariant-loop2 decreases-loop2 invariant-tips decreases-tips invariant-loop decreases-loop
 lower c = c.before.before
 
-abbrev higher : tie.At-loop-i invariant-loop2 decreases-loop2 invariant-tips decreases-tips invariant-loop decreases-loop → tie.At-tips invariant-loop2 decreases-loop2 invariant-tips decreases-tips invariant-loop decreases-loop
+abbrev higher : tie.At-loop-i invariant-loop2 decreases-loop2 invariant-tips decreases-tips invariant-loop decreases-loop →
+    tie.At-tips invariant-loop2 decreases-loop2 invariant-tips decreases-tips invariant-loop decreases-loop
 higher c = c.before.before
 
 -- the turn of a line, from its first count
-abbrev turn : tie.After-placed-with_u invariant-loop2 decreases-loop2 invariant-tips decreases-tips invariant-loop decreases-loop → tie.In-loop-i invariant-loop2 decreases-loop2 invariant-tips decreases-tips invariant-loop decreases-loop
+abbrev turn : tie.After-placed-with_u invariant-loop2 decreases-loop2 invariant-tips decreases-tips invariant-loop decreases-loop →
+    tie.In-loop-i invariant-loop2 decreases-loop2 invariant-tips decreases-tips invariant-loop decreases-loop
 turn c = c.before.before.before.before.before
 
 -- what is known at the head of the loop over lines

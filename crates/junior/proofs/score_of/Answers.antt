@@ -21,7 +21,8 @@ returns-then-to_v-to_u c =
     let a = c.args in
     let choice : (a.same ≡ true) ⊎ ((a.with_u < a.all) × (a.with_v < a.all)) =
     elim c.if-not-same.branch [
-      | then-not-same+else-with_u-all+else-with_v-all w ↦ inr (omega (arith, c.requires, w.if-with_u-all.false), omega (arith, c.requires, w.if-with_v-all.false))
+      | then-not-same+else-with_u-all+else-with_v-all w ↦ inr
+          (omega (arith, c.requires, w.if-with_u-all.false), omega (arith, c.requires, w.if-with_v-all.false))
       | else-not-same w ↦ inl w.if-not-same.false
     ] in
     omega (arith, c.requires, c.if-to_v-to_u.true, score_some a.all a.with_u a.with_v choice)
@@ -31,7 +32,8 @@ returns c =
     let a = c.args in
     let choice : (a.same ≡ true) ⊎ ((a.with_u < a.all) × (a.with_v < a.all)) =
     elim c.if-not-same.branch [
-      | then-not-same+else-with_u-all+else-with_v-all w ↦ inr (omega (arith, c.requires, w.if-with_u-all.false), omega (arith, c.requires, w.if-with_v-all.false))
+      | then-not-same+else-with_u-all+else-with_v-all w ↦ inr
+          (omega (arith, c.requires, w.if-with_u-all.false), omega (arith, c.requires, w.if-with_v-all.false))
       | else-not-same w ↦ inl w.if-not-same.false
     ] in
     omega (arith, c.requires, c.if-to_v-to_u.false, score_some a.all a.with_u a.with_v choice)

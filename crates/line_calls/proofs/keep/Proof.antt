@@ -54,7 +54,8 @@ returns-2 c =
     let g = good d in
     let small = margin_small s.args.rack s.args.k (record { same = g.same; few = g.few }) s.ranges.k.fits in
     let e = to_z-of_z w32 y (rw is small) ∙ is in
-    keep-through _ _ _ _ _ _ d.if-earlier-ne0.false (size d) refl {y = to_z w32 (of_z w32 y)} e c.keep_refusal.ensures kept.keep_lines-margin.ensures.1
+    keep-through _ _ _ _ _ _ d.if-earlier-ne0.false (size d) refl {y = to_z w32 (of_z w32 y)} e c.keep_refusal.ensures
+    kept.keep_lines-margin.ensures.1
 
 pub keep_spec : {M : Type 1} → statement M
 keep_spec =

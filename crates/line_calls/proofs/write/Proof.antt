@@ -105,7 +105,8 @@ returns-3 c =
     let written = c.before.before in
     let e = written.before.before in
     let w = asked (measured e) in
-    write_accepted _ _ _ _ _ w.write_refusal-refusal.ensures (found w).version_for-version.ensures (count (started w)) (measured e).if-refusal-ne0.false
+    write_accepted _ _ _ _ _ w.write_refusal-refusal.ensures (found w).version_for-version.ensures (count (started w))
+    (measured e).if-refusal-ne0.false
     e.file_length-bytes.ensures written.write_file.ensures
 
 pub write_spec : {M : Type 1} → statement M

@@ -117,7 +117,8 @@ returns-5 : tie.Need-returns-then-report-report_bytes
 returns-5 c =
     let counted = c.before.before.before.before.before in
     let (file, out, report) = bytes_of counted.before.before.before in
-    let h : length report < length (mended_report file) = omega (arith, c.before.if-report-report_bytes.true, c.before.before.before.report_length-report_bytes.ensures) in
+    let h : length report < length (mended_report file) = omega
+    (arith, c.before.if-report-report_bytes.true, c.before.before.before.report_length-report_bytes.ensures) in
     call_refused file out report c.refused-then-report-report_bytes.result 11 c.refused-then-report-report_bytes.ensures
     (short-refused file out report (started counted.before.before.before) (inr h))
     (λ e. omega arith)

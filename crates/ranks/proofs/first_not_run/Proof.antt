@@ -16,7 +16,8 @@ use Rattle.ranks.proofs.first_not_run.Statement.{statement}
 use Rattle.ranks.proofs.first_not_run.Tie as tie
 
 abbrev invariant-loop : tie.invariant-loop-i
-invariant-loop lines names i₀ i = (i ≤ length lines) × (first_fail (is_run_of (has names)) lines ≡ i + first_fail (is_run_of (has names)) (drop i lines))
+invariant-loop lines names i₀ i = (i ≤ length lines) × (first_fail (is_run_of (has names)) lines ≡ i + first_fail (is_run_of (has names))
+    (drop i lines))
 
 abbrev decreases-loop : tie.decreases-loop-i
 decreases-loop lines names i₀ i = length lines - i

@@ -63,7 +63,8 @@ loop-again c =
     let in-rack = read.before.before in
     let domain = passes in-rack.before.is_domain.ensures in-rack.if-not-is_domain.false-raw in (
       omega arith,
-      wrong_next _ _ _ (head_of read).loop-line.invariant.1 (omega arith) read.wide-quantity.ensures (omega arith) domain positive.if-quantity-eq0.false c.if-left-quantity.false,
+      wrong_next _ _ _ (head_of read).loop-line.invariant.1 (omega arith) read.wide-quantity.ensures (omega arith) domain
+          positive.if-quantity-eq0.false c.if-left-quantity.false,
     )
 
 returns-4 : tie.Need-returns invariant-loop decreases-loop

@@ -28,7 +28,10 @@ returns-2 : tie.Need-returns-then-count-gt-MOST_LINES
 unfolding sound_refusal or_else count_ok
 returns-2 c =
     let d = c.before.before in
-    c.refuse-then-count-gt-MOST_LINES.ensures ∙ rw (passes d.before.rack_ok.ensures d.if-not-rack_ok.false-raw, lt-leb _ 512 c.before.if-count-gt-MOST_LINES.true)
+    c.refuse-then-count-gt-MOST_LINES.ensures ∙ rw (
+      passes d.before.rack_ok.ensures d.if-not-rack_ok.false-raw,
+      lt-leb _ 512 c.before.if-count-gt-MOST_LINES.true,
+    )
 
 abbrev begun : tie.Else-count-gt-MOST_LINES → tie.Start
 begun c = c.before.before.before.before.before

@@ -22,7 +22,8 @@ refuse-requires-2 c κs = search rules
 returns-3 : tie.Need-returns-then-rack-gt-JUNIOR_TIPS
 returns-3 c =
     let d = c.before.before in
-    c.refuse-then-rack-gt-JUNIOR_TIPS.ensures ∙ junior_wide _ _ _ _ d.if-earlier-ne0.false d.if-count-gt-JUNIOR_LINES.false c.if-rack-gt-JUNIOR_TIPS.true
+    c.refuse-then-rack-gt-JUNIOR_TIPS.ensures ∙ junior_wide _ _ _ _ d.if-earlier-ne0.false d.if-count-gt-JUNIOR_LINES.false
+    c.if-rack-gt-JUNIOR_TIPS.true
 
 refuse-when-requires : tie.Need-refuse_when-requires
 refuse-when-requires c κs = search rules

@@ -73,7 +73,10 @@ loop-again : tie.Need-loop-c-preserved invariant-loop decreases-loop
 loop-again c =
     let l = c.before.before.before in
     let one : test l l.loop-c.c ≡ true = elim c.if-has_tip.branch [
-      | then-has_tip+else-not-tip_bounded w ↦ rw (sym c.has_tip.ensures ∙ w.if-has_tip.true, passes w.tip_bounded.ensures w.if-not-tip_bounded.false-raw)
+      | then-has_tip+else-not-tip_bounded w ↦ rw (
+        sym c.has_tip.ensures ∙ w.if-has_tip.true,
+        passes w.tip_bounded.ensures w.if-not-tip_bounded.false-raw,
+      )
       | else-has_tip w ↦ rw (sym c.has_tip.ensures ∙ w.if-has_tip.false)
     ] in
     (search rules, every_more (test l) l.loop-c.c l.loop-c.invariant.1 one)

@@ -80,7 +80,7 @@ abbrev known : tie.After-first_of → tie.After-shared_slice_known-2-1
 known of = of.before.before.before.before.before.before.before.before.before.before.before.before.before.before.before.before.before.before
 
 abbrev begun : tie.After-first_of → tie.Start
-begun of = of.before.before.before.before.before.before.before.before.before.before.before.before.before.before.before.before.before.before.before.before
+begun of = (known of).before.before
 
 bytes : (of : tie.After-first_of) → Bytes (begun of).args.first.now
 bytes of = all_get_d 0 (begun of).args.first.now (λ i l. ((known of).shared_slice_known-1.given i).fits)

@@ -20,13 +20,15 @@ use Rattle.flat_order.proofs.picking.greedy_order.Statement.{statement}
 use Rattle.flat_order.proofs.picking.greedy_order.Tie as tie
 
 abbrev invariant-loop : tie.invariant-loop-p
-invariant-loop firsts lasts low high ends_low ends-high _ _ n firsts-low firsts-high _ _ _ _ _ _ _ levels order wait-low wait-high waiting begun left v p =
+invariant-loop firsts lasts low high ends_low ends-high _ _ n firsts-low firsts-high _ _ _ _ _ _ _ levels order wait-low wait-high waiting begun
+    left v p =
     (p ≤ n) × (n ≡ length lasts) × Placing firsts lasts low high p order left × Levels left lasts p levels × IsEnd (length lasts) p levels v
     × PartsAt firsts (length lasts) firsts-low firsts-high
     × ((x : ℕ) → has_part begun x ≡ (ltb x (length lasts) && ltb (get_or firsts x 0) p)) × Held left waiting low high wait-low wait-high
 
 abbrev decreases-loop : tie.decreases-loop-p
-decreases-loop firsts lasts low high ends_low ends-high _ _ n firsts-low firsts-high _ _ _ _ _ _ _ levels order wait-low wait-high waiting begun left v p =
+decreases-loop firsts lasts low high ends_low ends-high _ _ n firsts-low firsts-high _ _ _ _ _ _ _ levels order wait-low wait-high waiting begun
+    left v p =
     n - p
 
 -- the rows of the rules, once all slices are known; and the start of the call from there
@@ -318,7 +320,8 @@ raise-requires c κs =
 
 -- the levels raised
 levelled : (c : tie.After-raise-reached invariant-loop decreases-loop)
-    → (let w = (before-raise c).before in Levels (removed (t w).loop-p.left (single (x w))) (lasts (i w)) ((t w).loop-p.p + 1) c.raise-reached.new.levels)
+    → (let w = (before-raise c).before in Levels (removed (t w).loop-p.left (single (x w))) (lasts (i w)) ((t w).loop-p.p + 1)
+    c.raise-reached.new.levels)
 levelled c =
     let d = before-raise c in
     let w = d.before in

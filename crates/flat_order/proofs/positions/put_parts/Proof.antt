@@ -23,7 +23,8 @@ loop-holds c =
     (search rules, at, at.lows, at.highs)
 
 -- the place after the position of a part
-within : (c : tie.In-loop-i invariant-loop decreases-loop) → get_or c.before.before.before.before.before.args.positions.now c.before.loop-i.i 0 + 1 < 130
+within : (c : tie.In-loop-i invariant-loop decreases-loop) →
+    get_or c.before.before.before.before.before.args.positions.now c.before.loop-i.i 0 + 1 < 130
 within c = let s = c.before.before.before.before.before in omega (arith, s.requires.0, s.requires.2 c.before.loop-i.i (omega arith))
 
 mul_at : tie.Need-offset_bounds-positions-i invariant-loop decreases-loop

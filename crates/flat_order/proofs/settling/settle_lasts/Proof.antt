@@ -226,7 +226,8 @@ loop-again-2 c =
     let z = settled_one s.args.low.now s.args.high.now (lasts₀ a) k.lasts k.j k.e q k.left (here a) (parts_in t) (waits a)
     strict (in-turn a) (is-lowest a) (is-due o) w.remove-left.result c.meet-due.result
     (w.remove-left.ensures ∙ ap (removed k.left) w.before.single_part.ensures)
-    (c.meet-due.ensures ∙ ap (λ v. met v w.remove-left.result) (c.before.join-in-loop-e.ensures ∙ ap₂ joined (here-is a) c.before.before.row-in-loop-e.ensures))
+    (c.meet-due.ensures ∙ ap (λ v. met v w.remove-left.result)
+    (c.before.join-in-loop-e.ensures ∙ ap₂ joined (here-is a) c.before.before.row-in-loop-e.ensures))
     (more_left o) (rw view k.invariant.3) in (
       omega (arith, k.invariant.0),
       k.invariant.1,

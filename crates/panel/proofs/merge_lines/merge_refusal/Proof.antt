@@ -38,7 +38,8 @@ refuse-requires-2 c κs = search rules
 returns-3 : tie.Need-returns-then-count-other_count-gt-MOST_LINES
 returns-3 c =
     let same = c.before.before in
-    c.refuse-then-count-other_count-gt-MOST_LINES.ensures ∙ merge-lines _ same.if-earlier-ne0.false _ _ _ _ same.if-rack-other_rack.false c.if-count-other_count-gt-MOST_LINES.true
+    c.refuse-then-count-other_count-gt-MOST_LINES.ensures ∙ merge-lines _ same.if-earlier-ne0.false _ _ _ _ same.if-rack-other_rack.false
+    c.if-count-other_count-gt-MOST_LINES.true
 
 slice-aggregate-total : tie.Need-slice_bounds-total-end
 slice-aggregate-total c = sym (length-take-le _ _ (counted c.before).0.room)

@@ -51,7 +51,8 @@ abbrev given : tie.After-is_rule_ok invariant-loop decreases-loop → Rows
 given c = (begun (looped c)).args.rows
 
 -- what is known of the test
-rule-test : (c : tie.After-is_rule_ok invariant-loop decreases-loop) → c.is_rule_ok.result ≡ rule_ok (min (given c).parts 128) c.before.rule_in-rule.result
+rule-test : (c : tie.After-is_rule_ok invariant-loop decreases-loop) →
+    c.is_rule_ok.result ≡ rule_ok (min (given c).parts 128) c.before.rule_in-rule.result
 rule-test c = c.is_rule_ok.ensures ∙ ap (λ n. rule_ok n c.before.rule_in-rule.result) (looped c).loop-i.invariant.2
 
 returns : tie.Need-returns-then-not-is_rule_ok invariant-loop decreases-loop
@@ -62,10 +63,12 @@ returns c = λ g.
     ∙ l.invariant.3 g
 
 -- a good rule names parts
-good : (c : tie.Else-not-is_rule_ok invariant-loop decreases-loop) → rule_ok (min (given c.before).parts 128) c.before.before.rule_in-rule.result ≡ true
+good : (c : tie.Else-not-is_rule_ok invariant-loop decreases-loop) →
+    rule_ok (min (given c.before).parts 128) c.before.before.rule_in-rule.result ≡ true
 good c = passes (rule-test c.before) c.if-not-is_rule_ok.false-raw
 
-named : (c : tie.Else-not-is_rule_ok invariant-loop decreases-loop) → (c.before.before.rule_in-rule.result.earlier < 128) × (c.before.before.rule_in-rule.result.later < 128)
+named : (c : tie.Else-not-is_rule_ok invariant-loop decreases-loop) → (c.before.before.rule_in-rule.result.earlier < 128) ×
+    (c.before.before.rule_in-rule.result.later < 128)
 named c = let p = rule_parts _ _ (T_true (good c)) in (omega (arith, p), omega (arith, p))
 
 single-part-requires : tie.Need-single_part-one-requires invariant-loop decreases-loop

@@ -22,7 +22,8 @@ abbrev decreases-loop2 : tie.decreases-loop-k
 decreases-loop2 names m a w pairs sums inner outer best₀ j k₀ best k = a - k
 
 -- the call's start, from the first loop
-abbrev start : tie.At-loop-j invariant-loop decreases-loop invariant-loop2 decreases-loop2 → tie.Start invariant-loop decreases-loop invariant-loop2 decreases-loop2
+abbrev start : tie.At-loop-j invariant-loop decreases-loop invariant-loop2 decreases-loop2 →
+    tie.Start invariant-loop decreases-loop invariant-loop2 decreases-loop2
 start c = c.before.before.before.before.before
 
 abbrev before : tie.Start invariant-loop decreases-loop invariant-loop2 decreases-loop2 → ℕ → ℕ
@@ -113,8 +114,16 @@ loop2-less c = search rules
 loop2-again : tie.Need-loop-k-preserved invariant-loop decreases-loop invariant-loop2 decreases-loop2
 loop2-again c =
     let l = c.before.before.before in
-    let s = start l.before.before in
-    (search rules, omega (arith, c.larger-best-in-loop-k.ensures, c.outside_at-in-loop-k.ensures, l.loop-k.invariant.1, largest-more (behind s) l.loop-k.k))
+    let s = start l.before.before in (
+      search rules,
+      omega (
+        arith,
+        c.larger-best-in-loop-k.ensures,
+        c.outside_at-in-loop-k.ensures,
+        l.loop-k.invariant.1,
+        largest-more (behind s) l.loop-k.k,
+      ),
+    )
 
 returns : tie.Need-returns invariant-loop decreases-loop invariant-loop2 decreases-loop2
 returns c =

@@ -32,7 +32,8 @@ abbrev decreases-loop : tie.decreases-loop-w
 decreases-loop names m pairs sums inner outer₀ w₀ outer w = w
 
 -- the call's start, from the outer loop
-abbrev start : tie.At-loop-w invariant-loop2 decreases-loop2 invariant-loop decreases-loop → tie.Start invariant-loop2 decreases-loop2 invariant-loop decreases-loop
+abbrev start : tie.At-loop-w invariant-loop2 decreases-loop2 invariant-loop decreases-loop →
+    tie.Start invariant-loop2 decreases-loop2 invariant-loop decreases-loop
 start c = c.before.before.before.before.before
 
 -- what is known in the inner loop
@@ -59,7 +60,8 @@ module _ (c : tie.In-loop-a invariant-loop2 decreases-loop2 invariant-loop decre
   square = mul-le-mul rack rack
 
 -- the value is few
-few : (c : tie.After-best_outside-best invariant-loop2 decreases-loop2 invariant-loop decreases-loop) → c.best_outside-best.result ≤ most_tips * most_pairs
+few : (c : tie.After-best_outside-best invariant-loop2 decreases-loop2 invariant-loop decreases-loop) →
+    c.best_outside-best.result ≤ most_tips * most_pairs
 few c =
     let b = c.before in
     let (lines, k, i) = (s b).requires.0 in

@@ -29,28 +29,35 @@ abbrev decreases-loop : tie.decreases-loop-w
 decreases-loop names m q set goal pairs sums inner upper outer₀ kept₀ w₀ outer kept w = w
 
 -- the call's start, once the slices are known; and from the outer loop
-abbrev begun : tie.After-slice_known-1 invariant-loop2 decreases-loop2 invariant-loop decreases-loop → tie.Start invariant-loop2 decreases-loop2 invariant-loop decreases-loop
+abbrev begun : tie.After-slice_known-1 invariant-loop2 decreases-loop2 invariant-loop decreases-loop →
+    tie.Start invariant-loop2 decreases-loop2 invariant-loop decreases-loop
 begun c = c.before.before.before.before.before
 
-abbrev start : tie.At-loop-w invariant-loop2 decreases-loop2 invariant-loop decreases-loop → tie.Start invariant-loop2 decreases-loop2 invariant-loop decreases-loop
+abbrev start : tie.At-loop-w invariant-loop2 decreases-loop2 invariant-loop decreases-loop →
+    tie.Start invariant-loop2 decreases-loop2 invariant-loop decreases-loop
 start c = begun c.before
 
 -- the outer loop, from the first interval found; and from the inner loop
-abbrev entered : tie.After-slice_known-in-loop-w-1 invariant-loop2 decreases-loop2 invariant-loop decreases-loop → tie.In-loop-w invariant-loop2 decreases-loop2 invariant-loop decreases-loop
+abbrev entered : tie.After-slice_known-in-loop-w-1 invariant-loop2 decreases-loop2 invariant-loop decreases-loop →
+    tie.In-loop-w invariant-loop2 decreases-loop2 invariant-loop decreases-loop
 entered c = c.before.before.before.before
 
-abbrev looped : tie.At-loop-a invariant-loop2 decreases-loop2 invariant-loop decreases-loop → tie.In-loop-w invariant-loop2 decreases-loop2 invariant-loop decreases-loop
+abbrev looped : tie.At-loop-a invariant-loop2 decreases-loop2 invariant-loop decreases-loop →
+    tie.In-loop-w invariant-loop2 decreases-loop2 invariant-loop decreases-loop
 looped c = entered c.before
 
 -- the outside table lent again, before the next interval is sought; and the interval followed
-abbrev lent : tie.After-next_open-arg-in-loop-a-1 invariant-loop2 decreases-loop2 invariant-loop decreases-loop → tie.After-outer-in-loop-a-1 invariant-loop2 decreases-loop2 invariant-loop decreases-loop
+abbrev lent : tie.After-next_open-arg-in-loop-a-1 invariant-loop2 decreases-loop2 invariant-loop decreases-loop →
+    tie.After-outer-in-loop-a-1 invariant-loop2 decreases-loop2 invariant-loop decreases-loop
 lent c = c.before.before
 
-abbrev followed : tie.After-next_open-arg-in-loop-a-1 invariant-loop2 decreases-loop2 invariant-loop decreases-loop → tie.After-follow-kept invariant-loop2 decreases-loop2 invariant-loop decreases-loop
+abbrev followed : tie.After-next_open-arg-in-loop-a-1 invariant-loop2 decreases-loop2 invariant-loop decreases-loop →
+    tie.After-follow-kept invariant-loop2 decreases-loop2 invariant-loop decreases-loop
 followed c = (lent c).before
 
 -- the next interval sought, at the inner loop's end
-abbrev sought : tie.After-slice_known-in-loop-a-2-1 invariant-loop2 decreases-loop2 invariant-loop decreases-loop → tie.After-next_open-a-in-loop-a invariant-loop2 decreases-loop2 invariant-loop decreases-loop
+abbrev sought : tie.After-slice_known-in-loop-a-2-1 invariant-loop2 decreases-loop2 invariant-loop decreases-loop →
+    tie.After-next_open-a-in-loop-a invariant-loop2 decreases-loop2 invariant-loop decreases-loop
 sought c = c.before.before
 
 -- the start, the width and the place, from the inner loop

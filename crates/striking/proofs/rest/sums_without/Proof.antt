@@ -31,13 +31,16 @@ abbrev decreases-loop : tie.decreases-loop-x
 decreases-loop m sums line quantity rest₀ low high width x₀ rest x = sums_width m - x
 
 -- the ends known, from the outer loop; and the call's start from there
-abbrev ends : tie.At-loop-x invariant-loop2 decreases-loop2 invariant-loop decreases-loop → tie.After-highest-high invariant-loop2 decreases-loop2 invariant-loop decreases-loop
+abbrev ends : tie.At-loop-x invariant-loop2 decreases-loop2 invariant-loop decreases-loop →
+    tie.After-highest-high invariant-loop2 decreases-loop2 invariant-loop decreases-loop
 ends c = c.before
 
-abbrev start : tie.After-highest-high invariant-loop2 decreases-loop2 invariant-loop decreases-loop → tie.Start invariant-loop2 decreases-loop2 invariant-loop decreases-loop
+abbrev start : tie.After-highest-high invariant-loop2 decreases-loop2 invariant-loop decreases-loop →
+    tie.Start invariant-loop2 decreases-loop2 invariant-loop decreases-loop
 start c = c.before.before.before.before
 
-abbrev outer : tie.In-loop-y invariant-loop2 decreases-loop2 invariant-loop decreases-loop → tie.At-loop-x invariant-loop2 decreases-loop2 invariant-loop decreases-loop
+abbrev outer : tie.In-loop-y invariant-loop2 decreases-loop2 invariant-loop decreases-loop →
+    tie.At-loop-x invariant-loop2 decreases-loop2 invariant-loop decreases-loop
 outer c = c.before.before.before
 
 -- the sums without the line, by the ends that were found
