@@ -118,4 +118,4 @@ deb: all
 	packaging/deb $(version)
 
 clean:
-	rm -rf target target-rust
+	rm -rf target target-rust crates/*/out

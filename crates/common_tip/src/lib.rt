@@ -4,7 +4,7 @@
 ghost use Rattle.std.specs.Prelude.{◌≡◌, ◌-◌, ◌≤◌, length};
 ghost use mathlib.Core.List.{map, zip_with};
 ghost use Rattle.model.specs.Count.{All};
-ghost use Rattle.model.specs.CommonTip.{top, W, margin as marginOf};
+ghost use Rattle.model.specs.CommonTip.{top, W, margin as margin_of};
 ghost use Rattle.placements.specs.Repeated.{total, repeated};
 ghost use Rattle.placements.specs.Keep.{common_within};
 ghost use Rattle.model.specs.Limits.{most_placements};
@@ -61,7 +61,7 @@ struct Bound {
 
 fn within(rack: usize, k: u16, lines: &[u64], quantities: &[u8]) -> Bound
     requires { (rack ≤ 64) × Countable quantities.now lines.now }
-    ensures margin { result.margin ≡ marginOf rack (repeated quantities.now lines.now) k }
+    ensures margin { result.margin ≡ margin_of rack (repeated quantities.now lines.now) k }
     ensures n { result.n ≡ total quantities.now }
     ensures tips { result.tips ≡ common_within rack (repeated quantities.now lines.now) k }
 {
@@ -124,7 +124,7 @@ fn prune(margin: i32, n: usize, v: u64, lines: &mut [u64], quantities: &[u8])
 // Keep within k: gives the margin. Where it is not below zero the lines are pruned.
 pub fn keep_lines(rack: usize, lines: &mut [u64], quantities: &[u8], k: u16) -> i32
     requires { (rack ≤ 64) × Countable quantities.now lines.old × All (λ q. 1 ≤ q) quantities.now }
-    ensures margin { result ≡ marginOf rack (repeated quantities.now lines.old) k }
+    ensures margin { result ≡ margin_of rack (repeated quantities.now lines.old) k }
     ensures lines { lines.new ≡ kept_lines rack quantities.now lines.old k }
 {
     let bound = within(rack, k, lines, quantities);

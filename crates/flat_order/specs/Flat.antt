@@ -65,7 +65,7 @@ tight_of left lasts p = lowest (λ d. eqb (number (is_due left lasts (p + d)) (l
 -- the parts begun that have not ended before position p, and have to stand at v or earlier: at each place of the lists stand the parts whose
 -- last positions are before it
 unfoldable pub candidates_at : ℕ → ℕ → PartSet → List ℕ → List ℕ → PartSet
-candidates_at p v begun ends_low ends-high = met begun (removed (row_at ends_low ends-high (v + 1)) (row_at ends_low ends-high p))
+candidates_at p v begun ends_low ends_high = met begun (removed (row_at ends_low ends_high (v + 1)) (row_at ends_low ends_high p))
 
 -- part x is among the candidates, and no other part left is to be placed earlier
 unfoldable pub is_pick : PartSet → PartSet → List ℕ → List ℕ → ℕ → Bool
