@@ -1,5 +1,5 @@
 # make                  builds the proved library, the libraries to link, the programs tipshare and parts, and their pages
-# make check            proves and tests everything (.ci/run)
+# make check            proves and tests everything (.ci/run), after removing target, which it makes anew
 # make checklist        builds, then runs the checklist
 # make bench            builds, checks the hand-written C++, then times every call
 # make example          builds the C example, then runs it
@@ -70,7 +70,9 @@ parts: $(library)
 pages: parts
 	packaging/manual $(version) $(parts) target/man
 
+# rt ci refuses links in the checkout, and there are some in what make and the tests leave.
 check:
+	rm -rf target target-rust/tmp
 	.ci/run
 
 checklist: all
