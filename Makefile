@@ -32,10 +32,12 @@ sources := crates.txt $(shell find $(filter-out crates/try_%,$(wildcard crates/*
 all: $(library) $(archive) $(shared) $(tipshare) parts pages
 
 # rt lib proves what has changed of the crates below, one after the other, and then this one, over what earlier checks kept.
+# Without --cpu it uses instructions of x86-64-v2, which older processors lack; its verdict then names that processor.
 $(library): $(sources)
 	mkdir -p $(@D)
-	cd crates/tipshare_c && rt lib > ../../$(@:.a=.report) 2>&1 || { cat ../../$(@:.a=.report); exit 1; }
+	cd crates/tipshare_c && rt lib --cpu=x86-64 > ../../$(@:.a=.report) 2>&1 || { cat ../../$(@:.a=.report); exit 1; }
 	tools/no-axioms $(@:.a=.report)
+	@if grep '^logic=.* cpu=' $(@:.a=.report); then echo "the library must run on every x86-64 processor (include/tipshare.h)"; exit 1; fi
 	cp crates/tipshare_c/out/$(@F) $@
 
 # Beside the proved functions stand two that are not: the version, and the refusals in words.
