@@ -5,11 +5,11 @@ use native.Mathlib.Nat.{div-add-mod', div-lt_iff_lt-mul, mod-lt, mul-le-mul}
 use mathlib.Core.Path.{◌≡◌, refl, ap, sym, ◌∙◌}
 use mathlib.Core.Logic.{⊎_elim}
 use mathlib.Core.Bool.{Bool}
-use mathlib.Core.List.{List, [], ◌∷◌, ◌++◌, map}
+use mathlib.Core.List.{List, [], ◌∷◌, map}
 use lib.Arith.{digits_lt}
 use lib.Dec.{T}
 use lib.ListN.{length, get_or, take}
-use lib.Seq.{get_or-take, take-append_seam}
+use lib.Seq.{get_or-take}
 use borrow.Author.Tests.{lt-ltb, le-ltb}
 use Rattle.model.specs.Count.{All, none, more, list_of}
 use Rattle.model.specs.Plan.{has, Domain, Valid, empty, line}
@@ -60,10 +60,6 @@ nothing mounted {plan} p z =
     let e = p.none z in
     let f : plan ≡ [] = no_places plan (p.size ∙ ap length e) in
     (rw (f, e), rw z)
-
--- a table at the front of a list
-pub table-front : (r : ℕ) (lines ys : List ℕ) → take (r * r) (table_of r lines ++ ys) ≡ table_of r lines
-table-front r lines ys = rw (length-table r lines) at (take-append_seam (table_of r lines) ys)
 
 module _ {m : ℕ} {qs sets : List ℕ} (n : NamedRuns m qs sets) where
   abbrev N : ℕ → Bool

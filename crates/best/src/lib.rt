@@ -1,91 +1,83 @@
 // Best sharing over slices, on the board renumbered: its placements are summed, its table filled and its plan laid; then both are made the board's.
 #![tactic(auto)]
 
-ghost use Rattle.std.specs.Prelude.{◌≡◌, ◌*◌, ◌≤◌, length, take};
+ghost use Rattle.std.specs.Prelude.{◌≡◌, ◌+◌, ◌*◌, ◌^◌, ◌<◌, ◌≤◌, length, take};
 ghost use Rattle.model.specs.Interval.{C, table as table_of};
 ghost use Rattle.model.specs.Renumber.{names as names_of};
 ghost use Rattle.placements.specs.Repeated.{repeated};
 ghost use Rattle.placements.specs.Plans.{best_plan_q};
 ghost use Rattle.spans.specs.Spans.{sums_size};
 ghost use Rattle.head.specs.OnHead.{on_head};
-ghost use Rattle.best.specs.Runs.{NamedRuns, FullRuns, Ranked};
+ghost use Rattle.best.specs.Runs.{NamedRuns, FullRuns, Ranked, All-prop};
+ghost use Rattle.std.proofs.Props.{props};
 
-use head::Mounted;
+use spans::{MOST_SUMS, SMALL_SUMS};
+use spread::Ranking;
 
 // A place for each run of a rack of 16 tips, and of the largest.
 const SMALL_TABLE: usize = 256;
 
 const TABLE_SIZE: usize = model::MOST_TIPS * model::MOST_TIPS;
 
-// The plan and the table of unbroken runs that name every tip of the rack, made in places that are lent.
-fn plan_in(
+// Unbroken runs that name every tip of a rack of m tips, and the tip that is mounted.
+#[derive(Clone, Copy)]
+struct Full<'a> {
     m: usize,
-    mounted: Mounted,
-    sets: &[u64],
-    quantities: &[u8],
-    sums: &mut [u32],
-    owner: &mut [u8],
-    plan: &mut [u8],
-    table: &mut [u32],
-)
-    requires { FullRuns m quantities.now sets.now × (length sums.old ≡ sums_size m) × (m * m ≤ length owner.old)
-        × (length plan.old ≡ length sets.now) × (length table.old ≡ m * m) }
-    ensures plan { plan.new ≡ best_plan_q (on_head mounted) m quantities.now sets.now }
-    ensures table { table.new ≡ table_of m (repeated quantities.now sets.now) }
-{
-    let pairs = pair_count::pair_table();
-    spans::sum_spans(m, sets, quantities, sums);
-    table::fill_table(m, &pairs, sums, table);
-    layout::plan_lines(m, mounted, sets, &pairs, sums, table, owner, plan);
+    mounted: Option<usize>,
+    sets: &'a [u64],
+    quantities: &'a [u8],
+    ghost runs: { FullRuns m quantities.now sets.now } by { Prim.hlevel (All-prop, props) },
 }
 
-// The same, for a small rack in small places, which are made more quickly.
-fn plan_runs(
-    m: usize,
-    mounted: Mounted,
-    sets: &[u64],
-    quantities: &[u8],
-    plan: &mut [u8],
-    table: &mut [u32],
-)
-    requires { FullRuns m quantities.now sets.now × (length plan.old ≡ length sets.now) × (length table.old ≡ m * m) }
-    ensures plan { plan.new ≡ best_plan_q (on_head mounted) m quantities.now sets.now }
-    ensures table { table.new ≡ table_of m (repeated quantities.now sets.now) }
-{
-    let size = spans::sums_size(m);
-    if m <= 16 {
-        let mut sums = spans::small_sums();
-        let mut owner = [0u8; SMALL_TABLE];
-        plan_in(
+impl Full<'_> {
+    // The plan and the table, with room for the sums and for the owner of each run.
+    fn plan_in<const SUMS: usize, const OWNERS: usize>(&self, plan: &mut [u8], table: &mut [u32])
+        requires sums { sums_size self.now.m ≤ SUMS }
+        requires owners { self.now.m * self.now.m ≤ OWNERS }
+        requires few { SUMS * 4 + OWNERS < 2 ^ 63 }
+        requires lines { length plan.old ≡ length self.now.sets.now }
+        requires cells { length table.old ≡ self.now.m * self.now.m }
+        ensures plan { plan.new ≡ best_plan_q (on_head self.now.mounted) self.now.m self.now.quantities.now self.now.sets.now }
+        ensures table { table.new ≡ table_of self.now.m (repeated self.now.quantities.now self.now.sets.now) }
+    {
+        let m = self.m;
+        let pairs = pair_count::pair_table();
+        let mut sums = [0u32; SUMS];
+        let sums = &mut sums[..spans::sums_size(m)];
+        let mut owner = [0u8; OWNERS];
+        spans::sum_spans(m, self.sets, self.quantities, sums);
+        table::fill_table(m, &pairs, sums, table);
+        layout::plan_lines(
             m,
-            mounted,
-            sets,
-            quantities,
-            &mut sums[..size],
+            self.mounted,
+            self.sets,
+            &pairs,
+            sums,
+            table,
             &mut owner,
             plan,
-            table,
         );
-        return;
     }
-    let mut sums = spans::most_sums();
-    let mut owner = [0u8; TABLE_SIZE];
-    plan_in(
-        m,
-        mounted,
-        sets,
-        quantities,
-        &mut sums[..size],
-        &mut owner,
-        plan,
-        table,
-    );
+
+    // The same: for a small rack in small places, which are made more quickly.
+    fn plan_runs(&self, plan: &mut [u8], table: &mut [u32])
+        requires lines { length plan.old ≡ length self.now.sets.now }
+        requires cells { length table.old ≡ self.now.m * self.now.m }
+        ensures plan { plan.new ≡ best_plan_q (on_head self.now.mounted) self.now.m self.now.quantities.now self.now.sets.now }
+        ensures table { table.new ≡ table_of self.now.m (repeated self.now.quantities.now self.now.sets.now) }
+    {
+        if self.m <= 16 {
+            self.plan_in::<SMALL_SUMS, SMALL_TABLE>(plan, table);
+        } else {
+            self.plan_in::<MOST_SUMS, TABLE_SIZE>(plan, table);
+        }
+    }
 }
 
 // The same at the front of the table, for a rack that may have no tip: then there is no line.
 fn plan_ranks(
     r: usize,
-    mounted: Mounted,
+    mounted: Option<usize>,
     sets: &[u64],
     quantities: &[u8],
     plan: &mut [u8],
@@ -98,40 +90,52 @@ fn plan_ranks(
     if r == 0 {
         return;
     }
-    let square = r * r;
-    plan_runs(r, mounted, sets, quantities, plan, &mut table[..square]);
+    let full = Full {
+        m: r,
+        mounted,
+        sets,
+        quantities,
+    };
+    full.plan_runs(plan, &mut table[..r * r]);
 }
 
 // The plan and the table of runs of the named tips, by their ranks: the sets end renumbered.
 fn plan_named(
     m: usize,
-    mounted: Mounted,
+    mounted: Option<usize>,
     names: u64,
     sets: &mut [u64],
     quantities: &[u8],
     plan: &mut [u8],
     table: &mut [u32],
 )
-    requires { NamedRuns m quantities.now sets.old × (names ≡ names_of sets.old)
-        × (length plan.old ≡ length sets.old) × (length table.old ≡ m * m) }
+    requires runs { NamedRuns m quantities.now sets.old }
+    requires named { names ≡ names_of sets.old }
+    requires lines { length plan.old ≡ length sets.old }
+    requires cells { length table.old ≡ m * m }
     ensures plan { plan.new ≡ best_plan_q (on_head mounted) m quantities.now sets.old }
     ensures table { table.new ≡ table_of m (repeated quantities.now sets.old) }
 {
     let mut rank_list = [0u8; model::MOST_TIPS];
     let mut tip_list = [0u8; model::MOST_TIPS];
-    let r = ranks::list_tips(names, m, &mut rank_list, &mut tip_list);
+    let count = ranks::list_tips(names, m, &mut rank_list, &mut tip_list);
     ranks::renumber_lines(sets, &rank_list);
     let on = ranks::renumber_mounted(mounted, names, &rank_list);
-    plan_ranks(r, on, sets, quantities, plan, table);
+    plan_ranks(count, on, sets, quantities, plan, table);
     spread::name_tips(&tip_list, plan);
-    spread::spread_table(names, m, r, table);
+    let ranking = Ranking {
+        set: names,
+        m,
+        count,
+    };
+    spread::spread_table(&ranking, table);
 }
 
 // The most placement pairs of the lines, each of which is a run of the named tips. The sets are the caller's working copy, which is used up.
 // The table and the plan end whole, whatever they held.
 pub fn plan_lines(
     m: usize,
-    mounted: Mounted,
+    mounted: Option<usize>,
     sets: &mut [u64],
     quantities: &[u8],
     plan: &mut [u8],
@@ -144,9 +148,15 @@ pub fn plan_lines(
 {
     let names = ranks::names_of(sets);
     if names == tips::between(0, m - 1) {
-        plan_runs(m, mounted, sets, quantities, plan, table);
-        return table[m - 1];
+        let full = Full {
+            m,
+            mounted,
+            sets,
+            quantities,
+        };
+        full.plan_runs(plan, table);
+    } else {
+        plan_named(m, mounted, names, sets, quantities, plan, table);
     }
-    plan_named(m, mounted, names, sets, quantities, plan, table);
     table[m - 1]
 }

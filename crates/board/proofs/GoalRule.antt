@@ -1,17 +1,21 @@
 -- What striking the tips that miss a pair goal means for a board.
-use Prim.Native.Nat.{ℕ}
-use mathlib.Core.Path.{◌≡◌, refl, sym, subst}
-use mathlib.Core.List.{List}
+use Prim.Native.Nat.{ℕ, ◌≤◌}
+use mathlib.Core.Path.{◌≡◌, refl, ap, ◌∙◌}
+use mathlib.Core.List.{List, ◌++◌}
+use native.Mathlib.Omega.{arith}
+use lib.ListN.{length, drop}
 use Rattle.placements.specs.Good.{GoodLines}
-use Rattle.refusal.specs.declared.Refusal.{Refusal}
+use Rattle.refusal.specs.Told.{Refusal}
+use Rattle.refusal.proofs.Laws.{lent_refused, lent_front}
 use Rattle.call_refusals.specs.declared.Stage.TheVariants.{Closed}
 use Rattle.goals.specs.Goal.{strike}
 use Rattle.line_calls.specs.Goal as Lines
 use Rattle.line_calls.proofs.PairGoal as laws
 use Rattle.board.specs.declared.Board.{Board}
+use Rattle.board.specs.Answers.{Answer}
 use Rattle.board.specs.Board.{lines_of, quantities_of, state_refusal, answer}
 use Rattle.board.specs.Goal.{struck_board, goal_of, GoalRule}
-use Rattle.board.proofs.Sets.{Full, ready}
+use Rattle.board.proofs.Sets.{Full, ready, lines-count}
 use Rattle.board.proofs.Replaced.{with_sets, replaced-refused, replaced-lines, replaced_full, replaced-sound}
 
 module _ (b : Board) (K : ℕ) (full : Full b) where
@@ -54,12 +58,25 @@ module _ (b : Board) (K : ℕ) (full : Full b) where
         same_quantities = refl;
       }
 
+-- an answer that the definition gives has the rule
+pub goal_ruled : (b : Board) (K : ℕ) → Full b → {r : Answer} → r ≡ goal_of b K → GoalRule b K r
+goal_ruled b K full same = rw same (goal-rule b K full)
+
 -- what the code answers, from the refusal and the sets for the board's lines
-pub goal-answer : (b : Board) (K : ℕ) → Full b → {d : Refusal} → d ≡ state_refusal Closed b → {r : Refusal} {sets : List ℕ}
-    → r ≡ Lines.goal_of d b.rack (quantities_of b) (lines_of b) K
-    → sets ≡ Lines.struck_sets d b.rack (quantities_of b) (lines_of b) K b.sets
-    → (answer (with_sets b sets) r ≡ goal_of b K) × GoalRule b K (answer (with_sets b sets) r)
-unfolding goal_of
-goal-answer b K full {d} e {r} {sets} f g =
-    let same : answer (with_sets b sets) r ≡ goal_of b K = rw (f, g, e) refl in
-    (same, subst (GoalRule b K) (sym same) (goal-rule b K full))
+module _ (b : Board) (K : ℕ) (full : Full b) {d : Refusal} (e : d ≡ state_refusal Closed b) (z : d.number ≡ 0)
+    {r : Refusal} (f : r ≡ Lines.goal_of d b.rack (quantities_of b) (lines_of b) K) where
+  pub goal-answer : {lines : List ℕ} → lines ≡ Lines.struck_sets d b.rack (quantities_of b) (lines_of b) K (lines_of b)
+      → answer (with_sets b (lines ++ drop b.count b.sets)) r ≡ goal_of b K
+  unfolding goal_of Lines.struck_sets
+  goal-answer g =
+      let q = ready Closed b full e z in
+      let inside : b.count ≤ length b.sets = omega (arith, full.sets_full, q.sound.count_most) in
+      let asked = Lines.goal_of d b.rack (quantities_of b) (lines_of b) K in
+      rw (f, g, lines-count Closed b full q, lent_front asked b.count (strike b.rack (quantities_of b) (lines_of b) K) b.sets inside, e) refl
+
+  -- after a refusal the board is as it was
+  pub goal-refused : (r.number ≡ 0 → ⊥) → answer b r ≡ goal_of b K
+  unfolding goal_of Lines.struck_sets
+  goal-refused n =
+      ap (λ s. answer (with_sets b s) r) (lent_refused f (length (lines_of b)) (strike b.rack (quantities_of b) (lines_of b) K) b.sets n)
+      ∙ rw (f, e) refl

@@ -1,28 +1,29 @@
 -- What keep within k means for a board.
-use Prim.Native.Nat.{ℕ, ◌^◌, ◌<◌}
+use Prim.Native.Nat.{ℕ, ◌≤◌}
 use mathlib.Core.Path.{◌≡◌, refl, ap}
 use mathlib.Core.Logic.{◌↔◌}
-use mathlib.Core.List.{List}
+use mathlib.Core.List.{List, ◌++◌}
 use lib.Dec.{T}
-use mir.Syntax.{w32}
-use mir.Val.{to_z, of_z}
+use native.Mathlib.Omega.{arith}
+use lib.ListN.{length, drop}
 use Rattle.model.specs.CommonTip.{margin}
 use Rattle.placements.specs.Repeated.{repeated}
 use Rattle.placements.specs.Good.{GoodLines}
 use Rattle.placements.specs.Keep.{prune_q}
-use Rattle.refusal.specs.declared.Refusal.{Refusal}
+use Rattle.refusal.specs.Told.{Refusal}
+use Rattle.refusal.proofs.Laws.{lent_front}
 use Rattle.call_refusals.specs.declared.Stage.TheVariants.{Closed}
 use Rattle.call_refusals.specs.Calls.{keep_refusal}
 use Rattle.call_refusals.proofs.Calls.{keep-none}
-use Rattle.line_calls.specs.declared.KeepAnswer.{KeepAnswer}
+use Rattle.line_calls.specs.Answers.{KeepAnswer}
 use Rattle.line_calls.specs.Lines
 use Rattle.line_calls.specs.Rules.{NoneWithin}
-use Rattle.line_calls.proofs.KeepWithin.{keep_exact, keep-refuses, keep_good, keep_bits}
+use Rattle.line_calls.proofs.KeepWithin.{keep_exact, keep-refuses, keep_good}
 use Rattle.board.specs.declared.Board.{Board}
-use Rattle.board.specs.declared.Kept.{Kept}
+use Rattle.board.specs.Answers.{Kept}
 use Rattle.board.specs.Board.{lines_of, quantities_of, sound, state_refusal}
 use Rattle.board.specs.Common.{kept_board, keep_of, KeepRule}
-use Rattle.board.proofs.Sets.{Full, ready, state-free}
+use Rattle.board.proofs.Sets.{Full, ready, state-free, lines-count}
 use Rattle.board.proofs.Replaced.{with_sets, replaced-refused, replaced-lines, replaced_full, replaced-sound}
 
 module _ (b : Board) (k : ℕ) (full : Full b) where
@@ -68,16 +69,23 @@ module _ (b : Board) (k : ℕ) (full : Full b) where
     same_quantities = refl;
   }
 
--- what the code answers, from the answer for the board's lines; the margin goes through its 32 bits
-pub kept-answer : (b : Board) (k : ℕ) → Full b → k < 2 ^ 16 → {d : Refusal} → d ≡ state_refusal Closed b → {r : KeepAnswer} {sets : List ℕ}
-    → r ≡ Lines.keep_of d b.rack (quantities_of b) (lines_of b) k
-    → sets ≡ Lines.sets_kept d b.rack (quantities_of b) (lines_of b) k b.sets
+-- an answer that the definition gives has the rule
+pub keep_ruled : (b : Board) (k : ℕ) → Full b → {r : Kept} → r ≡ keep_of b k → KeepRule b k r
+keep_ruled b k full same = rw same (keep-rule b k full)
+
+-- what the code answers, from the answer and the sets for the board's lines
+pub kept-answer : (b : Board) (k : ℕ) → Full b → {d : Refusal} → d ≡ state_refusal Closed b → d.number ≡ 0
+    → {r : KeepAnswer} {lines : List ℕ} → r ≡ Lines.keep_of d b.rack (quantities_of b) (lines_of b) k
+    → lines ≡ Lines.sets_kept d b.rack (quantities_of b) (lines_of b) k (lines_of b)
     → ◌≡◌ {A = Kept} (record {
-      board = with_sets b sets;
+      board = with_sets b (lines ++ drop b.count b.sets);
       number = r.refusal.number;
       place = r.refusal.place;
-      margin = to_z w32 (of_z w32 r.margin);
+      margin = r.margin;
     }) (keep_of b k)
-unfolding keep_of
-kept-answer b k full h e f g =
-    rw (f, g, e, keep_bits (state_refusal Closed b) k (λ z. (ready Closed b full refl z).sound.good) h) refl
+unfolding keep_of Lines.sets_kept
+kept-answer b k full {d} e z f g =
+    let r = ready Closed b full e z in
+    let inside : b.count ≤ length b.sets = omega (arith, full.sets_full, r.sound.count_most) in
+    let asked = keep_refusal d (margin b.rack (repeated (quantities_of b) (lines_of b)) k) in
+    rw (f, g, lines-count Closed b full r, lent_front asked b.count (prune_q b.rack (quantities_of b) (lines_of b) k) b.sets inside, e) refl

@@ -8,19 +8,19 @@ use lib.ListN.{length, drop, length-append}
 use lib.Seq.{drop-drop}
 use borrow.Author.Tests.{eqb-true, eqb-false}
 use Rattle.model.specs.Limits.{most_lines}
-use Rattle.refusal.specs.declared.Refusal.{Refusal}
+use Rattle.refusal.specs.Told.{Refusal}
 use Rattle.refusal.specs.Refusal.{none, accepts, Given}
 use Rattle.refusal.proofs.Laws.{number_of, or_none, refused, accepted, by_number, later}
 use Rattle.sound.proofs.Laws.{sound_iff}
-use Rattle.call_refusals.specs.declared.Stage.TheVariants.{Open, Closed}
-use Rattle.panel.specs.declared.AloneAnswer.{AloneAnswer}
+use Rattle.call_refusals.specs.declared.Stage.TheVariants.{Closed}
+use Rattle.panel.specs.Answers.{AloneAnswer}
 use Rattle.panel.specs.Panel
 use Rattle.panel.specs.Panel.{first_of, merged_by}
 use Rattle.panel.specs.Rules.{PanelRule}
 use Rattle.panel.proofs.Merged.{known, merged-rule}
 use Rattle.board.specs.declared.Board.{Board}
-use Rattle.board.specs.declared.Merged.{Merged}
-use Rattle.board.specs.declared.Alone.{Alone}
+use Rattle.board.specs.Answers.{Merged}
+use Rattle.board.specs.Answers.{Alone}
 use Rattle.board.specs.Board.{lines_of, quantities_of, sound, state_refusal, no_sets, no_quantities, empty_board}
 use Rattle.board.specs.Panel.{states_refusal, merge_refusal, panel_of, merged, merge_of, MergeRule, alone_of, alone_buffer}
 use Rattle.board.proofs.Sets.{no-sets, no-quantities, Full, same_size, ReadyBoard, ready, given, state-free, lines-count}
@@ -58,10 +58,9 @@ module _ (a b : Board) (full : Full a) (other : Full b) where
       decided : d ≡ merge_refusal a b
       decided = h ∙ ap (λ r. Panel.merge_of r a.rack (quantities_of a) (lines_of a) b.rack (quantities_of b) (lines_of b)) states
 
-      pub merge_refused : (d.number ≡ 0 → ⊥) → {sets qs : List ℕ} → sets ≡ no_sets → qs ≡ no_quantities
-          → merged a b (record { rack = 1; stage = Open; count = 0; sets = sets; quantities = qs }) d ≡ merge_of a b
+      pub merge_refused : (d.number ≡ 0 → ⊥) → merged a b (empty_board 1) d ≡ merge_of a b
       unfolding merge_of
-      merge_refused n s q = rw (s, q) (ap (merged a b (empty_board 1)) decided ∙ sym (refused _ _ decided n))
+      merge_refused n = ap (merged a b (empty_board 1)) decided ∙ sym (refused _ _ decided n)
 
       pub refused-rule : (d.number ≡ 0 → ⊥) → (p : Board) → MergeRule a b (merged a b p d)
       refused-rule n p = record {
@@ -168,7 +167,7 @@ module _ (a b : Board) (full : Full a) (other : Full b) where
           subst (MergeRule a b) same rule
       by false h =
           let n = eqb-false (merge_refusal a b).number 0 h in
-          subst (MergeRule a b) (merge_refused refl refl refl refl n refl refl) (refused-rule refl refl refl refl n (empty_board 1))
+          subst (MergeRule a b) (merge_refused refl refl refl refl n) (refused-rule refl refl refl refl n (empty_board 1))
 
   -- an accepted merge gives the panel, whose state refuses no call on a closed board
   module _ (z : (merge_of a b).number ≡ 0) where

@@ -7,7 +7,7 @@ use lib.Dec.{T}
 use lib.ListN.{length, drop, length-append, length-drop}
 use lib.Seq.{take_at, drop_at}
 use Rattle.placements.specs.Good.{GoodLines}
-use Rattle.refusal.specs.declared.Refusal.{Refusal}
+use Rattle.refusal.specs.Told.{Refusal}
 use Rattle.refusal.specs.Refusal.{lent_by}
 use Rattle.refusal.proofs.Laws.{lent_refused, accepted}
 use Rattle.sound.proofs.Laws.{sound_iff}

@@ -1,12 +1,12 @@
 -- What the check of a plan, a claimed pair count and a table from other software answers, and what it means.
 use Rattle.std.specs.Prelude.{ℕ, List, length}
-use Rattle.refusal.specs.declared.Refusal.{Refusal}
+use Rattle.refusal.specs.Told.{Refusal}
 use Rattle.call_refusals.specs.declared.Stage.TheVariants.{Closed}
 use Rattle.call_refusals.specs.Calls
 use Rattle.line_calls.specs.Lines
 use Rattle.line_calls.specs.Rules
 use Rattle.board.specs.declared.Board.{Board}
-use Rattle.board.specs.declared.Answer.{Answer}
+use Rattle.board.specs.Answers.{Answer}
 use Rattle.board.specs.Board.{lines_of, quantities_of, state_refusal, answer}
 
 -- the check, with the board as it was

@@ -1,10 +1,10 @@
 -- What striking the tips that miss a pair goal answers, and what it means.
 use Rattle.std.specs.Prelude.{ℕ, ◌≡◌, T}
-use Rattle.refusal.specs.declared.Refusal.{Refusal}
+use Rattle.refusal.specs.Told.{Refusal}
 use Rattle.call_refusals.specs.declared.Stage.TheVariants.{Closed}
 use Rattle.line_calls.specs.Goal as Lines
 use Rattle.board.specs.declared.Board.{Board}
-use Rattle.board.specs.declared.Answer.{Answer}
+use Rattle.board.specs.Answers.{Answer}
 use Rattle.board.specs.Board.{lines_of, quantities_of, sound, state_refusal, answer}
 
 -- the board with its lines struck; a refused goal leaves the board as it was

@@ -1,12 +1,12 @@
 -- What the Junior with two holders answers for a closed board, what it leaves in the plan buffer, and what it means.
 use Rattle.std.specs.Prelude.{ℕ, List, length}
-use Rattle.refusal.specs.declared.Refusal.{Refusal}
+use Rattle.refusal.specs.Told.{Refusal}
 use Rattle.call_refusals.specs.declared.Stage.TheVariants.{Closed}
 use Rattle.call_refusals.specs.Junior as Asked
-use Rattle.line_calls.specs.declared.JuniorAnswer.{JuniorAnswer}
+use Rattle.line_calls.specs.Answers.{JuniorAnswer}
 use Rattle.line_calls.specs.Junior as Lines
 use Rattle.board.specs.declared.Board.{Board}
-use Rattle.board.specs.declared.Junior.{Junior}
+use Rattle.board.specs.Answers.{Junior}
 use Rattle.board.specs.Board.{lines_of, quantities_of, state_refusal}
 
 -- the answer, with the board as it was

@@ -1,6 +1,6 @@
 -- What merging two boards into one panel and planning each alone answer, what is left in the lent buffer, and what the answers mean.
 use Rattle.std.specs.Prelude.{ℕ, ◌+◌, ◌≡◌, cond, List, ◌++◌, T, drop}
-use Rattle.refusal.specs.declared.Refusal.{Refusal}
+use Rattle.refusal.specs.Told.{Refusal}
 use Rattle.refusal.specs.Refusal.{none, accepts}
 use Rattle.call_refusals.specs.declared.Stage.TheVariants.{Closed}
 use Rattle.panel.specs.Panel
@@ -8,8 +8,8 @@ use Rattle.panel.specs.Panel.{first_of}
 use Rattle.panel.specs.Rules
 use Rattle.panel.specs.Rules.{PanelRule}
 use Rattle.board.specs.declared.Board.{Board}
-use Rattle.board.specs.declared.Merged.{Merged}
-use Rattle.board.specs.declared.Alone.{Alone}
+use Rattle.board.specs.Answers.{Merged}
+use Rattle.board.specs.Answers.{Alone}
 use Rattle.board.specs.Board.{lines_of, quantities_of, sound, state_refusal, no_sets, no_quantities, empty_board}
 
 -- the refusals because of the boards' states: those of the first, then those of the second

@@ -1,14 +1,14 @@
 -- What quick and best sharing answer, what they leave in the lent buffers, and what holds of the plans handed out.
 use Rattle.std.specs.Prelude.{ℕ, List}
 use Rattle.model.specs.Choice.{Mounted}
-use Rattle.refusal.specs.declared.Refusal.{Refusal}
+use Rattle.refusal.specs.Told.{Refusal}
 use Rattle.call_refusals.specs.declared.Stage.TheVariants.{Closed}
 use Rattle.call_refusals.specs.Calls
-use Rattle.line_calls.specs.declared.PlanAnswer.{PlanAnswer}
+use Rattle.line_calls.specs.Answers.{PlanAnswer}
 use Rattle.line_calls.specs.Lines
 use Rattle.line_calls.specs.Rules
 use Rattle.board.specs.declared.Board.{Board}
-use Rattle.board.specs.declared.Shared.{Shared}
+use Rattle.board.specs.Answers.{Shared}
 use Rattle.board.specs.Board.{lines_of, quantities_of, state_refusal}
 
 -- the answer to a plan of the board's lines, with the board as it was

@@ -1,56 +1,33 @@
 // Quick sharing of two closed boards, each alone, whatever their racks.
 ghost use Rattle.std.specs.Prelude.{◌≡◌, length};
+ghost use Rattle.board.specs.Told.{alone_answered};
 ghost use Rattle.board.specs.Panel.{alone_of, alone_buffer, AloneRule};
 
-use crate::{Alone, Board, Stage};
+use crate::{AlonePairs, Board, Stage};
+use refusal::Refused;
 
 impl Board {
-    pub fn alone(self, other: Board, plan: &mut [u8]) -> Alone
-        ensures answer { result ≡ alone_of self other (length plan.old) }
-        ensures plan { plan.new ≡ alone_buffer self other plan.old }
-        ensures rule { AloneRule self other plan.new result }
+    // The number of pairs of placements on one tip in the plan of each.
+    pub fn alone(&self, other: &Board, plan: &mut [u8]) -> Result<AlonePairs, Refused>
+        ensures answer { alone_answered self.now other.now result
+            ≡ alone_of self.now other.now (length plan.old) }
+        ensures plan { plan.new ≡ alone_buffer self.now other.now plan.old }
+        ensures rule { AloneRule self.now other.now plan.new (alone_answered self.now other.now result) }
     {
-        let stage = self.stage;
+        self.state(Stage::Closed)?;
+        other.state(Stage::Closed)?;
+        let count = self.count;
+        let others = other.count;
         let mut left = self.sets;
-        let quantities = self.quantities;
-        let other_stage = other.stage;
         let mut other_left = other.sets;
-        let other_quantities = other.quantities;
-        let first = call_refusals::state_refusal(
-            Stage::Closed,
+        panel::alone(
             self.rack,
-            stage,
-            self.count,
-            &left,
-            &quantities,
-        );
-        let second = call_refusals::state_refusal(
-            Stage::Closed,
+            &mut left[..count],
+            &self.quantities[..count],
             other.rack,
-            other_stage,
-            other.count,
-            &other_left,
-            &other_quantities,
-        );
-        let laid = panel::alone(
-            panel::first_of(first, second),
-            self.rack,
-            self.count,
-            &mut left,
-            &quantities,
-            other.rack,
-            other.count,
-            &mut other_left,
-            &other_quantities,
+            &mut other_left[..others],
+            &other.quantities[..others],
             plan,
-        );
-        Alone {
-            first: self,
-            second: other,
-            number: laid.refusal.number,
-            place: laid.refusal.place,
-            first_pairs: laid.first_pairs,
-            second_pairs: laid.second_pairs,
-        }
+        )
     }
 }

@@ -1,41 +1,25 @@
 // The check of a plan, a claimed pair count and a table from other software, for a closed board whose lines are runs of the named tips.
 ghost use Rattle.std.specs.Prelude.{◌≡◌};
+ghost use Rattle.board.specs.Told.{answered};
 ghost use Rattle.board.specs.Check.{check_of, CheckRule};
 
-use crate::{Answer, Board, Stage};
+use crate::{Board, Stage};
+use refusal::Refused;
 
 impl Board {
-    pub fn check(self, plan: &[u8], claim: u32, table: &[u32]) -> Answer
-        ensures answer { result ≡ check_of self plan.now claim table.now }
-        ensures rule { CheckRule self plan.now claim table.now result }
+    pub fn check(&self, plan: &[u8], claim: u32, table: &[u32]) -> Result<(), Refused>
+        ensures answer { answered self.now result ≡ check_of self.now plan.now claim table.now }
+        ensures rule { CheckRule self.now plan.now claim table.now (answered self.now result) }
     {
-        let stage = self.stage;
-        let sets = self.sets;
-        let quantities = self.quantities;
-        let lent_sets: &[u64] = &sets;
-        let lent_quantities: &[u8] = &quantities;
-        let state = call_refusals::state_refusal(
-            Stage::Closed,
+        self.state(Stage::Closed)?;
+        let count = self.count;
+        line_calls::check(
             self.rack,
-            stage,
-            self.count,
-            lent_sets,
-            lent_quantities,
-        );
-        let refusal = line_calls::check(
-            state,
-            self.rack,
-            self.count,
-            lent_sets,
-            lent_quantities,
+            &self.sets[..count],
+            &self.quantities[..count],
             plan,
             claim,
             table,
-        );
-        Answer {
-            board: self,
-            number: refusal.number,
-            place: refusal.place,
-        }
+        )
     }
 }

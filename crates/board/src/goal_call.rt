@@ -1,51 +1,28 @@
 // Strike the tips that miss a pair goal, on a closed board whose lines are runs of the named tips.
 ghost use Rattle.std.specs.Prelude.{◌≡◌};
+ghost use Rattle.board.specs.Told.{answered};
 ghost use Rattle.board.specs.Goal.{goal_of, GoalRule};
 
-use crate::{Answer, Board, Stage};
+use crate::{Board, Stage};
+use refusal::Refused;
 
 impl Board {
     // No buffer is lent: the arrays of striking take 74,764 bytes of the stack, and the second array of sets 4,096.
-    pub fn goal(self, goal: u32) -> Answer
-        ensures answer { result ≡ goal_of self goal }
-        ensures rule { GoalRule self goal result }
+    pub fn goal(&mut self, goal: u32) -> Result<(), Refused>
+        ensures answer { answered self.new result ≡ goal_of self.old goal }
+        ensures rule { GoalRule self.old goal (answered self.new result) }
     {
-        let rack = self.rack;
-        let stage = self.stage;
+        self.state(Stage::Closed)?;
         let count = self.count;
-        let sets = self.sets;
-        let quantities = self.quantities;
         let mut struck = self.sets;
-        let lent_sets: &[u64] = &sets;
-        let lent_quantities: &[u8] = &quantities;
-        let state = call_refusals::state_refusal(
-            Stage::Closed,
-            rack,
-            stage,
-            count,
-            lent_sets,
-            lent_quantities,
-        );
-        let refusal = line_calls::goal(
-            state,
-            rack,
-            count,
-            lent_sets,
-            lent_quantities,
+        line_calls::goal(
+            self.rack,
+            &self.sets[..count],
+            &self.quantities[..count],
             goal,
-            &mut struck,
-        );
-        let board = Board {
-            rack,
-            stage,
-            count,
-            sets: struck,
-            quantities,
-        };
-        Answer {
-            board,
-            number: refusal.number,
-            place: refusal.place,
-        }
+            &mut struck[..count],
+        )?;
+        self.sets = struck;
+        Ok(())
     }
 }

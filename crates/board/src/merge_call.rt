@@ -1,80 +1,38 @@
 // Two closed boards merged into one closed board.
 ghost use Rattle.std.specs.Prelude.{◌≡◌};
+ghost use Rattle.board.specs.Told.{merged_answered};
 ghost use Rattle.board.specs.Panel.{merge_of, MergeRule};
 
-use crate::{Board, Merged, Stage};
+use crate::{Board, Stage};
+use refusal::Refused;
 
 impl Board {
-    pub fn merge(self, other: Board) -> Merged
-        ensures answer { result ≡ merge_of self other }
-        ensures rule { MergeRule self other result }
+    // The panel that has the lines of the first and then those of the second.
+    pub fn merge(&self, other: &Board) -> Result<Board, Refused>
+        ensures answer { merged_answered self.now other.now result ≡ merge_of self.now other.now }
+        ensures rule { MergeRule self.now other.now (merged_answered self.now other.now result) }
     {
-        let stage = self.stage;
+        self.state(Stage::Closed)?;
+        other.state(Stage::Closed)?;
         let count = self.count;
+        let others = other.count;
         let mut sets = self.sets;
         let mut quantities = self.quantities;
-        let other_stage = other.stage;
-        let other_sets = other.sets;
-        let other_quantities = other.quantities;
-        let lent_sets: &[u64] = &other_sets;
-        let lent_quantities: &[u8] = &other_quantities;
-        let first = call_refusals::state_refusal(
-            Stage::Closed,
-            self.rack,
-            stage,
-            count,
-            &sets,
-            &quantities,
-        );
-        let second = call_refusals::state_refusal(
-            Stage::Closed,
-            other.rack,
-            other_stage,
-            other.count,
-            lent_sets,
-            lent_quantities,
-        );
-        let refusal = panel::merge(
-            panel::first_of(first, second),
+        panel::merge(
             self.rack,
             count,
             &mut sets,
             &mut quantities,
             other.rack,
-            other.count,
-            lent_sets,
-            lent_quantities,
-        );
-        if refusal.number != 0 {
-            let panel = Board {
-                rack: 1,
-                stage: Stage::Open,
-                count: 0,
-                sets: sound::no_sets(),
-                quantities: sound::no_quantities(),
-            };
-            return Merged {
-                first: self,
-                second: other,
-                panel,
-                number: refusal.number,
-                place: refusal.place,
-            };
-        }
-        let count = count + other.count;
-        let panel = Board {
+            &other.sets[..others],
+            &other.quantities[..others],
+        )?;
+        Ok(Board {
             rack: self.rack,
             stage: Stage::Closed,
-            count,
+            count: count + others,
             sets,
             quantities,
-        };
-        Merged {
-            first: self,
-            second: other,
-            panel,
-            number: 0,
-            place: 0,
-        }
+        })
     }
 }

@@ -1,43 +1,29 @@
 // Quick sharing of a closed board.
 ghost use Rattle.std.specs.Prelude.{◌≡◌, length};
 ghost use Rattle.head.specs.OnHead.{on_head};
+ghost use Rattle.board.specs.Told.{shared_answered};
 ghost use Rattle.board.specs.Sharing.{quick_of, quick_buffer, HalfRule};
 
-use crate::{Board, Shared, Stage};
-use head::Mounted;
+use crate::{Board, Stage};
+use refusal::Refused;
 
 impl Board {
-    pub fn quick(self, mounted: Mounted, plan: &mut [u8]) -> Shared
-        ensures answer { result ≡ quick_of self (on_head mounted) (length plan.old) }
-        ensures buffer { plan.new ≡ quick_buffer self (on_head mounted) plan.old }
-        ensures rule { HalfRule self plan.new result }
+    // The number of pairs of placements on one tip in the plan that is handed out.
+    pub fn quick(&self, mounted: Option<usize>, plan: &mut [u8]) -> Result<u32, Refused>
+        ensures answer { shared_answered self.now result ≡ quick_of self.now (on_head mounted) (length plan.old) }
+        ensures buffer { plan.new ≡ quick_buffer self.now (on_head mounted) plan.old }
+        ensures rule { HalfRule self.now plan.new (shared_answered self.now result) }
     {
-        let stage = self.stage;
+        self.state(Stage::Closed)?;
+        call_refusals::mounted_refusal(self.rack, mounted)?;
+        let count = self.count;
         let mut left = self.sets;
-        let quantities = self.quantities;
-        let state = call_refusals::state_refusal(
-            Stage::Closed,
-            self.rack,
-            stage,
-            self.count,
-            &left,
-            &quantities,
-        );
-        let refusal = call_refusals::mounted_refusal(state, self.rack, mounted);
-        let laid = line_calls::quick(
-            refusal,
+        line_calls::quick(
             self.rack,
             mounted,
-            self.count,
-            &mut left,
-            &quantities,
+            &mut left[..count],
+            &self.quantities[..count],
             plan,
-        );
-        Shared {
-            board: self,
-            number: laid.refusal.number,
-            place: laid.refusal.place,
-            pairs: laid.pairs,
-        }
+        )
     }
 }

@@ -10,7 +10,7 @@ use Rattle.model.specs.Choice.{Mounted}
 use Rattle.model.specs.CommonTip.{margin}
 use Rattle.placements.specs.Repeated.{repeated}
 use Rattle.placements.specs.Keep.{prune_q}
-use Rattle.refusal.specs.declared.Refusal.{Refusal}
+use Rattle.refusal.specs.Told.{Refusal}
 use Rattle.refusal.specs.Refusal.{none, refuse, or_else, when}
 use Rattle.refusal.proofs.Laws.{accepted, by_number}
 use Rattle.job.specs.Job.{rack_in, sets_in, quantities_in, read_refusal}
@@ -19,11 +19,11 @@ use Rattle.call_refusals.specs.declared.Stage.TheVariants.{Closed}
 use Rattle.call_refusals.specs.Calls.{is_negative, keep_refusal, mounted_refusal, write_refusal}
 use Rattle.line_calls.specs.Lines
 use Rattle.board.specs.declared.Board.{Board}
-use Rattle.board.specs.declared.Answer.{Answer}
-use Rattle.board.specs.declared.Common.{Common}
-use Rattle.board.specs.declared.Kept.{Kept}
-use Rattle.board.specs.declared.Shared.{Shared}
-use Rattle.board.specs.declared.Written.{Written}
+use Rattle.board.specs.Answers.{Answer}
+use Rattle.board.specs.Answers.{Common}
+use Rattle.board.specs.Answers.{Kept}
+use Rattle.board.specs.Answers.{Shared}
+use Rattle.board.specs.Answers.{Written}
 use Rattle.board.specs.Board.{lines_of, quantities_of, state_refusal, answer}
 use Rattle.board.specs.Common.{common_of, kept_board, keep_of}
 use Rattle.board.specs.Sharing.{quick_of, quick_buffer, best_of, best_buffer, best_table}
@@ -32,8 +32,8 @@ use Rattle.board.specs.JobFile.{board_in, read_of, write_of, write_buffer}
 use Rattle.board.proofs.Sets.{Full, state-free}
 use Rattle.board.proofs.JobFileRule.{full_in, lines-in, quantities-in, state_in}
 use Rattle.board.proofs.KeepRule.{kept-lines, kept_full, keep-rule}
-use Rattle.file_calls.specs.declared.Outcome.{Outcome}
-use Rattle.file_calls.specs.Calls.{twos_complement, common_outcome, plan_outcome, keep_outcome, check_outcome, check_in}
+use Rattle.file_calls.specs.Outcomes.{Outcome, twos_complement}
+use Rattle.file_calls.specs.Calls.{common_outcome, plan_outcome, keep_outcome, check_outcome, check_in}
 use Rattle.file_calls.specs.Calls.{read_in, common_in, quick_in, quick_plan_in, best_in, best_plan_in, best_table_in, keep_in, keep_file_in}
 
 -- ---- the answers of the board's calls, as outcomes

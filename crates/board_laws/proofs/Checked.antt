@@ -7,7 +7,7 @@ use Rattle.model.specs.Choice.{Mounted}
 use Rattle.model.specs.Interval.{C}
 use Rattle.placements.specs.Repeated.{repeated}
 use Rattle.placements.specs.Good.{GoodLines}
-use Rattle.refusal.specs.declared.Refusal.{Refusal}
+use Rattle.refusal.specs.Told.{Refusal}
 use Rattle.refusal.specs.Refusal.{none}
 use Rattle.refusal.proofs.Laws.{accepted}
 use Rattle.call_refusals.specs.declared.Stage.TheVariants.{Closed}

@@ -8,7 +8,7 @@ use lib.Dec.{ltb}
 use lib.ListN.{length}
 use Rattle.model.specs.Interval.{C}
 use Rattle.placements.specs.Repeated.{repeated}
-use Rattle.refusal.specs.declared.Refusal.{Refusal}
+use Rattle.refusal.specs.Told.{Refusal}
 use Rattle.refusal.specs.Refusal.{none, when}
 use Rattle.refusal.proofs.Laws.{or_next, or_none}
 use Rattle.goals.specs.Goal.{strike}
@@ -18,13 +18,13 @@ use Rattle.line_calls.specs.Lines
 use Rattle.line_calls.specs.Goal as Goals
 use Rattle.line_calls.proofs.JobFile.{write_stopped}
 use Rattle.board.specs.declared.Board.{Board}
-use Rattle.board.specs.declared.Written.{Written}
+use Rattle.board.specs.Answers.{Written}
 use Rattle.board.specs.Board.{lines_of, quantities_of, state_refusal, answer}
 use Rattle.board.specs.Goal.{struck_board, goal_of}
 use Rattle.board.specs.JobFile.{read_of, write_of, write_buffer}
 use Rattle.board.proofs.Sets.{state-free}
 use Rattle.board.proofs.GoalRule.{struck-lines, struck_full, goal-rule}
-use Rattle.file_calls.specs.declared.Outcome.{Outcome}
+use Rattle.file_calls.specs.Outcomes.{Outcome}
 use Rattle.file_calls.specs.Goal.{file_outcome, goal_in, goal_file_in}
 use Rattle.board_laws.proofs.AsBoard.{of_answer, on_board, full}
 

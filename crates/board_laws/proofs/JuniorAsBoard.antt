@@ -5,11 +5,11 @@ use mathlib.Core.List.{List}
 use Rattle.refusal.specs.Refusal.{none}
 use Rattle.line_calls.specs.Junior as Lines
 use Rattle.board.specs.declared.Board.{Board}
-use Rattle.board.specs.declared.Junior.{Junior}
+use Rattle.board.specs.Answers.{Junior}
 use Rattle.board.specs.Board.{answer}
 use Rattle.board.specs.JobFile.{read_of}
 use Rattle.board.specs.Junior.{junior_of, junior_buffer}
-use Rattle.file_calls.specs.declared.Outcome.{Outcome}
+use Rattle.file_calls.specs.Outcomes.{Outcome}
 use Rattle.file_calls.specs.Junior.{junior_outcome, junior_in, junior_plan_in}
 use Rattle.board_laws.proofs.AsBoard.{on_board}
 

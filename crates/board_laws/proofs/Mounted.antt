@@ -10,7 +10,7 @@ use Rattle.model.specs.Choice.{Mounted, bare}
 use Rattle.model.specs.Interval.{C, table}
 use Rattle.placements.specs.Repeated.{repeated}
 use Rattle.placements.specs.Plans.{quick_plan_q, best_plan_q}
-use Rattle.refusal.specs.declared.Refusal.{Refusal}
+use Rattle.refusal.specs.Told.{Refusal}
 use Rattle.refusal.specs.Refusal.{lent_by}
 use Rattle.call_refusals.specs.declared.Stage.TheVariants.{Closed}
 use Rattle.call_refusals.specs.Calls.{is_outside, mounted_refusal, plan_refusal, best_refusal}

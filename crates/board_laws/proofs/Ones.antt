@@ -21,7 +21,7 @@ use Rattle.placements.specs.Keep.{prune_q}
 use Rattle.placements.proofs.Repeated.{length-repeated, repeated_ones}
 use Rattle.placements.proofs.Plans.{quick_repeated, quick_ones, best_ones}
 use Rattle.placements.proofs.Ones.{prune_ones}
-use Rattle.refusal.specs.declared.Refusal.{Refusal}
+use Rattle.refusal.specs.Told.{Refusal}
 use Rattle.refusal.specs.Refusal.{none, refuse, accepts, or_else, when, told, lent_by}
 use Rattle.refusal.proofs.Laws.{or_same}
 use Rattle.job.specs.Job.{file_length, line_number}
@@ -35,10 +35,10 @@ use Rattle.line_calls.specs.Lines
 use Rattle.line_calls.specs.Lines.{plan_answer}
 use Rattle.line_calls.proofs.KeepWithin.{not_negative}
 use Rattle.board.specs.declared.Board.{Board}
-use Rattle.board.specs.declared.Answer.{Answer}
-use Rattle.board.specs.declared.Common.{Common}
-use Rattle.board.specs.declared.Kept.{Kept}
-use Rattle.board.specs.declared.Written.{Written}
+use Rattle.board.specs.Answers.{Answer}
+use Rattle.board.specs.Answers.{Common}
+use Rattle.board.specs.Answers.{Kept}
+use Rattle.board.specs.Answers.{Written}
 use Rattle.board.specs.Board.{lines_of, quantities_of, state_refusal, answer, with_line, add_of}
 use Rattle.board.specs.Common.{common_of, keep_of}
 use Rattle.board.specs.Sharing.{shared, quick_of, quick_buffer, best_of, best_buffer, best_table}

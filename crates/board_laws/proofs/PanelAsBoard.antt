@@ -3,7 +3,7 @@ use Prim.Native.Nat.{ℕ}
 use mathlib.Core.Path.{◌≡◌, refl, sym, ap, ap₂, ◌∙◌}
 use mathlib.Core.List.{List, ◌++◌}
 use lib.ListN.{length}
-use Rattle.refusal.specs.declared.Refusal.{Refusal}
+use Rattle.refusal.specs.Told.{Refusal}
 use Rattle.refusal.specs.Refusal.{none}
 use Rattle.refusal.proofs.Laws.{refused, accepted}
 use Rattle.call_refusals.specs.declared.Stage.TheVariants.{Closed}
@@ -13,16 +13,16 @@ use Rattle.panel.specs.Panel
 use Rattle.panel.specs.Panel.{first_of}
 use Rattle.panel.proofs.Merged.{merge_whole}
 use Rattle.board.specs.declared.Board.{Board}
-use Rattle.board.specs.declared.Alone.{Alone}
-use Rattle.board.specs.declared.Merged.{Merged}
-use Rattle.board.specs.declared.Written.{Written}
+use Rattle.board.specs.Answers.{Alone}
+use Rattle.board.specs.Answers.{Merged}
+use Rattle.board.specs.Answers.{Written}
 use Rattle.board.specs.Board.{lines_of, quantities_of, state_refusal, answer, empty_board}
 use Rattle.board.specs.JobFile.{read_of, write_of, write_buffer}
 use Rattle.board.specs.Panel.{merge_refusal, panel_of, merged, merge_of, alone_of, alone_buffer}
 use Rattle.board.proofs.Sets.{Full}
 use Rattle.board.proofs.PanelRule.{merge_rule, merge_free, panel-state}
 use Rattle.job.specs.Job.{rack_in, sets_in, quantities_in, read_refusal}
-use Rattle.file_calls.specs.declared.Outcome.{Outcome}
+use Rattle.file_calls.specs.Outcomes.{Outcome}
 use Rattle.file_calls.specs.Panel.{file_outcome, merge_of_files, merge_file_in, alone_outcome, alone_in, alone_plan_in}
 use Rattle.board_laws.proofs.AsBoard.{on_board, full as full-of}
 

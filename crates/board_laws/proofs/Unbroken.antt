@@ -14,7 +14,7 @@ use Rattle.placements.specs.Repeated.{repeated}
 use Rattle.placements.specs.Plans.{best_plan_q}
 use Rattle.placements.specs.Good.{GoodLines}
 use Rattle.placements.proofs.Unbroken.{unbroken_placements}
-use Rattle.refusal.specs.declared.Refusal.{Refusal}
+use Rattle.refusal.specs.Told.{Refusal}
 use Rattle.refusal.specs.Refusal.{or_else, when, scan, lent_by}
 use Rattle.refusal.proofs.Laws.{or_same, scan_passes}
 use Rattle.call_refusals.specs.declared.Stage.TheVariants.{Closed}

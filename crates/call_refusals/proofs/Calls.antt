@@ -23,7 +23,7 @@ use Rattle.model.proofs.Tests.{le_or_lt}
 use Rattle.model.proofs.Lists.{all-at}
 use Rattle.model.proofs.Fails.{none_fails, fails_at, fails_first}
 use Rattle.model.proofs.Run.{run_misses, broken_misses}
-use Rattle.refusal.specs.declared.Refusal.{Refusal}
+use Rattle.refusal.specs.Told.{Refusal}
 use Rattle.refusal.specs.Refusal.{refuse, accepts, or_else, when}
 use Rattle.refusal.proofs.Laws.{or_first, or_next, or_none, when-none, scan-none, scan_passes, scan-at}
 use Rattle.job.specs.Job.{file_length, line_number}
@@ -208,3 +208,13 @@ run-told {m} {lines} narrow ds n =
 -- the places of a table are few
 pub square_most : {m : ℕ} → m ≤ most_tips → m * m ≤ most_tips * most_tips
 square_most h = mul-le-mul h h
+
+-- an earlier refusal stays
+module _ (earlier : Refusal) (n : earlier.number ≡ 0 → ⊥) where
+  pub plan_first : (count room : ℕ) → earlier ≡ plan_refusal earlier count room
+  unfolding plan_refusal
+  plan_first count room = or_first {d = earlier} refl _ n
+
+  pub best_first : (m : ℕ) (lines : List ℕ) (room places : ℕ) → earlier ≡ best_refusal earlier m lines room places
+  unfolding best_refusal
+  best_first m lines room places = or_first (plan_first (length lines) room) _ n

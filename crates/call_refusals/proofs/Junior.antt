@@ -1,12 +1,12 @@
 -- What is known where the Junior's tips are sought, and each refusal before.
 use Prim.Native.Nat.{ℕ, ◌≤◌, ◌<◌}
-use mathlib.Core.Path.{◌≡◌}
+use mathlib.Core.Path.{◌≡◌, refl}
 use native.Mathlib.Omega.{arith}
 use lib.Dec.{ltb}
 use borrow.Author.Tests.{eq-eqb, lt-ltb, le-ltb, ltb-false}
-use Rattle.refusal.specs.declared.Refusal.{Refusal}
+use Rattle.refusal.specs.Told.{Refusal}
 use Rattle.refusal.specs.Refusal.{refuse, or_else, when}
-use Rattle.refusal.proofs.Laws.{or_none, when-none}
+use Rattle.refusal.proofs.Laws.{or_first, or_none, when-none}
 use Rattle.call_refusals.specs.Junior.{junior_lines, junior_tips, junior_refusal}
 
 module _ (earlier : Refusal) (m n room : ℕ) where
@@ -34,3 +34,8 @@ module _ (earlier : Refusal) (m n room : ℕ) where
       pub junior_short : m ≤ junior_tips → when (ltb room n) 4 ≡ junior_refusal earlier m n room
       unfolding junior_refusal or_else
       junior_short h = rw (eq-eqb earlier.number 0 z, le-ltb junior_lines n few, le-ltb junior_tips m h)
+
+-- an earlier refusal stays
+pub junior_first : (earlier : Refusal) → (earlier.number ≡ 0 → ⊥) → (m n room : ℕ) → earlier ≡ junior_refusal earlier m n room
+unfolding junior_refusal
+junior_first earlier f m n room = or_first {d = earlier} refl _ f

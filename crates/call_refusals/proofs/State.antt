@@ -6,7 +6,7 @@ use native.Mathlib.Omega.{arith}
 use lib.Dec.{T}
 use lib.ListN.{length}
 use Rattle.model.specs.Limits.{most_lines}
-use Rattle.refusal.specs.declared.Refusal.{Refusal}
+use Rattle.refusal.specs.Told.{Refusal}
 use Rattle.refusal.specs.Refusal.{none, or_else, Given}
 use Rattle.refusal.proofs.Laws.{number_of, or_none}
 use Rattle.sound.specs.Sound.{sound_board, sound_refusal}

@@ -3,7 +3,7 @@ use Rattle.std.specs.Prelude.{ℕ, ◌+◌, ◌*◌, Bool, true, false, cond, Li
 use Rattle.model.specs.Limits.{most_lines, most_placements}
 use Rattle.model.specs.Choice.{Mounted, bare, tip}
 use Rattle.model.specs.Interval.{named, is_run_of}
-use Rattle.refusal.specs.declared.Refusal.{Refusal}
+use Rattle.refusal.specs.Told.{Refusal}
 use Rattle.refusal.specs.Refusal.{refuse, or_else, when, scan}
 use Rattle.job.specs.Job.{file_length, line_number}
 

@@ -1,6 +1,6 @@
 -- What the Junior asks after an earlier refusal, before its tips are sought.
 use Rattle.std.specs.Prelude.{ℕ, ltb}
-use Rattle.refusal.specs.declared.Refusal.{Refusal}
+use Rattle.refusal.specs.Told.{Refusal}
 use Rattle.refusal.specs.Refusal.{or_else, when}
 
 -- the most lines that the Junior plans

@@ -1,6 +1,6 @@
 -- The refusals because of a board's state, which every call on a board asks first.
 use Rattle.std.specs.Prelude.{ℕ, List}
-use Rattle.refusal.specs.declared.Refusal.{Refusal}
+use Rattle.refusal.specs.Told.{Refusal}
 use Rattle.refusal.specs.Refusal.{none, refuse, or_else}
 use Rattle.sound.specs.Sound.{sound_refusal}
 use Rattle.call_refusals.specs.declared.Stage.{Stage}

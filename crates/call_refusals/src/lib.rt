@@ -1,39 +1,36 @@
-// The refusals of the calls: the board's state in one decision, and for each call one that goes on from an earlier refusal.
+// The refusals of the calls: the board's state in one decision, and for each call what it asks after that.
 #![tactic(auto)]
 
-ghost use Rattle.std.specs.Prelude.{◌≡◌, ◌≤◌, length, take};
+ghost use Rattle.std.specs.Prelude.{◌≡◌, ◌≤◌, length};
 ghost use Rattle.model.specs.Limits.{most_tips, most_lines, most_placements};
 ghost use Rattle.placements.specs.Repeated.{total};
-ghost use Rattle.call_refusals.specs.State.{stage_refusal, state_refusal};
 ghost use Rattle.head.specs.OnHead.{on_head};
-ghost use Rattle.call_refusals.specs.Calls.{is_outside, add_refusal, keep_refusal, mounted_refusal};
+ghost use Rattle.refusal.specs.Refusal.{none};
+ghost use Rattle.refusal.specs.Reasons.{refusal_of, unkept_of, margin_in};
+ghost use Rattle.call_refusals.specs.State.{stage_refusal, state_refusal};
+ghost use Rattle.call_refusals.specs.Calls.{add_refusal, keep_refusal, mounted_refusal};
 ghost use Rattle.call_refusals.specs.Calls.{plan_refusal, run_refusal, best_refusal, write_refusal};
 
-use head::Mounted;
-use refusal::Refusal;
+use refusal::{Reason, Refused, Unkept};
 
 mod junior_call;
 
 pub use junior_call::junior_refusal;
 
-#[derive(Clone, Copy)]
+#[derive(Clone, Copy, Debug, PartialEq, Eq)]
 pub enum Stage {
     Open,
     Closed,
 }
 
-fn stage_refusal(asked: Stage, stage: Stage) -> Refusal
-    ensures { result ≡ stage_refusal asked stage }
+#[tactic(auto, unfolding(crate::specs::State::stage_refusal))]
+fn stage_refusal(asked: Stage, stage: Stage) -> Result<(), Refused>
+    ensures { refusal_of result ≡ stage_refusal asked stage }
 {
-    match asked {
-        Stage::Open => match stage {
-            Stage::Open => refusal::refuse(0),
-            Stage::Closed => refusal::refuse(22),
-        },
-        Stage::Closed => match stage {
-            Stage::Open => refusal::refuse(23),
-            Stage::Closed => refusal::refuse(0),
-        },
+    match (asked, stage) {
+        (Stage::Open, Stage::Closed) => Err(Reason::BoardClosed.at(0)),
+        (Stage::Closed, Stage::Open) => Err(Reason::BoardOpen.at(0)),
+        _ => Ok(()),
     }
 }
 
@@ -44,123 +41,83 @@ pub fn state_refusal<'a>(
     count: usize,
     sets: &'a [u64],
     quantities: &'a [u8],
-) -> Refusal
+) -> Result<(), Refused>
     requires sets_len { length sets.now ≡ most_lines }
     requires quantities_len { length quantities.now ≡ most_lines }
-    ensures { result ≡ state_refusal asked rack stage count quantities.now sets.now }
+    ensures { refusal_of result ≡ state_refusal asked rack stage count quantities.now sets.now }
 {
-    let unsound = sound::sound_refusal(rack, count, sets, quantities);
-    if unsound.number != 0 {
-        return unsound;
-    }
+    sound::sound_refusal(rack, count, sets, quantities)?;
     stage_refusal(asked, stage)
 }
 
-// The lines' quantities are the first `count`; their total is worked out last, where nothing else is refused.
-pub fn add_refusal(
-    earlier: Refusal,
-    rack: usize,
-    count: usize,
-    quantities: &[u8],
-    set: u64,
-    quantity: u8,
-) -> Refusal
-    requires { earlier.number ≡ 0 → (count ≤ length quantities.now) × (total (take count quantities.now) ≤ most_placements) }
-    ensures { result ≡ add_refusal earlier rack count (total (take count quantities.now)) set quantity }
+// A line more behind those of these quantities; their total is worked out last, where nothing else is refused.
+pub fn add_refusal(rack: usize, quantities: &[u8], set: u64, quantity: u8) -> Result<(), Refused>
+    requires { total quantities.now ≤ most_placements }
+    ensures { refusal_of result
+        ≡ add_refusal none rack (length quantities.now) (total quantities.now) set quantity }
 {
-    if earlier.number != 0 {
-        return earlier;
+    if quantities.len() == model::MOST_LINES {
+        return Err(Reason::TooManyLines.at(0));
     }
-    if count == model::MOST_LINES {
-        return refusal::refuse(24);
-    }
-    let number = job::line_number(rack, set, quantity);
-    if number != 0 {
-        return refusal::refuse(number);
-    }
-    let placements = placements::total(&quantities[..count]);
-    refusal::refuse_when(model::MOST_PLACEMENTS < placements + quantity as usize, 30)
+    job::check_line(rack, set, quantity)?;
+    let placements = placements::total(quantities) + usize::from(quantity);
+    refusal::refuse_when(
+        model::MOST_PLACEMENTS < placements,
+        Reason::TooManyPlacements,
+    )
 }
 
-pub fn keep_refusal(earlier: Refusal, margin: i32) -> Refusal
-    ensures { result ≡ keep_refusal earlier margin }
+// The margin, where it is not below zero; the refusal tells it too.
+pub fn keep_refusal(margin: i32) -> Result<i32, Unkept>
+    ensures refusal { unkept_of result ≡ keep_refusal none margin }
+    ensures margin { margin_in result ≡ margin }
 {
-    if earlier.number != 0 {
-        return earlier;
+    if margin < 0 {
+        return Err(Unkept {
+            refused: Reason::NoPlan.at(0),
+            margin,
+        });
     }
-    refusal::refuse_when(margin < 0, 26)
-}
-
-fn is_outside(rack: usize, mounted: Mounted) -> bool
-    ensures { result ≡ is_outside rack (on_head mounted) }
-{
-    match mounted {
-        Mounted::Nothing => false,
-        Mounted::Tip(tip) => rack <= tip,
-    }
+    Ok(margin)
 }
 
 // Quick and best ask this before the rest: a mounted tip outside the rack.
-pub fn mounted_refusal(earlier: Refusal, rack: usize, mounted: Mounted) -> Refusal
-    ensures { result ≡ mounted_refusal earlier rack (on_head mounted) }
+pub fn mounted_refusal(rack: usize, mounted: Option<usize>) -> Result<(), Refused>
+    ensures { refusal_of result ≡ mounted_refusal none rack (on_head mounted) }
 {
-    if earlier.number != 0 {
-        return earlier;
+    match mounted {
+        Some(tip) => refusal::refuse_when(rack <= tip, Reason::MountedOutside),
+        None => Ok(()),
     }
-    if is_outside(rack, mounted) {
-        return refusal::refuse(16);
-    }
-    earlier
 }
 
 // A plan buffer of `room` bytes that is shorter than the lines.
-pub fn plan_refusal(earlier: Refusal, count: usize, room: usize) -> Refusal
-    ensures { result ≡ plan_refusal earlier count room }
+pub fn plan_refusal(count: usize, room: usize) -> Result<(), Refused>
+    ensures { refusal_of result ≡ plan_refusal none count room }
 {
-    if earlier.number != 0 {
-        return earlier;
-    }
-    refusal::refuse_when(room < count, 4)
+    refusal::refuse_when(room < count, Reason::ShortPlan)
 }
 
 // The first line that misses a named tip.
-pub fn run_refusal(lines: &[u64]) -> Refusal
-    ensures { result ≡ run_refusal lines.now }
+pub fn run_refusal(lines: &[u64]) -> Result<(), Refused>
+    ensures { refusal_of result ≡ run_refusal lines.now }
 {
-    refusal::refuse_at(25, ranks::first_not_run(lines), lines.len())
+    refusal::refuse_at(ranks::first_not_run(lines), Reason::NoRun)
 }
 
-// The lines are the first `count` sets.
-pub fn best_refusal(
-    earlier: Refusal,
-    rack: usize,
-    count: usize,
-    sets: &[u64],
-    room: usize,
-    places: usize,
-) -> Refusal
-    requires { earlier.number ≡ 0 → (rack ≤ most_tips) × (count ≤ length sets.now) }
-    ensures { result ≡ best_refusal earlier rack (take count sets.now) room places }
+pub fn best_refusal(rack: usize, lines: &[u64], room: usize, places: usize) -> Result<(), Refused>
+    requires { rack ≤ most_tips }
+    ensures { refusal_of result ≡ best_refusal none rack lines.now room places }
 {
-    if earlier.number != 0 {
-        return earlier;
-    }
-    if room < count {
-        return refusal::refuse(4);
-    }
-    if places < rack * rack {
-        return refusal::refuse(5);
-    }
-    run_refusal(&sets[..count])
+    plan_refusal(lines.len(), room)?;
+    refusal::refuse_when(places < rack * rack, Reason::ShortTable)?;
+    run_refusal(lines)
 }
 
 // An output of `room` bytes that is shorter than the file of the lines in that version.
-pub fn write_refusal(earlier: Refusal, version: u64, count: usize, room: usize) -> Refusal
-    requires { earlier.number ≡ 0 → count ≤ most_lines }
-    ensures { result ≡ write_refusal earlier version count room }
+pub fn write_refusal(version: u64, count: usize, room: usize) -> Result<(), Refused>
+    requires { count ≤ most_lines }
+    ensures { refusal_of result ≡ write_refusal none version count room }
 {
-    if earlier.number != 0 {
-        return earlier;
-    }
-    refusal::refuse_when(room < job::file_length(version, count), 11)
+    refusal::refuse_when(room < job::file_length(version, count), Reason::ShortOutput)
 }

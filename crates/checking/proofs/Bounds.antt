@@ -1,12 +1,15 @@
 -- What the loops find is what the definitions say: the bounds of the table by the sums of the placements.
 use Rattle.std.proofs.Common.{◌≡◌, ℕ, zero, suc, ◌+◌, ◌-◌, ◌*◌, ◌<◌, ◌≤◌, Bool, true, false, not, ◌&&◌}
 use Rattle.std.proofs.Common.{◌||◌, T, eqb, List, length, get_or, ap, ◌∙◌, mul-le-mul_right, add-one, arith, le→leb, eqb→eq, leb→le}
+use Rattle.std.proofs.Common.{refl, sym}
+use Rattle.std.specs.List.{list_all, range_with_len}
 use lib.Dec.{not_T}
 use Rattle.model.specs.Limits.{most_placements}
 use Rattle.model.specs.Count.{All, every}
 use Rattle.model.specs.Plan.{has, choose2}
 use Rattle.model.specs.Interval.{Line, named, Dominates, inside}
 use Rattle.model.proofs.Tests.{false_T, every_iff, imply_in, imply_out, same_test, and_left, and_right, and_in, eqb_T}
+use Rattle.model.proofs.Cong.{every_cong}
 use Rattle.model.proofs.Names.{names-named}
 use Rattle.model.proofs.Run.{named-lines}
 use Rattle.placements.specs.Repeated.{repeated}
@@ -23,6 +26,37 @@ use Rattle.checking.proofs.Filled.{inside_by_ok}
 pub every_more : (f : ℕ → Bool) (n : ℕ) → every f n ≡ true → f n ≡ true → every f (n + 1) ≡ true
 unfolding every
 every_more f n h g = rw (add-one, h, g)
+
+-- the first number apart
+pub every_first : (f : ℕ → Bool) (n : ℕ) → every f (suc n) ≡ (f 0 && every (λ j. f (suc j)) n)
+unfolding every
+every_first f zero = and-true (f 0)
+  where
+    and-true : (b : Bool) → b ≡ (b && true)
+    and-true true = refl
+    and-true false = refl
+every_first f (suc n) = ap (λ b. b && f (suc n)) (every_first f n) ∙ and_assoc (f 0) _ _
+  where
+    and_assoc : (a b c : Bool) → ((a && b) && c) ≡ (a && (b && c))
+    and_assoc true b c = refl
+    and_assoc false b c = refl
+
+-- the test of each number of a range
+listed_from : (f : ℕ → Bool) (a n : ℕ) → list_all f (range_with_len a n) ≡ every (λ j. f (a + j)) n
+unfolding every
+listed_from f a zero = refl
+listed_from f a (suc n) = ap (λ b. f a && b) (listed_from f (a + 1) n) ∙ same ∙ sym (every_first (λ j. f (a + j)) n)
+  where
+    next : (j : ℕ) → f (a + 1 + j) ≡ f (a + suc j)
+    next j = let e : a + 1 + j ≡ a + suc j = omega arith in ap f e
+
+    same : (f a && every (λ j. f (a + 1 + j)) n) ≡ (f (a + 0) && every (λ j. f (a + suc j)) n)
+    same =
+        let e : a + 0 ≡ a = omega arith in
+        rw (e, every_cong _ (λ j. f (a + suc j)) n (λ j _. next j))
+
+pub every_listed : (f : ℕ → Bool) (n : ℕ) → list_all f (range_with_len 0 n) ≡ every f n
+every_listed f n = listed_from f 0 n ∙ every_cong _ f n (λ j _. let e : 0 + j ≡ j = omega arith in ap f e)
 
 -- and counted: no number before fails, and this one does not
 pub every_next : (f : ℕ → Bool) (n : ℕ) (k r : ℕ) → eqb k 0 ≡ every f n → eqb r 0 ≡ f n → eqb (k + r) 0 ≡ every f (n + 1)

@@ -1,6 +1,6 @@
 -- The pass over a plan: lines on tips of their own, and their placements, which join those on their tips.
 use Rattle.std.proofs.Common.{◌≡◌, ℕ, zero, suc, ◌+◌, ◌*◌, ◌<◌, ◌≤◌, true, false, cond, not, ◌&&◌, T, eqb, ◌≢◌, ◌⊎◌, List, [], ◌∷◌}
-use Rattle.std.proofs.Common.{length, get_or, take, drop, set, replicate, refl, ◌∙◌, inl, inr, add-one, arith, eqb→eq, T_not}
+use Rattle.std.proofs.Common.{length, get_or, take, drop, set, replicate, refl, ap, ◌-◌, ◌∙◌, inl, inr, add-one, arith, eqb→eq, T_not}
 use Rattle.std.proofs.Common.{length-set, drop_of_length-le, length-take, take_all, drop-cons, get_or-set_other, get_or-set_same}
 use lib.Dec.{eqb_refl}
 use Rattle.model.specs.Limits.{most_tips, most_placements, most_pairs}
@@ -10,7 +10,7 @@ use Rattle.model.proofs.Tests.{test, true_T, false_T}
 use Rattle.model.proofs.Lists.{count_le}
 use Rattle.model.proofs.ListOf.{length-list_of, list_of-at, list_is}
 use Rattle.model.proofs.Mix.{Mix, count_mix}
-use Rattle.model.proofs.Pairs.{shared, choose2_square, pairs_mix, pairs_taken}
+use Rattle.model.proofs.Pairs.{choose2_mono, shared, choose2_square, pairs_mix, pairs_taken}
 use Rattle.model.proofs.Limits.{pairs_few}
 use Rattle.placements.specs.Repeated.{total, repeated}
 use Rattle.placements.proofs.Repeated.{length-repeated}
@@ -104,6 +104,14 @@ pub on_at : (ys : List ℕ) (t : ℕ) → t < most_tips → get_or (on_tips ys) 
 unfolding on_tips
 on_at ys t l = list_of-at (uses ys) most_tips t l
 
+-- WHAT A TURN FINDS at line i: the placements on its tip are few with its own, and the pairs grow by those that join them
+pub record Joined (qs plan : List ℕ) (i : ℕ) (on : List ℕ) (shared tip q : ℕ) : Type 0 where
+  pub few : get_or on tip 0 + q ≤ most_placements
+  pub mono : choose2 (get_or on tip 0) ≤ choose2 (get_or on tip 0 + q)
+  pub grown : shared + (choose2 (get_or on tip 0 + q) - choose2 (get_or on tip 0)) ≡ pairs (placed qs plan (i + 1))
+  pub small : pairs (placed qs plan (i + 1)) ≤ most_pairs
+  pub counted : set on tip (get_or on tip 0 + q) ≡ on_tips (placed qs plan (i + 1))
+
 module _ (qs plan : List ℕ) (same : length qs ≡ length plan) (few : total qs ≤ most_placements) where
   placed_few : (i : ℕ) → length (placed qs plan i) ≤ most_placements
   placed_few i =
@@ -134,6 +142,20 @@ module _ (qs plan : List ℕ) (same : length qs ≡ length plan) (few : total qs
 
     pub pairs-more : pairs (placed qs plan (i + 1)) + choose2 there ≡ pairs (placed qs plan i) + choose2 (there + get_or qs i 0)
     pairs-more = pairs_join (get_or qs i 0) (get_or plan i 0) joins
+
+  pub joined : {i : ℕ} {on : List ℕ} {shared tip q : ℕ} → i < length plan → tip ≡ get_or plan i 0 → q ≡ get_or qs i 0 → tip < most_tips
+      → on ≡ on_tips (placed qs plan i) → shared ≡ pairs (placed qs plan i) → Joined qs plan i on shared tip q
+  joined {i} {on} {shared} {tip} {q} l is_tip is_q narrow counted paired =
+      let held : get_or on tip 0 ≡ there i l
+      = rw (counted, is_tip) (on_at (placed qs plan i) (get_or plan i 0) (omega (arith, is_tip))) in
+      let mono : choose2 (get_or on tip 0) ≤ choose2 (get_or on tip 0 + q) = choose2_mono (omega arith) in
+      record {
+        few = omega (arith, held, few_on i l, is_q);
+        mono = mono;
+        grown = omega (arith, mono, paired, pairs-more i l, ap choose2 held, ap (λ p. choose2 (p + q)) held, ap (λ p. choose2 (there i l + p)) is_q);
+        small = placed-pairs (i + 1);
+        counted = rw (held, is_q, is_tip, counted) (on_more i l (omega (arith, is_tip)));
+      }
 
   pub placed-all : (i : ℕ) → length plan ≤ i → placed qs plan i ≡ repeated qs plan
   placed-all i h = rw (take_all i qs (omega arith), take_all i plan h)

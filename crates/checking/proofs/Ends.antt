@@ -1,29 +1,15 @@
 -- The intervals with one first tip and one tip to split at: the one that ends there, and the others from parts of the sums and of the table.
-use Rattle.std.proofs.Common.{◌≡◌, ℕ, zero, suc, ◌+◌, ◌-◌, ◌*◌, ◌%◌, ◌^◌, ◌<◌, ◌≤◌, Bool, true, false}
-use Rattle.std.proofs.Common.{◌&&◌, leb, List, length, get_or, sym, refl, ap, ◌∙◌, add-zero, mul-le-mul_right, mul-le-mul, arith, le-leb}
+use Rattle.std.proofs.Common.{◌≡◌, ℕ, suc, ◌+◌, ◌-◌, ◌*◌, ◌%◌, ◌^◌, ◌<◌, ◌≤◌, Bool, true, false}
+use Rattle.std.proofs.Common.{leb, List, length, get_or, sym, refl, ap, ◌∙◌, add-zero, mul-le-mul_right, arith, le-leb}
 use borrow.Author.Tests.{lt-leb}
-use Rattle.model.specs.Limits.{most_tips}
 use Rattle.model.specs.Count.{every}
 use Rattle.model.specs.Plan.{choose2}
 use Rattle.model.proofs.Loops.{part, part_length, part_at}
 use Rattle.model.proofs.Cong.{every_cong}
-use Rattle.spans.specs.Spans.{sums_size, sum_at, inside_by}
+use Rattle.spans.specs.Spans.{sum_at, inside_by}
 use Rattle.goals.specs.Check.{entry}
 use Rattle.checking.specs.Checking.{end_by, ends_by, ends_at, EndLists, Ready}
-use Rattle.checking.proofs.Bounds.{every_stop, entry_some}
-
-every_first : (f : ℕ → Bool) (n : ℕ) → every f (suc n) ≡ (f 0 && every (λ j. f (suc j)) n)
-unfolding every
-every_first f zero = and-true (f 0)
-  where
-    and-true : (b : Bool) → b ≡ (b && true)
-    and-true true = refl
-    and-true false = refl
-every_first f (suc n) = ap (λ b. b && f (suc n)) (every_first f n) ∙ and_assoc (f 0) _ _
-  where
-    and_assoc : (a b c : Bool) → ((a && b) && c) ≡ (a && (b && c))
-    and_assoc true b c = refl
-    and_assoc false b c = refl
+use Rattle.checking.proofs.Bounds.{every_stop, every_first, entry_some}
 
 -- a difference that may be below zero, added
 shifted : (n s o h : ℕ) → (s + o) % 2 ^ 32 ≡ h → s < 2 ^ 32 → o ≤ n + h → n + h ≤ 4096 → (n + s) % 2 ^ 32 ≡ n + h - o
@@ -58,19 +44,16 @@ module _ {m : ℕ} {xs tab : List ℕ} (r : Ready m xs tab) (a c : ℕ) (from : 
       rw (e, every_first fits (m - (c + 1)), h)
 
   module _ (more : c + 1 < m) where
-    -- the rows of tip a and of the tip after c are in the sums and in the table, which are not large
+    -- the rows of tip a and of the tip after c are in the sums and in the table
     pub record Rows : Type 0 where
-      pub first-sums : a * (m + 1) + (m + 1) ≤ length xs
-      pub next_sums : (c + 1) * (m + 1) + (m + 1) ≤ length xs
-      pub few_sums : length xs ≤ sums_size most_tips
-      pub first-row : a * m + m ≤ m * m
-      pub next_row : (c + 1) * m + m ≤ m * m
-      pub few_entries : m * m ≤ most_tips * most_tips
+      pub first-sums : (a + 1) * (m + 1) ≤ length xs
+      pub next_sums : (c + 1 + 1) * (m + 1) ≤ length xs
+      pub first-row : (a + 1) * m ≤ length tab
+      pub next_row : (c + 1 + 1) * m ≤ length tab
 
     pub rows : Rows
     rows =
         let size = (r.summed a (c + 1 - a) c (omega arith) from (omega arith)).size in
-        let w : m + 1 ≤ most_tips + 1 = omega (arith, r.rack) in
         let f : suc a ≤ m + 1 = omega arith in
         let n : suc (c + 1) ≤ m + 1 = omega arith in
         let g : suc a ≤ m = omega arith in
@@ -78,26 +61,42 @@ module _ {m : ℕ} {xs tab : List ℕ} (r : Ready m xs tab) (a c : ℕ) (from : 
         record {
           first-sums = omega (arith, size, mul-le-mul_right (m + 1) f);
           next_sums = omega (arith, size, mul-le-mul_right (m + 1) n);
-          few_sums = omega (arith, size, mul-le-mul w w);
-          first-row = omega (arith, mul-le-mul_right m g);
-          next_row = omega (arith, mul-le-mul_right m k);
-          few_entries = mul-le-mul r.rack r.rack;
+          first-row = omega (arith, r.size, mul-le-mul_right m g);
+          next_row = omega (arith, r.size, mul-le-mul_right m k);
         }
 
+    -- the sums of one tip, and what is read there
+    abbrev pub row : ℕ → List ℕ
+    row i = part (i * (m + 1)) ((i + 1) * (m + 1)) xs
+
+    row_length : (i : ℕ) → (i + 1) * (m + 1) ≤ length xs → length (row i) ≡ m + 1
+    row_length i h = part_length xs (i * (m + 1)) ((i + 1) * (m + 1)) h ∙ omega arith
+
+    pub row_at : (i y : ℕ) → y < m + 1 → get_or (row i) y 0 ≡ sum_at m xs i y
+    row_at i y h = part_at xs (i * (m + 1)) ((i + 1) * (m + 1)) y _ (omega arith) refl
+
+    end_at : (i j : ℕ) → (i + 1) * (m + 1) ≤ length xs → c + 1 + 1 + j < m + 1
+        → get_or (part (c + 1 + 1) (length (row i)) (row i)) j 0 ≡ sum_at m xs i (c + 1 + 1 + j)
+    end_at i j h k =
+        part_at (row i) (c + 1 + 1) (length (row i)) j (c + 1 + 1 + j) (omega (arith, row_length i h)) refl ∙ row_at i (c + 1 + 1 + j) k
+
     abbrev nexts : List ℕ
-    nexts = part ((c + 1) * (m + 1) + (c + 1 + 1)) ((c + 1) * (m + 1) + (m + 1)) xs
+    nexts = part (c + 1 + 1) (length (row (c + 1))) (row (c + 1))
 
     abbrev firsts : List ℕ
-    firsts = part (a * (m + 1) + (c + 1 + 1)) (a * (m + 1) + (m + 1)) xs
+    firsts = part (c + 1 + 1) (length (row a)) (row a)
 
     abbrev rights : List ℕ
-    rights = part ((c + 1) * m + (c + 1)) ((c + 1) * m + m) tab
+    rights = part ((c + 1) * m + (c + 1)) ((c + 1 + 1) * m) tab
 
     abbrev mosts : List ℕ
-    mosts = part (a * m + (c + 1)) (a * m + m) tab
+    mosts = part (a * m + (c + 1)) ((a + 1) * m) tab
 
     mosts-length : length mosts ≡ m - (c + 1)
-    mosts-length = part_length tab (a * m + (c + 1)) (a * m + m) (omega (arith, rows, r.size)) ∙ omega arith
+    mosts-length = part_length tab (a * m + (c + 1)) ((a + 1) * m) (omega (arith, rows)) ∙ omega arith
+
+    ends-length : (i : ℕ) → (i + 1) * (m + 1) ≤ length xs → length (part (c + 1 + 1) (length (row i)) (row i)) ≡ length mosts
+    ends-length i h = part_length (row i) (c + 1 + 1) (length (row i)) (omega arith) ∙ omega (arith, row_length i h, mosts-length)
 
     module _ {shift : ℕ} (small : shift < 2 ^ 32) (shifts : (shift + sum_at m xs (c + 1) c) % 2 ^ 32 ≡ sum_at m xs a c) where
       -- the numbers of the interval that ends at c + suc j
@@ -112,23 +111,24 @@ module _ {m : ℕ} {xs tab : List ℕ} (r : Ready m xs tab) (a c : ℕ) (from : 
       numbers j h =
           let w = c + suc j + 1 - a in
           let s = r.summed a w c (omega arith) from (omega arith) in
-          let n : get_or nexts j 0 ≡ sum_at m xs (c + 1) (a + w) = part_at xs _ ((c + 1) * (m + 1) + (m + 1)) j _ (omega arith) (omega arith) in
-          let f : get_or firsts j 0 ≡ sum_at m xs a (a + w) = part_at xs _ (a * (m + 1) + (m + 1)) j _ (omega arith) (omega arith) in
+          let n : get_or nexts j 0 ≡ sum_at m xs (c + 1) (a + w)
+          = end_at (c + 1) j rows.next_sums (omega arith) ∙ ap (sum_at m xs (c + 1)) (omega arith) in
+          let f : get_or firsts j 0 ≡ sum_at m xs a (a + w) = end_at a j rows.first-sums (omega arith) ∙ ap (sum_at m xs a) (omega arith) in
           let e = shifted (get_or nexts j 0) shift (sum_at m xs (c + 1) c) (sum_at m xs a c) shifts small
           (omega (arith, n, s.covers)) (omega (arith, n, s.small)) in
           record {
             covers = omega (arith, e, n, f, s.covers);
             own = omega (arith, e, n, f);
-            right = part_at tab _ ((c + 1) * m + m) j _ (omega arith) (omega arith) ∙ sym (entry_some m tab (c + 1) (c + suc j - c) (omega arith));
-            most = part_at tab _ (a * m + m) j _ (omega arith) (omega arith) ∙ sym (entry_some m tab a w (omega arith));
+            right = part_at tab _ ((c + 1 + 1) * m) j _ (omega arith) (omega arith) ∙ sym (entry_some m tab (c + 1) (c + suc j - c) (omega arith));
+            most = part_at tab _ ((a + 1) * m) j _ (omega arith) (omega arith) ∙ sym (entry_some m tab a w (omega arith));
           }
 
       module _ {left : ℕ} (is_left : left ≡ entry m tab a (c - a)) (narrow : left < 2 ^ 32) where
         pub end_lists : EndLists left shift nexts firsts rights mosts
         end_lists = record {
-          as_nexts = part_length xs _ ((c + 1) * (m + 1) + (m + 1)) rows.next_sums ∙ omega (arith, mosts-length);
-          as_firsts = part_length xs _ (a * (m + 1) + (m + 1)) rows.first-sums ∙ omega (arith, mosts-length);
-          as_rights = part_length tab _ ((c + 1) * m + m) (omega (arith, rows, r.size)) ∙ omega (arith, mosts-length);
+          as_nexts = ends-length (c + 1) rows.next_sums;
+          as_firsts = ends-length a rows.first-sums;
+          as_rights = part_length tab _ ((c + 1 + 1) * m) (omega (arith, rows)) ∙ omega (arith, mosts-length);
           entry_left = narrow;
           covers = λ j h. (numbers j (omega (arith, mosts-length))).covers;
           few = λ j h.

@@ -7,7 +7,7 @@ use Rattle.model.specs.Interval.{named, is_run_of}
 use Rattle.model.specs.Renumber.{names as names_of}
 use Rattle.placements.specs.Repeated.{repeated}
 use Rattle.placements.specs.Good.{GoodLines}
-use Rattle.refusal.specs.declared.Refusal.{Refusal}
+use Rattle.refusal.specs.Told.{Refusal}
 use Rattle.refusal.specs.Refusal.{or_else, when}
 use Rattle.spans.specs.Spans.{inside_by, Summed}
 use Rattle.goals.specs.Check.{is_valid, entry, bounds}

@@ -9,38 +9,24 @@ ghost use Rattle.model.specs.Limits.{most_tips};
 ghost use Rattle.spans.specs.Spans.{sums_size};
 ghost use Rattle.pair_count.specs.PairTable.{PairTable};
 ghost use Rattle.goals.specs.Check.{entry};
-ghost use Rattle.checking.specs.Checking.{table_ok, check_refusal, NamedRuns};
+ghost use Rattle.refusal.specs.Reasons.{refusal_of};
+ghost use Rattle.checking.specs.Checking.{check_refusal, NamedRuns};
 
-use refusal::Refusal;
+use refusal::{Reason, Refused};
+use tabled::Foreign;
 
 // The table's entry for the interval of first tip a and width w; 0 for one of no tip.
 pub fn entry_at(m: usize, a: usize, w: usize, table: &[u32]) -> u64
-    requires { (m ≤ most_tips) × (m * m ≤ length table.now) × (a + w ≤ m) }
-    ensures { (result ≡ entry m table.now a w) × (result < 2 ^ 32) }
+    requires rack { m ≤ most_tips }
+    requires size { m * m ≤ length table.now }
+    requires inside { a + w ≤ m }
+    ensures entry { result ≡ entry m table.now a w }
+    ensures narrow { result < 2 ^ 32 }
 {
     if w == 0 {
         return 0;
     }
-    table[a * m + (a + (w - 1))] as u64
-}
-
-// The table passes by the sums of the placements, which are made in a place that is lent.
-fn sums_fit(
-    names: u64,
-    m: usize,
-    lines: &[u64],
-    quantities: &[u8],
-    claim: u32,
-    pairs: &[u32],
-    table: &[u32],
-    sums: &mut [u32],
-) -> bool
-    requires { NamedRuns names m quantities.now lines.now × (m * m ≤ length table.now) × PairTable pairs.now
-        × (length sums.old ≡ sums_size m) }
-    ensures { result ≡ table_ok m quantities.now lines.now claim table.now }
-{
-    spans::sum_spans(m, lines, quantities, sums);
-    tabled::table_fits(names, m, claim, pairs, sums, table)
+    u64::from(table[a * m + (a + (w - 1))])
 }
 
 // 19, 20 or 33, or nothing where all is accepted. `names` is the set of the tips that the lines name.
@@ -52,26 +38,20 @@ pub fn check_plan(
     plan: &[u8],
     claim: u32,
     table: &[u32],
-) -> Refusal
+) -> Result<(), Refused>
     requires { NamedRuns names m quantities.now lines.now × (length plan.now ≡ length lines.now) × (m * m ≤ length table.now) }
-    ensures { result ≡ check_refusal m quantities.now lines.now plan.now claim table.now }
+    ensures { refusal_of result ≡ check_refusal m quantities.now lines.now plan.now claim table.now }
 {
     let pairs = pair_count::pair_table();
-    let refusal = claimed::claim_refusal(&pairs, lines, quantities, plan, claim);
-    if refusal.number != 0 {
-        return refusal;
-    }
-    let mut sums = spans::most_sums();
-    let size = spans::sums_size(m);
-    let fits = sums_fit(
-        names,
+    claimed::claim_refusal(&pairs, lines, quantities, plan, claim)?;
+    let mut room = spans::most_sums();
+    let sums = &mut room[..spans::sums_size(m)];
+    spans::sum_spans(m, lines, quantities, sums);
+    let foreign = Foreign {
         m,
-        lines,
-        quantities,
-        claim,
-        &pairs,
+        pairs: &pairs,
+        sums,
         table,
-        &mut sums[..size],
-    );
-    refusal::refuse_when(!fits, 33)
+    };
+    refusal::refuse_when(!foreign.fits(names, claim), Reason::WrongTable)
 }

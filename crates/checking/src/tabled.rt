@@ -1,121 +1,102 @@
 // A table from other software: its entry for the rack, and each entry at least each of its splits at a named tip.
-ghost use Rattle.std.specs.Prelude.{◌≡◌, ◌^◌, ◌<◌, ◌≤◌, ◌&&◌, ◌==◌, nat_le};
+ghost use Rattle.std.specs.Prelude.{◌≡◌, ◌≤◌, ◌<◌, ◌&&◌, ◌==◌};
 ghost use Rattle.pair_count.specs.PairTable.{PairTable};
 ghost use Rattle.goals.specs.Check.{entry};
 ghost use Rattle.checking.specs.Checking.{ends_at, ends_by, tip_by, bounds_by, EndLists, Ready};
 
 use crate::entry_at;
 
-fn wide(x: u32) -> u64
-    ensures { (result ≡ x) × (result < 2 ^ 32) }
-{
-    x as u64
-}
-
-fn one_if_less(x: u64, y: u64) -> usize
-    ensures { (result ≤ 1) × ((result == 0) ≡ nat_le y x) }
-{
-    if x < y { 1 } else { 0 }
-}
-
-// The innermost loop: at each place the entry is at least the split, a sum of 64-bit numbers, which does not wrap. It counts and does not stop.
-fn ends_bounded(
+// The splits of the intervals from one first tip at one tip before their last: the entry left of the tip, and of each last tip the two sums that
+// tell the pairs on the tip, the entry right of it and the entry of the interval.
+#[derive(Clone, Copy)]
+struct Splits<'a> {
     left: u64,
     shift: u32,
-    pairs: &[u32],
-    nexts: &[u32],
-    firsts: &[u32],
-    rights: &[u32],
-    mosts: &[u32],
-) -> bool
-    requires { EndLists left shift nexts.now firsts.now rights.now mosts.now × PairTable pairs.now }
-    ensures { result ≡ ends_at left shift nexts.now firsts.now rights.now mosts.now }
-{
-    let mut lacking = 0;
-    let mut i = 0;
-    while i < mosts.len() {
-        let p = std::num::wrapping_add_u32(nexts[i], shift) - firsts[i];
-        let split = wide(pair_count::pairs_among(pairs, p)) + (left + wide(rights[i]));
-        lacking += one_if_less(wide(mosts[i]), split);
-        i += 1;
-    }
-    lacking == 0
+    nexts: &'a [u32],
+    firsts: &'a [u32],
+    rights: &'a [u32],
+    mosts: &'a [u32],
+    ghost lists: { EndLists left shift nexts.now firsts.now rights.now mosts.now },
 }
 
-// The split at tip c of each interval from tip a to a tip from c on: no entry is right of c where c is the last tip.
-fn first_bounded(m: usize, a: usize, c: usize, pairs: &[u32], sums: &[u32], table: &[u32]) -> bool
-    requires { Ready m sums.now table.now × (a ≤ c) × (c < m) × PairTable pairs.now }
-    ensures { result ≡ ends_by m sums.now table.now a c }
-{
-    let left = entry_at(m, a, c - a, table);
-    let here = pair_count::pairs_among(pairs, spans::inside_at(m, sums, a, c + 1 - a, c));
-    if entry_at(m, a, c + 1 - a, table) < wide(here) + left {
-        return false;
+impl Splits<'_> {
+    // The innermost loop: at each place the entry is at least the split, a sum of 64-bit numbers, which does not wrap. It counts and does not stop.
+    fn bounded(&self, pairs: &[u32]) -> bool
+        requires { PairTable pairs.now }
+        ensures { result ≡ ends_at self.now.left self.now.shift self.now.nexts.now self.now.firsts.now self.now.rights.now self.now.mosts.now }
+    {
+        let mut lacking = 0;
+        // One counter, and no zip of the four lists: a zip asks at each place whether each list has ended.
+        for i in 0..self.mosts.len() {
+            let p = self.nexts[i].wrapping_add(self.shift) - self.firsts[i];
+            let split = u64::from(pair_count::pairs_among(pairs, p))
+                + (self.left + u64::from(self.rights[i]));
+            lacking += usize::from(u64::from(self.mosts[i]) < split);
+        }
+        lacking == 0
     }
-    let next = c + 1;
-    if next == m {
-        return true;
-    }
-    let first_sums = a * (m + 1);
-    let next_sums = next * (m + 1);
-    let shift = std::num::wrapping_sub_u32(sums[first_sums + c], sums[next_sums + c]);
-    let first_from = first_sums + (next + 1);
-    let first_end = first_sums + (m + 1);
-    let next_from = next_sums + (next + 1);
-    let next_end = next_sums + (m + 1);
-    let right_from = next * m + next;
-    let right_end = next * m + m;
-    let most_from = a * m + next;
-    let most_end = a * m + m;
-    ends_bounded(
-        left,
-        shift,
-        pairs,
-        &sums[next_from..next_end],
-        &sums[first_from..first_end],
-        &table[right_from..right_end],
-        &table[most_from..most_end],
-    )
 }
 
-// And so from each first tip.
-fn tip_bounded(m: usize, c: usize, pairs: &[u32], sums: &[u32], table: &[u32]) -> bool
-    requires { Ready m sums.now table.now × (c < m) × PairTable pairs.now }
-    ensures { result ≡ tip_by m sums.now table.now c }
-{
-    let mut a = 0;
-    while a <= c {
-        if !first_bounded(m, a, c, pairs, sums, table) {
+// A table for a rack of m tips, and the sums of the placements that it is held against.
+#[derive(Clone, Copy)]
+pub struct Foreign<'a> {
+    pub m: usize,
+    pub pairs: &'a [u32],
+    pub sums: &'a [u32],
+    pub table: &'a [u32],
+    ghost ready: { Ready m sums.now table.now },
+    ghost numbered: { PairTable pairs.now },
+}
+
+impl Foreign<'_> {
+    // The split at tip c of each interval from tip a to a tip from c on: no entry is right of c where c is the last tip.
+    fn first_bounded(&self, a: usize, c: usize) -> bool
+        requires from { a ≤ c }
+        requires inside { c < self.now.m }
+        ensures { result ≡ ends_by self.now.m self.now.sums.now self.now.table.now a c }
+    {
+        let m = self.m;
+        let left = entry_at(m, a, c - a, self.table);
+        let here = pair_count::pairs_among(
+            self.pairs,
+            spans::inside_at(m, self.sums, a, c + 1 - a, c),
+        );
+        if entry_at(m, a, c + 1 - a, self.table) < u64::from(here) + left {
             return false;
         }
-        a += 1;
-    }
-    true
-}
-
-// The entry for the rack is the claim, and so each named tip.
-pub fn table_fits(
-    names: u64,
-    m: usize,
-    claim: u32,
-    pairs: &[u32],
-    sums: &[u32],
-    table: &[u32],
-) -> bool
-    requires { Ready m sums.now table.now × PairTable pairs.now }
-    ensures { result ≡ (entry m table.now 0 m == claim && bounds_by names m sums.now table.now) }
-{
-    if entry_at(m, 0, m, table) != claim as u64 {
-        return false;
-    }
-    let mut c = 0;
-    while c < m {
-        if tips::has_tip(names, c) {
-            if !tip_bounded(m, c, pairs, sums, table) {
-                return false;
-            }
+        let next = c + 1;
+        if next == m {
+            return true;
         }
-        c += 1;
+        let first_sums = &self.sums[a * (m + 1)..(a + 1) * (m + 1)];
+        let next_sums = &self.sums[next * (m + 1)..(next + 1) * (m + 1)];
+        let splits = Splits {
+            left,
+            shift: first_sums[c].wrapping_sub(next_sums[c]),
+            nexts: &next_sums[next + 1..],
+            firsts: &first_sums[next + 1..],
+            rights: &self.table[next * m + next..(next + 1) * m],
+            mosts: &self.table[a * m + next..(a + 1) * m],
+        };
+        splits.bounded(self.pairs)
     }
-    true
+
+    // And so from each first tip.
+    fn tip_bounded(&self, c: usize) -> bool
+        requires { c < self.now.m }
+        ensures { result ≡ tip_by self.now.m self.now.sums.now self.now.table.now c }
+    {
+        (0..c + 1).all(|a| self.first_bounded(a, c))
+    }
+
+    // The entry for the rack is the claim, and so each named tip.
+    pub fn fits(&self, names: u64, claim: u32) -> bool
+        ensures { result ≡ (entry self.now.m self.now.table.now 0 self.now.m == claim
+            && bounds_by names self.now.m self.now.sums.now self.now.table.now) }
+    {
+        if entry_at(self.m, 0, self.m, self.table) != u64::from(claim) {
+            return false;
+        }
+        (0..self.m).all(|c| !tips::has_tip(names, c) || self.tip_bounded(c))
+    }
 }

@@ -28,17 +28,17 @@ mag_sum (pos a) k = omega arith
 mag_sum (negsuc a) k = omega (arith, mag_sub k (suc a))
 
 module _ (a b k : ℕ) (ha : a ≤ most_placements) (hb : b ≤ most_placements) (hk : k < 2 ^ 16) where
-  pub sub_fits : SFits w32 (to_z w32 a -ℤ to_z w32 b)
+  sub_fits : SFits w32 (to_z w32 a -ℤ to_z w32 b)
   sub_fits = rw (to_z_pos w32 a (omega arith), to_z_pos w32 b (omega arith)) (record { sfits = omega (arith, mag_diff a b) })
 
-  pub diff_is : to_z w32 (of_z w32 (to_z w32 a -ℤ to_z w32 b)) ≡ pos a -ℤ pos b
+  diff_is : to_z w32 (of_z w32 (to_z w32 a -ℤ to_z w32 b)) ≡ pos a -ℤ pos b
   diff_is = to_z-of_z w32 (to_z w32 a -ℤ to_z w32 b) sub_fits ∙ rw (to_z_pos w32 a (omega arith), to_z_pos w32 b (omega arith))
 
-  pub add_fits : SFits w32 (to_z w32 (of_z w32 (to_z w32 a -ℤ to_z w32 b)) +ℤ to_z w32 k)
-  add_fits = rw (diff_is, to_z_pos w32 k (omega arith)) (record { sfits = omega (arith, mag_sum (pos a -ℤ pos b) k, mag_diff a b) })
-
-  pub margin-is : to_z w32 (of_z w32 (to_z w32 (of_z w32 (to_z w32 a -ℤ to_z w32 b)) +ℤ to_z w32 k)) ≡ (pos a -ℤ pos b) +ℤ pos k
-  margin-is = to_z-of_z w32 (to_z w32 (of_z w32 (to_z w32 a -ℤ to_z w32 b)) +ℤ to_z w32 k) add_fits ∙ rw (diff_is, to_z_pos w32 k (omega arith))
+  -- the margin as the code adds it up, in 32 bits with a sign
+  pub margin-is : to_z w32 (of_z w32 (to_z w32 (of_z w32 (to_z w32 a -ℤ to_z w32 b)) +ℤ to_z w32 (of_z w32 (pos k)))) ≡ (pos a -ℤ pos b) +ℤ pos k
+  margin-is =
+      rw (diff_is, to_z-of_z w32 (pos k) (record { sfits = omega arith }))
+      (to_z-of_z w32 ((pos a -ℤ pos b) +ℤ pos k) (record { sfits = omega (arith, mag_sum (pos a -ℤ pos b) k, mag_diff a b) }))
 
   -- THE RANGE OF THE MARGIN: it fits 32 bits with a sign
   pub margin-fits : SFits w32 (margin_by a b k)

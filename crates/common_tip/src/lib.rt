@@ -25,8 +25,7 @@ pub fn common_tip(rack: usize, lines: &[u64], quantities: &[u8]) -> Common
     ensures off { result.off ≡ total quantities.now - result.top }
     ensures tips { result.tips ≡ W rack (repeated quantities.now lines.now) }
 {
-    let mut planes = [0u64; counts::PLANES];
-    counts::count_tips(lines, quantities, &mut planes);
+    let planes = counts::count_tips(lines, quantities);
     let busiest = counts::busiest_tips(&planes, rack);
     let top = busiest.top as usize;
     Common {
@@ -38,17 +37,17 @@ pub fn common_tip(rack: usize, lines: &[u64], quantities: &[u8]) -> Common
 
 // Top, less the placements, plus k.
 fn margin(top: usize, n: usize, k: u16) -> i32
-    requires { (top ≤ most_placements) × (n ≤ most_placements) }
+    requires top { top ≤ most_placements }
+    requires n { n ≤ most_placements }
     ensures { result ≡ margin_by top n k }
 {
-    (top as i32) - (n as i32) + (k as i32)
+    (top as i32) - (n as i32) + i32::from(k)
 }
 
 fn least_count(n: usize, k: u16) -> usize
     ensures { result ≡ least_count n k }
 {
-    let k = k as usize;
-    if n <= k { 1 } else { n - k }
+    n.saturating_sub(usize::from(k)).max(1)
 }
 
 // The margin, the number of placements, and the set V of the tips in some line that all but at most k of the placements allow.
@@ -60,13 +59,13 @@ struct Bound {
 }
 
 fn within(rack: usize, k: u16, lines: &[u64], quantities: &[u8]) -> Bound
-    requires { (rack ≤ 64) × Countable quantities.now lines.now }
+    requires rack { rack ≤ 64 }
+    requires countable { Countable quantities.now lines.now }
     ensures margin { result.margin ≡ margin_of rack (repeated quantities.now lines.now) k }
     ensures n { result.n ≡ total quantities.now }
     ensures tips { result.tips ≡ common_within rack (repeated quantities.now lines.now) k }
 {
-    let mut planes = [0u64; counts::PLANES];
-    counts::count_tips(lines, quantities, &mut planes);
+    let planes = counts::count_tips(lines, quantities);
     let busiest = counts::busiest_tips(&planes, rack);
     let n = placements::total(quantities);
     Bound {
@@ -86,25 +85,26 @@ fn narrow(set: u64, v: u64) -> u64
 fn narrow_all(v: u64, lines: &mut [u64])
     ensures { lines.new ≡ map (narrow_by v) lines.old }
 {
-    let mut i = 0;
-    while i < lines.len() {
-        lines[i] = narrow(lines[i], v);
-        i += 1;
+    for set in lines.iter_mut() {
+        *set = narrow(*set, v);
     }
 }
 
 fn kept(v: u64, margin: i32, quantity: u8, set: u64) -> u64
     ensures { result ≡ kept_by v margin quantity set }
 {
-    if margin < (quantity as i32) {
-        return narrow(set, v);
+    if margin < i32::from(quantity) {
+        narrow(set, v)
+    } else {
+        set
     }
-    set
 }
 
 // Where the margin is below its quantity, a line that has all of v keeps only v. No quantity is 0, and with a placement a line each is 1.
 fn prune(margin: i32, n: usize, v: u64, lines: &mut [u64], quantities: &[u8])
-    requires { (n ≡ total quantities.now) × (length quantities.now ≡ length lines.old) × All (λ q. 1 ≤ q) quantities.now }
+    requires n { n ≡ total quantities.now }
+    requires same { length quantities.now ≡ length lines.old }
+    requires placed { All (λ q. 1 ≤ q) quantities.now }
     ensures { lines.new ≡ zip_with (kept_by v margin) quantities.now lines.old }
 {
     if margin < 1 {
@@ -114,10 +114,8 @@ fn prune(margin: i32, n: usize, v: u64, lines: &mut [u64], quantities: &[u8])
     if n == lines.len() {
         return;
     }
-    let mut i = 0;
-    while i < lines.len() {
-        lines[i] = kept(v, margin, quantities[i], lines[i]);
-        i += 1;
+    for (i, set) in lines.iter_mut().enumerate() {
+        *set = kept(v, margin, quantities[i], *set);
     }
 }
 

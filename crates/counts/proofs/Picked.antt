@@ -1,5 +1,5 @@
 -- The lines whose quantities have a binary digit: parts of them, and what all digits make of the placements.
-use Prim.Native.Nat.{ℕ, zero, suc, ◌+◌, ◌*◌, ◌-◌, ◌/◌, ◌%◌, ◌^◌, ◌≤◌, ◌<◌}
+use Prim.Native.Nat.{ℕ, zero, suc, ◌+◌, ◌*◌, ◌/◌, ◌%◌, ◌^◌, ◌≤◌, ◌<◌}
 use native.Mathlib.Omega.{arith}
 use native.Mathlib.Nat.{div-eq_of_lt}
 use native.Mathlib.Numerals.{add-one}
@@ -14,10 +14,10 @@ use Rattle.model.specs.Plan.{has, occ}
 use Rattle.model.specs.Limits.{most_placements}
 use Rattle.model.proofs.Tests.{test, true_T, false_T}
 use Rattle.model.proofs.Lists.{count_le}
-use Rattle.model.proofs.Loops.{part-rest}
 use Rattle.placements.specs.Repeated.{repeated, weighted}
 use Rattle.placements.proofs.Repeated.{length-repeated, occ-repeated, repeated_ones, length-zip}
 use Rattle.counts.specs.Counts.{plane_count, digit, share, Counts, Countable}
+use Rattle.counts.specs.declared.adders.Pair.{Pair}
 use Rattle.counts.specs.Sums.{both_at, Empty, Fits, Added, Doublable, Doubled, Joinable, Joined, Whole}
 use Rattle.counts.specs.Picked.{pick_by, picked}
 use Rattle.counts.proofs.Digits.{has_one, has-one-digit, lacks_digit, empty_digit, share-digit}
@@ -119,19 +119,18 @@ module _ (j : ℕ) (qs lines : List ℕ) (same : length qs ≡ length lines) whe
   picked-length = length-zip (pick_by j) qs lines same
 
   -- a block of them in place of as many
-  pub picked-block : (i : ℕ) → i + 32 ≤ length lines → (chosen : List ℕ) → length chosen ≡ 32
-      → picked j (take (i + 32 - i) (drop i qs)) (take (i + 32 - i) (drop i lines)) ++ drop (length (take (i + 32 - i) (drop i lines))) chosen
-      ≡ take (i + 32 - i) (drop i (picked j qs lines))
+  pub picked-block : (i : ℕ) → 32 * i + 32 ≤ length lines → (chosen : List ℕ) → length chosen ≡ 32
+      → picked j (take 32 (drop (32 * i) qs)) (take 32 (drop (32 * i) lines)) ++ drop (length (take 32 (drop (32 * i) lines))) chosen
+      ≡ take 32 (drop (32 * i) (picked j qs lines))
   picked-block i h chosen full =
-      let n = i + 32 - i in
-      let size : 32 ≤ length (take n (drop i lines)) = simp (length-take, length-drop) (omega arith) in
-      let all = drop_of_length-le chosen {i = length (take n (drop i lines))} (omega arith) in
-      let parts = zip-take (pick_by j) n (drop i qs) (drop i lines) (simp length-drop (omega arith)) in
-      rw (all, append-nil, parts, zip-drop (pick_by j) i qs lines same)
+      let size : 32 ≤ length (take 32 (drop (32 * i) lines)) = simp (length-take, length-drop) (omega arith) in
+      let all = drop_of_length-le chosen {i = length (take 32 (drop (32 * i) lines))} (omega arith) in
+      let parts = zip-take (pick_by j) 32 (drop (32 * i) qs) (drop (32 * i) lines) (simp length-drop (omega arith)) in
+      rw (all, append-nil, parts, zip-drop (pick_by j) (32 * i) qs lines same)
 
   -- those from line i on
-  pub picked-rest : (i : ℕ) → picked j (take (length qs - i) (drop i qs)) (take (length lines - i) (drop i lines)) ≡ drop i (picked j qs lines)
-  picked-rest i = rw (part-rest qs i, part-rest lines i) (zip-drop (pick_by j) i qs lines same)
+  pub picked-rest : (i : ℕ) → picked j (drop i qs) (drop i lines) ≡ drop i (picked j qs lines)
+  picked-rest i = zip-drop (pick_by j) i qs lines same
 
 -- ---- all placements
 
@@ -141,9 +140,9 @@ unfolding occ
 occ_few {qs} {lines} n t = omega (arith, count_le (λ s. has s t) (repeated qs lines), length-repeated qs lines n.same, n.few)
 
 -- the digits from j on are counted
-pub record CountedFrom (j : ℕ) (qs lines sums : List ℕ) : Type 0 where
+pub record CountedFrom (j : ℕ) (qs lines : List ℕ) (sums : List Pair) : Type 0 where
   pub within : j ≤ 8
-  pub size : length sums ≡ 2 * plane_count
+  pub size : length sums ≡ plane_count
   pub sum : (t : ℕ) → both_at sums t ≡ over_at j qs lines t
 
 -- no quantity is below 1, and none is above
@@ -156,25 +155,25 @@ module _ {qs lines : List ℕ} (n : Countable qs lines) where
   over_few zero t = omega (arith, over-all t qs lines, occ_few n t)
   over_few (suc j) t = omega (arith, over-more j t qs lines n.same, over_few j t)
 
-  pub none-counted : {j most : ℕ} {sums : List ℕ} → Empty sums → All (λ q. q ≤ most) qs → most < 2 ^ j → j ≤ 8 → CountedFrom j qs lines sums
+  pub none-counted : {j most : ℕ} {sums : List Pair} → Empty sums → All (λ q. q ≤ most) qs → most < 2 ^ j → j ≤ 8 → CountedFrom j qs lines sums
   none-counted {j} {most} e h l w = record { within = w; size = e.size; sum = λ t. omega (arith, e.none t, over_none t j most l lines h) }
 
-  pub all-counted : {sums : List ℕ} → CountedFrom 0 qs lines sums → Whole qs lines sums
+  pub all-counted : {sums : List Pair} → CountedFrom 0 qs lines sums → Whole qs lines sums
   all-counted c = record { size = c.size; sum = λ t. omega (arith, c.sum t, over-all t qs lines) }
 
   -- one digit more
-  module _ {j : ℕ} {sums : List ℕ} (c : CountedFrom (suc j) qs lines sums) where
+  module _ {j : ℕ} {sums : List Pair} (c : CountedFrom (suc j) qs lines sums) where
     pub room_twice : Doublable sums
     room_twice = record { size = c.size; fits = λ t. omega (arith, c.sum t, over-more j t qs lines n.same, over_few j t) }
 
-    module _ {twice : List ℕ} (d : Doubled sums twice) where
+    module _ {twice : List Pair} (d : Doubled sums twice) where
       pub digit-fits : Fits (picked j qs lines) twice
       digit-fits = record {
         size = d.size;
         fits = λ t. omega (arith, c.sum t, d.sum t, over-more j t qs lines n.same, over_few j t);
       }
 
-      pub digit-counted : {sums' : List ℕ} → Added (picked j qs lines) twice sums' → CountedFrom j qs lines sums'
+      pub digit-counted : {sums' : List Pair} → Added (picked j qs lines) twice sums' → CountedFrom j qs lines sums'
       digit-counted a = record {
         within = omega (arith, c.within);
         size = a.size;
@@ -186,15 +185,15 @@ module _ {qs lines : List ℕ} (n : Countable qs lines) where
     once : repeated qs lines ≡ lines
     once = repeated_ones o lines n.same
 
-    module _ {sums : List ℕ} (e : Empty sums) where
+    module _ {sums : List Pair} (e : Empty sums) where
       pub ones_fit : Fits lines sums
       ones_fit = record { size = e.size; fits = λ t. omega (arith, rw once at (occ_few n t), e.none t) }
 
-      pub ones_whole : {sums' : List ℕ} → Added lines sums sums' → Whole qs lines sums'
+      pub ones_whole : {sums' : List Pair} → Added lines sums sums' → Whole qs lines sums'
       ones_whole a = record { size = a.size; sum = λ t. rw once (omega (arith, a.sum t, e.none t)) }
 
 -- both counts of all placements joined
-module _ {qs lines sums : List ℕ} (n : Countable qs lines) (w : Whole qs lines sums) where
+module _ {qs lines : List ℕ} {sums : List Pair} (n : Countable qs lines) (w : Whole qs lines sums) where
   pub joinable : Joinable sums
   joinable = record { size = w.size; fits = λ t. omega (arith, w.sum t, occ_few n t) }
 

@@ -5,13 +5,15 @@ use native.Mathlib.Nat.{lt_of_lt_of_le, lt_of_le_of_lt, pos_of_ne-zero}
 use mathlib.Core.Path.{◌≡◌, refl, ap, sym, ◌∙◌}
 use mathlib.Core.Logic.{⊎_elim}
 use mathlib.Core.Bool.{Bool, true, false, ◌&&◌, and_assoc}
-use mathlib.Core.List.{List}
+use mathlib.Core.List.{◌++◌, List, [], ◌∷◌}
 use lib.Bits.{bit_and, and_comm, and_le_l}
 use lib.Dec.{T, T_not, ltb, eqb, eqb→eq, eqb_refl, lt→ltb}
-use lib.ListN.{length, get_or, drop, length-drop, drop_of_length-le}
+use lib.Seq.{take_all, take-take, take-append_seam}
+use lib.ListN.{take, length-append, length, get_or, drop, length-drop, drop_of_length-le}
 use lib.Pow.{pow_mono, pow_pos}
 use lib.Seq.{drop-cons}
 use borrow.Author.Tests.{lt-ltb, le-ltb, ne_eqb}
+use Rattle.std.proofs.lemmas.Grind.{common_steps}
 use Rattle.model.specs.Count.{largest, lowest_at}
 use Rattle.model.specs.Plan.{has}
 use Rattle.model.specs.Interval.{low}
@@ -141,6 +143,14 @@ module _ (f g : ℕ → ℕ) (p m : ℕ) (e : (t : ℕ) → g t ≡ digit p t + 
 -- ---- the planes from j on
 
 -- the largest count that they hold for a tip below m, and the tips that have it
+-- the planes that are left to read, from the lowest on
+pub record Unread (planes left : List ℕ) : Type 0 where
+  pub front : left ≡ take (length left) planes
+  pub within : length left ≤ length planes
+
+pub all_unread : (planes : List ℕ) → Unread planes planes
+all_unread planes = record { front = sym (take_all (length planes) planes (omega arith)); within = omega arith }
+
 pub record TopFrom (planes : List ℕ) (m j tips top : ℕ) : Type 0 where
   pub top-is : top ≡ largest (count_at (drop j planes)) m
   pub tips_are : tips ≡ tips_at (count_at (drop j planes)) top m
@@ -162,10 +172,10 @@ count_at-drop planes k t h = ap (λ l. count_at l t) (drop-cons planes k 0 h)
 
 module _ (planes : List ℕ) (m : ℕ) where
   -- no plane is read yet
-  pub top_start : length planes ≡ plane_count → TopFrom planes m plane_count (2 ^ m - 1) 0
+  pub top_start : TopFrom planes m (length planes) (2 ^ m - 1) 0
   unfolding count_at
-  top_start size =
-      let none = drop_of_length-le planes {i = plane_count} (omega arith) in
+  top_start =
+      let none = drop_of_length-le planes {i = length planes} (omega arith) in
       record {
         top-is = sym (ap (λ l. largest (count_at l) m) none ∙ largest_zero m);
         tips_are = sym (ap (λ l. tips_at (count_at l) 0 m) none ∙ set_of-all m);
@@ -210,6 +220,29 @@ module _ (planes : List ℕ) (m : ℕ) where
           top-is = sym doubled ∙ sym (largest_even f g p m twice z);
           tips_are = tips-from ∙ tips_even f g p m twice z ∙ ap (λ k. tips_at g k m) doubled;
         }
+
+  -- the planes that are left to read, one less: the last is read
+  module _ {left : List ℕ} (left' : List ℕ) (p : ℕ) {tips top : ℕ} (u : Unread planes left) (e : left ≡ left' ++ p ∷ [])
+      (r : TopFrom planes m (length left) tips top) where
+    fewer : length left ≡ suc (length left')
+    fewer = rw e (simp length-append (omega arith))
+
+    is : get_or planes (length left') 0 ≡ p
+    is = grind (arith, common_steps)
+
+    front_less : left' ≡ take (length left') planes
+    front_less =
+        sym (take-append_seam left' (p ∷ [])) ∙ ap (take (length left')) (sym e ∙ u.front)
+        ∙ take-take (length left') (length left) planes (omega (arith, fewer))
+
+    pub unread_less : Unread planes left'
+    unread_less = record { front = front_less; within = omega (arith, fewer, u.within) }
+
+    pub last_odd : (bit_and tips p ≡ 0 → ⊥) → TopFrom planes m (length left') (bit_and tips p) (top + top + 1)
+    last_odd some = rw is at (top_odd (omega (arith, fewer, u.within)) (rw fewer at r) (rw is some))
+
+    pub last_even : bit_and tips p ≡ 0 → TopFrom planes m (length left') tips (top + top)
+    last_even none = top_even (omega (arith, fewer, u.within)) (rw fewer at r) (rw is none)
 
   -- no count is above twelve digits
   pub top_lt : {j tips top : ℕ} → length planes ≡ plane_count → TopFrom planes m j tips top → top < 2 ^ plane_count

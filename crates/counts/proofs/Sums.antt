@@ -1,5 +1,5 @@
 -- Two counts side by side: a pair of planes stored, sixteen lines added to both, and a carry that goes up the planes.
-use Prim.Native.Nat.{ℕ, zero, suc, ◌+◌, ◌*◌, ◌-◌, ◌^◌, ◌≤◌, ◌<◌}
+use Prim.Native.Nat.{ℕ, zero, suc, ◌+◌, ◌*◌, ◌^◌, ◌≤◌, ◌<◌}
 use native.Mathlib.Omega.{arith}
 use native.Mathlib.Nat.{pow-suc}
 use native.Mathlib.Numerals.{add-one}
@@ -10,9 +10,10 @@ use lib.ListN.{length, get_or, drop, take, set, replicate, length-drop, length-s
 use lib.Seq.{take_all, length-take-le, take-suc-set, drop-cons, drop-drop, drop-set-lt, get_or-drop}
 use Rattle.model.specs.Count.{count}
 use Rattle.model.specs.Plan.{has, occ}
-use Rattle.model.proofs.Loops.{part-rest, count-rest}
+use Rattle.model.proofs.Loops.{count-rest}
+use Rattle.counts.specs.declared.adders.Pair.{Pair}
 use Rattle.counts.specs.Counts.{plane_count, digit, count_at, AddsThree}
-use Rattle.counts.specs.Sums.{both_at, eight_at, AddsEight, Raisable, Raised, Fits, Added, Doublable, Doubled, Joinable, Joined}
+use Rattle.counts.specs.Sums.{pair_at, both_at, eight_at, AddsEight, Raisable, Raised, Empty, Fits, Added, Doublable, Doubled, Joinable, Joined}
 use Rattle.counts.proofs.Digits.{has_one, half_adder, empty_digit}
 
 -- the occurrences among the lines from i on: line i, and those after it
@@ -61,111 +62,104 @@ seven_adders a b c d e f g = record { sum = λ t. omega (arith, a.sum t, b.sum t
 
 -- ---- planes stored
 
--- the planes at 2 * j and after it
-both-set : (sums : List ℕ) (j p q t : ℕ) → 2 * j + 1 < length sums
-    → both_at (set (set sums (2 * j) p) (2 * j + 1) q) t + 2 ^ j * (digit (get_or sums (2 * j) 0) t + digit (get_or sums (2 * j + 1) 0) t)
-    ≡ both_at sums t + 2 ^ j * (digit p t + digit q t)
-unfolding both_at
-both-set [] j p q t h = absurd (omega arith)
-both-set (a ∷ []) j p q t h = absurd (omega arith)
-both-set (a ∷ b ∷ sums) zero p q t h = omega arith
-both-set (a ∷ b ∷ sums) (suc j) p q t h =
-    let e : 2 * suc j ≡ suc (suc (2 * j)) = omega arith in
-    rw (e, add-one, pow-suc) (omega (arith, rw add-one at (both-set sums j p q t (omega arith))))
+abbrev pub pair : ℕ → ℕ → Pair
+pair p q = record { even = p; odd = q }
 
--- the four lowest of each count
-both-eight : (sums : List ℕ) (a b c d e f g h t : ℕ) → 8 ≤ length sums
-    → both_at (set (set (set (set (set (set (set (set sums 0 a) 1 b) 2 c) 3 d) 4 e) 5 f) 6 g) 7 h) t
-    + digit (get_or sums 0 0) t + digit (get_or sums 1 0) t + 2 * (digit (get_or sums 2 0) t + digit (get_or sums 3 0) t)
-    + 4 * (digit (get_or sums 4 0) t + digit (get_or sums 5 0) t) + 8 * (digit (get_or sums 6 0) t + digit (get_or sums 7 0) t)
-    ≡ both_at sums t + digit a t + digit b t + 2 * (digit c t + digit d t) + 4 * (digit e t + digit f t) + 8 * (digit g t + digit h t)
+abbrev pub no_pair : Pair
+no_pair = pair 0 0
+
+-- pair j
+both-set : (sums : List Pair) (j : ℕ) (p : Pair) (t : ℕ) → j < length sums
+    → both_at (set sums j p) t + 2 ^ j * pair_at (get_or sums j no_pair) t ≡ both_at sums t + 2 ^ j * pair_at p t
 unfolding both_at
-both-eight [] a b c d e f g h t l = absurd (omega arith)
-both-eight (_ ∷ []) a b c d e f g h t l = absurd (omega arith)
-both-eight (_ ∷ _ ∷ []) a b c d e f g h t l = absurd (omega arith)
-both-eight (_ ∷ _ ∷ _ ∷ []) a b c d e f g h t l = absurd (omega arith)
-both-eight (_ ∷ _ ∷ _ ∷ _ ∷ []) a b c d e f g h t l = absurd (omega arith)
-both-eight (_ ∷ _ ∷ _ ∷ _ ∷ _ ∷ []) a b c d e f g h t l = absurd (omega arith)
-both-eight (_ ∷ _ ∷ _ ∷ _ ∷ _ ∷ _ ∷ []) a b c d e f g h t l = absurd (omega arith)
-both-eight (_ ∷ _ ∷ _ ∷ _ ∷ _ ∷ _ ∷ _ ∷ []) a b c d e f g h t l = absurd (omega arith)
-both-eight (_ ∷ _ ∷ _ ∷ _ ∷ _ ∷ _ ∷ _ ∷ _ ∷ sums) a b c d e f g h t l = omega arith
+both-set [] j p t h = absurd (omega arith)
+both-set (a ∷ sums) zero p t h = omega arith
+both-set (a ∷ sums) (suc j) p t h = rw pow-suc (omega (arith, both-set sums j p t (omega arith)))
+
+-- the four lowest pairs
+both-four : (sums : List Pair) (p q r s : Pair) (t : ℕ) → 4 ≤ length sums
+    → both_at (set (set (set (set sums 0 p) 1 q) 2 r) 3 s) t
+    + pair_at (get_or sums 0 no_pair) t + 2 * pair_at (get_or sums 1 no_pair) t
+    + 4 * pair_at (get_or sums 2 no_pair) t + 8 * pair_at (get_or sums 3 no_pair) t
+    ≡ both_at sums t + pair_at p t + 2 * pair_at q t + 4 * pair_at r t + 8 * pair_at s t
+unfolding both_at
+both-four [] p q r s t l = absurd (omega arith)
+both-four (_ ∷ []) p q r s t l = absurd (omega arith)
+both-four (_ ∷ _ ∷ []) p q r s t l = absurd (omega arith)
+both-four (_ ∷ _ ∷ _ ∷ []) p q r s t l = absurd (omega arith)
+both-four (_ ∷ _ ∷ _ ∷ _ ∷ sums) p q r s t l = omega arith
 
 -- ---- a carry of each count is at plane j
 
-pub record Rising (even odd : ℕ) (old sums : List ℕ) (j left right : ℕ) : Type 0 where
+pub record Rising (carry : Pair) (old sums : List Pair) (j : ℕ) (left : Pair) : Type 0 where
   pub within : j ≤ plane_count
-  pub size : length sums ≡ 2 * plane_count
-  pub sum : (t : ℕ) → both_at sums t + 2 ^ j * (digit left t + digit right t) ≡ both_at old t + 16 * (digit even t + digit odd t)
+  pub size : length sums ≡ plane_count
+  pub sum : (t : ℕ) → both_at sums t + 2 ^ j * pair_at left t ≡ both_at old t + 16 * pair_at carry t
 
-pub rising_start : {even odd : ℕ} {sums : List ℕ} → Raisable even odd sums → Rising even odd sums sums 4 even odd
+pub rising_start : {carry : Pair} {sums : List Pair} → Raisable carry sums → Rising carry sums sums 4 carry
 rising_start r = record { within = omega arith; size = r.size; sum = λ t. refl }
 
-module _ {even odd j left right : ℕ} {old sums : List ℕ} (r : Rising even odd old sums j left right) where
+module _ {carry : Pair} {j : ℕ} {left : Pair} {old sums : List Pair} (r : Rising carry old sums j left) where
   pub rising_more : j < plane_count
-      → let p = get_or sums (2 * j) 0 in
-      let q = get_or sums (2 * j + 1) 0 in
-      Rising even odd old (set (set sums (2 * j) (bit_xor p left)) (2 * j + 1) (bit_xor q right)) (j + 1) (bit_and p left) (bit_and q right)
+      → let p = get_or sums j no_pair in
+      Rising carry old (set sums j (pair (bit_xor p.even left.even) (bit_xor p.odd left.odd))) (j + 1)
+      (pair (bit_and p.even left.even) (bit_and p.odd left.odd))
   rising_more h = record {
     within = omega arith;
     size = simp length-set r.size;
     sum = λ t.
-        let p = get_or sums (2 * j) 0 in
-        let q = get_or sums (2 * j + 1) 0 in
-        let first = ap (λ x. 2 ^ j * x) (half_adder p left t) in
-        let second = ap (λ x. 2 ^ j * x) (half_adder q right t) in
-        let stored = both-set sums j (bit_xor p left) (bit_xor q right) t (omega (arith, r.size)) in
+        let p = get_or sums j no_pair in
+        let first = ap (λ x. 2 ^ j * x) (half_adder p.even left.even t) in
+        let second = ap (λ x. 2 ^ j * x) (half_adder p.odd left.odd t) in
+        let stored = both-set sums j (pair (bit_xor p.even left.even) (bit_xor p.odd left.odd)) t (omega (arith, r.size)) in
         rw (add-one j, pow-suc) (omega (arith, r.sum t, stored, first, second));
   }
 
-  pub rising_end : Raisable even odd old → plane_count ≤ j → Raised even odd old sums
+  pub rising_end : Raisable carry old → plane_count ≤ j → Raised carry old sums
   rising_end a h = record {
     size = r.size;
     sum = λ t. let e : j ≡ plane_count = omega (arith, r.within) in omega (arith, rw e at (r.sum t), a.fits t);
   }
 
--- ---- the planes from plane j on
+-- ---- the pairs from pair j on
 
-both_rest : (sums : List ℕ) (j t : ℕ) → 2 * j + 1 < length sums
-    → both_at (drop (2 * j) sums) t ≡ digit (get_or sums (2 * j) 0) t + digit (get_or sums (2 * j + 1) 0) t + 2 * both_at (drop (2 * (j + 1)) sums) t
+both_rest : (sums : List Pair) (j t : ℕ) → j < length sums
+    → both_at (drop j sums) t ≡ pair_at (get_or sums j no_pair) t + 2 * both_at (drop (j + 1) sums) t
 unfolding both_at
-both_rest sums j t h =
-    let e : 2 * (j + 1) ≡ suc (suc (2 * j)) = omega arith in
-    rw (e, add-one (2 * j), drop-cons sums (2 * j) 0 (omega arith), drop-cons sums (suc (2 * j)) 0 (omega arith))
+both_rest sums j t h = rw (add-one j, drop-cons sums j no_pair h)
 
-both_end : (sums : List ℕ) (j t : ℕ) → length sums ≤ 2 * j → both_at (drop (2 * j) sums) t ≡ 0
+both_end : (sums : List Pair) (j t : ℕ) → length sums ≤ j → both_at (drop j sums) t ≡ 0
 unfolding both_at
-both_end sums j t h = ap (λ l. both_at l t) (drop_of_length-le sums {i = 2 * j} h)
+both_end sums j t h = ap (λ l. both_at l t) (drop_of_length-le sums {i = j} h)
 
-pub both-zeros : (n t : ℕ) → both_at (replicate n 0) t ≡ 0
+both-zeros : (n t : ℕ) → both_at (replicate n no_pair) t ≡ 0
 unfolding both_at
 both-zeros zero t = refl
-both-zeros (suc zero) t = empty_digit t
-both-zeros (suc (suc n)) t = omega (arith, empty_digit t, both-zeros n t)
+both-zeros (suc n) t = omega (arith, empty_digit t, both-zeros n t)
 
--- each plane below plane j has moved up by one, and that of each count before plane j is on its way
-pub record Moving (old sums : List ℕ) (j even odd : ℕ) : Type 0 where
+pub no_sums : Empty (replicate 12 no_pair)
+no_sums = record { size = refl; none = both-zeros 12 }
+
+-- each pair below pair j has moved up by one, and the one before pair j is on its way
+pub record Moving (old sums : List Pair) (j : ℕ) (lower : Pair) : Type 0 where
   pub within : j ≤ plane_count
-  pub size : length sums ≡ 2 * plane_count
-  pub rest : drop (2 * j) sums ≡ drop (2 * j) old
-  pub sum : (t : ℕ) → both_at sums t + 2 ^ j * (digit even t + digit odd t) + 2 ^ j * both_at (drop (2 * j) old) t ≡ 2 * both_at old t
+  pub size : length sums ≡ plane_count
+  pub rest : drop j sums ≡ drop j old
+  pub sum : (t : ℕ) → both_at sums t + 2 ^ j * pair_at lower t + 2 ^ j * both_at (drop j old) t ≡ 2 * both_at old t
 
-pub moving_start : {sums : List ℕ} → Doublable sums → Moving sums sums 0 0 0
+pub moving_start : {sums : List Pair} → Doublable sums → Moving sums sums 0 no_pair
 moving_start d = record { within = omega arith; size = d.size; rest = refl; sum = λ t. omega (arith, empty_digit t) }
 
-module _ {old sums : List ℕ} {j even odd : ℕ} (m : Moving old sums j even odd) where
-  pub moving_more : j < plane_count
-      → Moving old (set (set sums (2 * j) even) (2 * j + 1) odd) (j + 1) (get_or sums (2 * j) 0) (get_or sums (2 * j + 1) 0)
+module _ {old sums : List Pair} {j : ℕ} {lower : Pair} (m : Moving old sums j lower) where
+  pub moving_more : j < plane_count → Moving old (set sums j lower) (j + 1) (get_or sums j no_pair)
   moving_more h =
-      let e : 2 * j + 2 ≡ 2 * (j + 1) = omega arith in
-      let more = rw e at (sym (drop-drop 2 (2 * j) sums) ∙ ap (drop 2) m.rest ∙ drop-drop 2 (2 * j) old) in
+      let more = sym (drop-drop 1 j sums) ∙ ap (drop 1) m.rest ∙ drop-drop 1 j old in
       record {
         within = omega arith;
         size = simp length-set m.size;
-        rest =
-            drop-set-lt (2 * (j + 1)) (set sums (2 * j) even) (2 * j + 1) odd (omega arith)
-            ∙ drop-set-lt (2 * (j + 1)) sums (2 * j) even (omega arith) ∙ more;
+        rest = drop-set-lt (j + 1) sums j lower (omega arith) ∙ more;
         sum = λ t.
-            let stored = both-set sums j even odd t (omega (arith, m.size)) in
+            let stored = both-set sums j lower t (omega (arith, m.size)) in
             let planes = ap (λ x. 2 ^ j * x) (rw (m.rest, more) at (both_rest sums j t (omega (arith, m.size)))) in
             rw (add-one j, pow-suc) (omega (arith, m.sum t, stored, rw (add-one j) at planes));
       }
@@ -181,12 +175,12 @@ module _ {old sums : List ℕ} {j even odd : ℕ} (m : Moving old sums j even od
 
 -- ---- both counts joined, up to plane j
 
-pub record Joining (sums planes : List ℕ) (j carry : ℕ) : Type 0 where
+pub record Joining (sums : List Pair) (planes : List ℕ) (j carry : ℕ) : Type 0 where
   pub within : j ≤ plane_count
   pub size : length planes ≡ plane_count
-  pub sum : (t : ℕ) → count_at (take j planes) t + 2 ^ j * (digit carry t + both_at (drop (2 * j) sums) t) ≡ both_at sums t
+  pub sum : (t : ℕ) → count_at (take j planes) t + 2 ^ j * (digit carry t + both_at (drop j sums) t) ≡ both_at sums t
 
-pub joining_start : (sums : List ℕ) {planes : List ℕ} → length planes ≡ plane_count → Joining sums planes 0 0
+pub joining_start : (sums : List Pair) {planes : List ℕ} → length planes ≡ plane_count → Joining sums planes 0 0
 unfolding count_at
 joining_start sums n = record { within = omega arith; size = n; sum = λ t. omega (arith, empty_digit t) }
 
@@ -195,9 +189,10 @@ unfolding count_at
 count_at-more [] p t = omega arith
 count_at-more (q ∷ planes) p t = rw pow-suc (omega (arith, count_at-more planes p t))
 
-module _ {sums planes : List ℕ} {j carry : ℕ} (k : Joining sums planes j carry) (s : Joinable sums) where
-  pub joining_more : j < plane_count → {ones twos : ℕ} → AddsThree (get_or sums (2 * j) 0) (get_or sums (2 * j + 1) 0) carry ones twos
-      → Joining sums (set planes j ones) (j + 1) twos
+module _ {sums : List Pair} {planes : List ℕ} {j carry : ℕ} (k : Joining sums planes j carry) (s : Joinable sums) where
+  pub joining_more : j < plane_count → {ones twos : ℕ}
+      → let p = get_or sums j no_pair in
+      AddsThree p.even p.odd carry ones twos → Joining sums (set planes j ones) (j + 1) twos
   joining_more h {ones} {twos} a = record {
     within = omega arith;
     size = simp length-set k.size;
@@ -222,18 +217,19 @@ module _ {sums planes : List ℕ} {j carry : ℕ} (k : Joining sums planes j car
 
 -- ---- thirty-two lines
 
-module _ {lines sums : List ℕ} (k : Fits lines sums) (n : length lines ≡ 32) {a₁ a₂ a₄ a₈ b₁ b₂ b₄ b₈ c₁ c₂ c₄ c₈ d₁ d₂ d₄ d₈ e₁ e₂ f₁ f₂ : ℕ}
-    (a : AddsEight (get_or sums 0 0) (get_or sums 2 0) (get_or sums 4 0) lines a₁ a₂ a₄ a₈)
-    (b : AddsEight (get_or sums 1 0) (get_or sums 3 0) (get_or sums 5 0) (take (length lines - 1) (drop 1 lines)) b₁ b₂ b₄ b₈)
-    (c : AddsEight a₁ a₂ a₄ (take (length lines - 16) (drop 16 lines)) c₁ c₂ c₄ c₈)
-    (d : AddsEight b₁ b₂ b₄ (take (length lines - 17) (drop 17 lines)) d₁ d₂ d₄ d₈)
-    (e : AddsThree (get_or sums 6 0) a₈ c₈ e₁ e₂)
-    (f : AddsThree (get_or sums 7 0) b₈ d₈ f₁ f₂) where
-  stored : List ℕ
-  stored = set (set (set (set (set (set (set (set sums 0 c₁) 1 d₁) 2 c₂) 3 d₂) 4 c₄) 5 d₄) 6 e₁) 7 f₁
+module _ {lines : List ℕ} {sums : List Pair} (k : Fits lines sums) (n : length lines ≡ 32)
+    {a₁ a₂ a₄ a₈ b₁ b₂ b₄ b₈ c₁ c₂ c₄ c₈ d₁ d₂ d₄ d₈ e₁ e₂ f₁ f₂ : ℕ}
+    (a : AddsEight (get_or sums 0 no_pair).even (get_or sums 1 no_pair).even (get_or sums 2 no_pair).even lines a₁ a₂ a₄ a₈)
+    (b : AddsEight (get_or sums 0 no_pair).odd (get_or sums 1 no_pair).odd (get_or sums 2 no_pair).odd (take 31 (drop 1 lines)) b₁ b₂ b₄ b₈)
+    (c : AddsEight a₁ a₂ a₄ (take 16 (drop 16 lines)) c₁ c₂ c₄ c₈)
+    (d : AddsEight b₁ b₂ b₄ (take 15 (drop 17 lines)) d₁ d₂ d₄ d₈)
+    (e : AddsThree (get_or sums 3 no_pair).even a₈ c₈ e₁ e₂)
+    (f : AddsThree (get_or sums 3 no_pair).odd b₈ d₈ f₁ f₂) where
+  abbrev pub stored : List Pair
+  stored = set (set (set (set sums 0 (pair c₁ d₁)) 1 (pair c₂ d₂)) 2 (pair c₄ d₄)) 3 (pair e₁ f₁)
 
   block-sum : (t : ℕ) → both_at stored t + 16 * (digit e₂ t + digit f₂ t) ≡ both_at sums t + occ lines t
-  unfolding stored occ count
+  unfolding occ count
   block-sum t =
       let low = sixteen lines t (omega arith) in
       let high = rw (drop-drop, drop-drop) at (sixteen (drop 16 lines) t (rw length-drop (omega arith))) in
@@ -244,19 +240,16 @@ module _ {lines sums : List ℕ} (k : Fits lines sums) (n : length lines ≡ 32)
         high,
         none,
         a.sum t,
-        rw (part-rest lines 1) at (b.sum t),
-        rw (part-rest lines 16) at (c.sum t),
-        rw (part-rest lines 17) at (d.sum t),
+        rw (take_all 31 (drop 1 lines) (rw length-drop (omega arith))) at (b.sum t),
+        rw (take_all 16 (drop 16 lines) (rw length-drop (omega arith))) at (c.sum t),
+        rw (take_all 15 (drop 17 lines) (rw length-drop (omega arith))) at (d.sum t),
         e.sum t,
         f.sum t,
-        both-eight sums c₁ d₁ c₂ d₂ c₄ d₄ e₁ f₁ t (omega (arith, k.size)),
+        both-four sums (pair c₁ d₁) (pair c₂ d₂) (pair c₄ d₄) (pair e₁ f₁) t (omega (arith, k.size)),
       )
 
-  pub block-fits : Raisable e₂ f₂ (set (set (set (set (set (set (set (set sums 0 c₁) 1 d₁) 2 c₂) 3 d₂) 4 c₄) 5 d₄) 6 e₁) 7 f₁)
-  unfolding stored
+  pub block-fits : Raisable (pair e₂ f₂) stored
   block-fits = record { size = simp length-set k.size; fits = λ t. omega (arith, block-sum t, k.fits t) }
 
-  pub block_added : {sums' : List ℕ} → Raised e₂ f₂ (set (set (set (set (set (set (set (set sums 0 c₁) 1 d₁) 2 c₂) 3 d₂) 4 c₄) 5 d₄) 6 e₁) 7 f₁) sums'
-      → Added lines sums sums'
-  unfolding stored
+  pub block_added : {sums' : List Pair} → Raised (pair e₂ f₂) stored sums' → Added lines sums sums'
   block_added r = record { size = r.size; sum = λ t. omega (arith, r.sum t, block-sum t) }

@@ -1,14 +1,18 @@
--- Two counts of all tips side by side: the planes of both in turn, those of one at the even places and those of the other at the odd ones.
+-- Two counts of all tips side by side: in pairs, a plane of each.
 use Rattle.std.specs.Prelude.{ℕ, ◌+◌, ◌*◌, ◌^◌, ◌≤◌, ◌<◌, ◌≡◌, List, [], ◌∷◌, length, get_or, drop}
 use Rattle.model.specs.Plan.{occ}
 use Rattle.placements.specs.Repeated.{repeated}
+use Rattle.counts.specs.declared.adders.Pair.{Pair}
 use Rattle.counts.specs.Counts.{plane_count, digit, count_at}
 
+-- how many planes of a pair have tip t
+abbrev pub pair_at : Pair → ℕ → ℕ
+pair_at p t = digit p.even t + digit p.odd t
+
 -- the sum of both counts of tip t
-unfoldable pub both_at : List ℕ → ℕ → ℕ
+unfoldable pub both_at : List Pair → ℕ → ℕ
 both_at [] t = 0
-both_at (p ∷ []) t = digit p t
-both_at (p ∷ q ∷ sums) t = digit p t + digit q t + 2 * both_at sums t
+both_at (p ∷ sums) t = pair_at p t + 2 * both_at sums t
 
 -- how many of eight lines have tip t: every other of sixteen
 unfoldable pub eight_at : List ℕ → ℕ → ℕ
@@ -22,29 +26,29 @@ pub record AddsEight (a b c : ℕ) (lines : List ℕ) (ones twos fours eights : 
       → digit ones t + 2 * digit twos t + 4 * digit fours t + 8 * digit eights t
       ≡ digit a t + 2 * digit b t + 4 * digit c t + eight_at lines t
 
--- both counts have room for 16 more for each tip of either carry
-pub record Raisable (even odd : ℕ) (sums : List ℕ) : Type 0 where
-  pub size : length sums ≡ 2 * plane_count
-  pub fits : (t : ℕ) → both_at sums t + 16 * (digit even t + digit odd t) < 2 ^ plane_count
+-- both counts have room for 16 more for each tip of the carries
+pub record Raisable (carry : Pair) (sums : List Pair) : Type 0 where
+  pub size : length sums ≡ plane_count
+  pub fits : (t : ℕ) → both_at sums t + 16 * pair_at carry t < 2 ^ plane_count
 
 -- they have it
-pub record Raised (even odd : ℕ) (old sums : List ℕ) : Type 0 where
-  pub size : length sums ≡ 2 * plane_count
-  pub sum : (t : ℕ) → both_at sums t ≡ both_at old t + 16 * (digit even t + digit odd t)
+pub record Raised (carry : Pair) (old sums : List Pair) : Type 0 where
+  pub size : length sums ≡ plane_count
+  pub sum : (t : ℕ) → both_at sums t ≡ both_at old t + 16 * pair_at carry t
 
 -- both counts have room for the occurrences among the lines
-pub record Fits (lines sums : List ℕ) : Type 0 where
-  pub size : length sums ≡ 2 * plane_count
+pub record Fits (lines : List ℕ) (sums : List Pair) : Type 0 where
+  pub size : length sums ≡ plane_count
   pub fits : (t : ℕ) → both_at sums t + occ lines t < 2 ^ plane_count
 
 -- they have them
-pub record Added (lines old sums : List ℕ) : Type 0 where
-  pub size : length sums ≡ 2 * plane_count
+pub record Added (lines : List ℕ) (old sums : List Pair) : Type 0 where
+  pub size : length sums ≡ plane_count
   pub sum : (t : ℕ) → both_at sums t ≡ both_at old t + occ lines t
 
 -- they have those among the lines before line i
-pub record AddedTo (i : ℕ) (lines old sums : List ℕ) : Type 0 where
-  pub size : length sums ≡ 2 * plane_count
+pub record AddedTo (i : ℕ) (lines : List ℕ) (old sums : List Pair) : Type 0 where
+  pub size : length sums ≡ plane_count
   pub within : i ≤ length lines
   pub sum : (t : ℕ) → both_at sums t + occ (drop i lines) t ≡ both_at old t + occ lines t
 
@@ -54,29 +58,29 @@ pub record NoTip (lines : List ℕ) : Type 0 where
   pub none : (t : ℕ) → occ lines t ≡ 0
 
 -- both counts are 0
-pub record Empty (sums : List ℕ) : Type 0 where
-  pub size : length sums ≡ 2 * plane_count
+pub record Empty (sums : List Pair) : Type 0 where
+  pub size : length sums ≡ plane_count
   pub none : (t : ℕ) → both_at sums t ≡ 0
 
 -- they have room for themselves once more
-pub record Doublable (sums : List ℕ) : Type 0 where
-  pub size : length sums ≡ 2 * plane_count
+pub record Doublable (sums : List Pair) : Type 0 where
+  pub size : length sums ≡ plane_count
   pub fits : (t : ℕ) → 2 * both_at sums t < 2 ^ plane_count
 
-pub record Doubled (old sums : List ℕ) : Type 0 where
-  pub size : length sums ≡ 2 * plane_count
+pub record Doubled (old sums : List Pair) : Type 0 where
+  pub size : length sums ≡ plane_count
   pub sum : (t : ℕ) → both_at sums t ≡ 2 * both_at old t
 
 -- their sum has room in one count
-pub record Joinable (sums : List ℕ) : Type 0 where
-  pub size : length sums ≡ 2 * plane_count
+pub record Joinable (sums : List Pair) : Type 0 where
+  pub size : length sums ≡ plane_count
   pub fits : (t : ℕ) → both_at sums t < 2 ^ plane_count
 
-pub record Joined (sums planes : List ℕ) : Type 0 where
+pub record Joined (sums : List Pair) (planes : List ℕ) : Type 0 where
   pub size : length planes ≡ plane_count
   pub sum : (t : ℕ) → count_at planes t ≡ both_at sums t
 
 -- they have the occurrences of each tip in the placements
-pub record Whole (qs lines sums : List ℕ) : Type 0 where
-  pub size : length sums ≡ 2 * plane_count
+pub record Whole (qs lines : List ℕ) (sums : List Pair) : Type 0 where
+  pub size : length sums ≡ plane_count
   pub sum : (t : ℕ) → both_at sums t ≡ occ (repeated qs lines) t

@@ -1,9 +1,9 @@
 // The occurrences of all tips added up, thirty-two lines at a time: in two counts side by side, so that the compiler adds both at once.
-ghost use Rattle.std.specs.Prelude.{◌≡◌, ◌++◌, ◌+◌, ◌≤◌, ◌<◌, length, drop};
-ghost use Rattle.counts.specs.Counts.{plane_count, AddsThree};
-ghost use Rattle.counts.specs.Sums.{AddsEight, Raisable, Raised, NoTip, Empty, Fits, Added, AddedTo, Doublable, Doubled, Joinable, Joined};
+ghost use Rattle.std.specs.Prelude.{◌≤◌, length};
+ghost use Rattle.counts.specs.Counts.{AddsThree};
+ghost use Rattle.counts.specs.Sums.{AddsEight, Raisable, Raised, Fits, Added, Doublable, Doubled, Joinable, Joined};
 
-// The two binary digits of a small count of each tip.
+// The two binary digits of a small count of each tip. Like the four of `Low` they have names: an array of planes would be no plainer.
 #[derive(Clone, Copy)]
 struct Sum {
     ones: u64,
@@ -50,131 +50,117 @@ fn add_eight(ones: u64, twos: u64, fours: u64, lines: &[u64]) -> Low
     }
 }
 
+// A plane of each of two counts.
+#[derive(Clone, Copy)]
+pub struct Pair {
+    pub even: u64,
+    pub odd: u64,
+}
+
 // 16 more for each tip of either carry, through all planes; a test of what is left of the carries would cost more than it saves.
-fn carry_up(even: u64, odd: u64, sums: &mut [u64])
-    requires { Raisable even odd sums.old }
-    ensures { Raised even odd sums.old sums.new }
+fn carry_up(carry: Pair, sums: &mut [Pair; crate::PLANES])
+    requires { Raisable carry sums.old }
+    ensures { Raised carry sums.old sums.new }
 {
-    let mut left = even;
-    let mut right = odd;
-    let mut j = 4;
-    while j < crate::PLANES {
-        let i = 2 * j;
-        let first = sums[i];
-        let second = sums[i + 1];
-        sums[i] = first ^ left;
-        sums[i + 1] = second ^ right;
-        left = first & left;
-        right = second & right;
-        j += 1;
+    let mut left = carry;
+    // A range of places: the planes from the fifth on as a slice of their own would be no plainer.
+    for j in 4..crate::PLANES {
+        let old = sums[j];
+        sums[j] = Pair {
+            even: old.even ^ left.even,
+            odd: old.odd ^ left.odd,
+        };
+        left = Pair {
+            even: old.even & left.even,
+            odd: old.odd & left.odd,
+        };
     }
 }
 
 // Thirty-two lines more.
-pub fn add_block(lines: &[u64], sums: &mut [u64])
-    requires { Fits lines.now sums.old × (length lines.now ≡ 32) }
+pub fn add_block(lines: &[u64; 32], sums: &mut [Pair; crate::PLANES])
+    requires { Fits lines.now sums.old }
     ensures { Added lines.now sums.old sums.new }
 {
-    let a = add_eight(sums[0], sums[2], sums[4], lines);
-    let b = add_eight(sums[1], sums[3], sums[5], &lines[1..]);
+    let a = add_eight(sums[0].even, sums[1].even, sums[2].even, lines);
+    let b = add_eight(sums[0].odd, sums[1].odd, sums[2].odd, &lines[1..]);
     let c = add_eight(a.ones, a.twos, a.fours, &lines[16..]);
     let d = add_eight(b.ones, b.twos, b.fours, &lines[17..]);
-    let e = add_three(sums[6], a.eights, c.eights);
-    let f = add_three(sums[7], b.eights, d.eights);
-    sums[0] = c.ones;
-    sums[1] = d.ones;
-    sums[2] = c.twos;
-    sums[3] = d.twos;
-    sums[4] = c.fours;
-    sums[5] = d.fours;
-    sums[6] = e.ones;
-    sums[7] = f.ones;
-    carry_up(e.twos, f.twos, sums);
+    let e = add_three(sums[3].even, a.eights, c.eights);
+    let f = add_three(sums[3].odd, b.eights, d.eights);
+    sums[0] = Pair {
+        even: c.ones,
+        odd: d.ones,
+    };
+    sums[1] = Pair {
+        even: c.twos,
+        odd: d.twos,
+    };
+    sums[2] = Pair {
+        even: c.fours,
+        odd: d.fours,
+    };
+    sums[3] = Pair {
+        even: e.ones,
+        odd: f.ones,
+    };
+    let carry = Pair {
+        even: e.twos,
+        odd: f.twos,
+    };
+    carry_up(carry, sums);
 }
 
-// As many whole blocks as there are; gives the first line that is left.
-pub fn add_blocks(lines: &[u64], sums: &mut [u64]) -> usize
-    requires { Fits lines.now sums.old }
-    ensures { AddedTo result lines.now sums.old sums.new × (length lines.now < result + 32) }
-{
-    let mut i = 0;
-    while 32 <= lines.len() - i {
-        let end = i + 32;
-        add_block(&lines[i..end], sums);
-        i = end;
-    }
-    i
-}
-
-pub fn no_lines() -> [u64; 32]
-    ensures { NoTip result }
-{
-    [0; 32]
-}
-
-// The lines in the place of as many.
-fn copy_lines(lines: &[u64], chosen: &mut [u64])
-    requires { length lines.now ≤ length chosen.old }
-    ensures { chosen.new ≡ lines.now ++ drop (length lines.now) chosen.old }
-{
-    let mut i = 0;
-    while i < lines.len() {
-        chosen[i] = lines[i];
-        i += 1;
-    }
-}
-
-// Less than a block.
-pub fn add_rest(lines: &[u64], sums: &mut [u64])
-    requires { Fits lines.now sums.old × (length lines.now ≤ 32) }
+// Less than a block: lines that allow no tip make it whole.
+fn add_rest(lines: &[u64], sums: &mut [Pair; crate::PLANES])
+    requires fits { Fits lines.now sums.old }
+    requires few { length lines.now ≤ 32 }
     ensures { Added lines.now sums.old sums.new }
 {
-    if lines.len() == 0 {
+    if lines.is_empty() {
         return;
     }
-    let mut chosen = no_lines();
-    copy_lines(lines, &mut chosen);
+    let mut chosen = [0; 32];
+    chosen[..lines.len()].copy_from_slice(lines);
     add_block(&chosen, sums);
 }
 
-pub fn no_sums() -> [u64; 24]
-    ensures { Empty result }
+// All lines, a block at a time.
+pub fn add_all(lines: &[u64], sums: &mut [Pair; crate::PLANES])
+    requires { Fits lines.now sums.old }
+    ensures { Added lines.now sums.old sums.new }
 {
-    [0; 24]
+    let (blocks, rest) = lines.as_chunks::<32>();
+    for block in blocks {
+        add_block(block, sums);
+    }
+    add_rest(rest, sums);
 }
 
 // Both counts twice: each plane moves up by one.
-pub fn double(sums: &mut [u64])
+pub fn double(sums: &mut [Pair; crate::PLANES])
     requires { Doublable sums.old }
     ensures { Doubled sums.old sums.new }
 {
-    let mut even = 0;
-    let mut odd = 0;
-    let mut j = 0;
-    while j < crate::PLANES {
-        let i = 2 * j;
-        let first = sums[i];
-        let second = sums[i + 1];
-        sums[i] = even;
-        sums[i + 1] = odd;
-        even = first;
-        odd = second;
-        j += 1;
+    let mut lower = Pair { even: 0, odd: 0 };
+    for sum in sums.iter_mut() {
+        let old = *sum;
+        *sum = lower;
+        lower = old;
     }
 }
 
 // The sum of both counts.
-pub fn join(sums: &[u64], planes: &mut [u64])
-    requires { Joinable sums.now × (length planes.old ≡ plane_count) }
-    ensures { Joined sums.now planes.new }
+pub fn join(sums: &[Pair; crate::PLANES]) -> [u64; crate::PLANES]
+    requires { Joinable sums.now }
+    ensures { Joined sums.now result }
 {
+    let mut planes = [0; crate::PLANES];
     let mut carry = 0;
-    let mut j = 0;
-    while j < crate::PLANES {
-        let i = 2 * j;
-        let sum = add_three(sums[i], sums[i + 1], carry);
-        planes[j] = sum.ones;
-        carry = sum.twos;
-        j += 1;
+    for (j, sum) in sums.iter().enumerate() {
+        let both = add_three(sum.even, sum.odd, carry);
+        planes[j] = both.ones;
+        carry = both.twos;
     }
+    planes
 }

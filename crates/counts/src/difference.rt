@@ -2,18 +2,15 @@
 ghost use Rattle.counts.specs.Difference.{Subtractable, Subtracted};
 
 // A full subtractor for each plane: the borrow goes to the next.
-pub fn subtract(gone: &[u64], planes: &mut [u64])
+pub fn subtract(gone: &[u64; crate::PLANES], planes: &mut [u64; crate::PLANES])
     requires { Subtractable gone.now planes.old }
     ensures { Subtracted gone.now planes.old planes.new }
 {
     let mut borrow = 0;
-    let mut j = 0;
-    while j < crate::PLANES {
-        let less = gone[j];
+    for (j, &less) in gone.iter().enumerate() {
         let either = planes[j] ^ less;
         let rest = either ^ borrow;
         borrow = (either & less) | (rest & borrow);
         planes[j] = rest;
-        j += 1;
     }
 }

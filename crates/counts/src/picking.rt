@@ -2,8 +2,11 @@
 ghost use Rattle.std.specs.Prelude.{◌≡◌, ◌++◌, ◌+◌, ◌≤◌, ◌<◌, length, drop};
 ghost use Rattle.model.specs.Count.{All};
 ghost use Rattle.counts.specs.Counts.{Countable};
-ghost use Rattle.counts.specs.Sums.{Empty, Fits, Added, AddedTo, Whole};
+ghost use Rattle.counts.specs.Sums.{Empty, Fits, Added, Whole};
 ghost use Rattle.counts.specs.Picked.{pick_by, picked, Between};
+
+use crate::adders;
+use crate::adders::Pair;
 
 // A number that is not above any quantity, and one that is not below any.
 #[derive(Clone, Copy)]
@@ -18,11 +21,9 @@ pub fn bounds_of(quantities: &[u8]) -> Bounds
 {
     let mut low = 255;
     let mut high = 0;
-    let mut i = 0;
-    while i < quantities.len() {
-        low &= quantities[i];
-        high |= quantities[i];
-        i += 1;
+    for &quantity in quantities {
+        low &= quantity;
+        high |= quantity;
     }
     Bounds { low, high }
 }
@@ -32,64 +33,66 @@ fn pick(j: usize, quantity: u8, set: u64) -> u64
     requires { j < 8 }
     ensures { result ≡ pick_by j quantity set }
 {
-    let digit = ((quantity >> j) % 2) as u64;
+    let digit = u64::from((quantity >> j) % 2);
     set * digit
 }
 
 // The lines that have the digit j, in the place of as many lines.
 fn pick_lines(j: usize, lines: &[u64], quantities: &[u8], chosen: &mut [u64])
-    requires { (j < 8) × (length quantities.now ≡ length lines.now) × (length lines.now ≤ length chosen.old) }
+    requires digit { j < 8 }
+    requires same { length quantities.now ≡ length lines.now }
+    requires room { length lines.now ≤ length chosen.old }
     ensures { chosen.new ≡ picked j quantities.now lines.now
         ++ drop (length lines.now) chosen.old }
 {
-    let mut i = 0;
-    while i < lines.len() {
-        chosen[i] = pick(j, quantities[i], lines[i]);
-        i += 1;
+    for (i, &set) in lines.iter().enumerate() {
+        chosen[i] = pick(j, quantities[i], set);
     }
 }
 
-// As many whole blocks of the lines that have the digit j as there are; gives the first line that is left.
-fn pick_blocks(j: usize, lines: &[u64], quantities: &[u8], sums: &mut [u64]) -> usize
-    requires { (j < 8) × (length quantities.now ≡ length lines.now) × Fits (picked j quantities.now lines.now) sums.old }
-    ensures { AddedTo result (picked j quantities.now lines.now) sums.old sums.new
-        × (result ≤ length lines.now) × (length lines.now < result + 32) }
-{
-    let mut chosen = crate::adders::no_lines();
-    let mut i = 0;
-    while 32 <= lines.len() - i {
-        let end = i + 32;
-        pick_lines(j, &lines[i..end], &quantities[i..end], &mut chosen);
-        crate::adders::add_block(&chosen, sums);
-        i = end;
-    }
-    i
-}
-
-// Less than a block of them.
-pub fn pick_rest(j: usize, lines: &[u64], quantities: &[u8], sums: &mut [u64])
-    requires { (j < 8) × (length quantities.now ≡ length lines.now) × (length lines.now ≤ 32)
-        × Fits (picked j quantities.now lines.now) sums.old }
+// Less than a block of them: lines that allow no tip make it whole.
+fn pick_rest(j: usize, lines: &[u64], quantities: &[u8], sums: &mut [Pair; crate::PLANES])
+    requires digit { j < 8 }
+    requires same { length quantities.now ≡ length lines.now }
+    requires few { length lines.now ≤ 32 }
+    requires fits { Fits (picked j quantities.now lines.now) sums.old }
     ensures { Added (picked j quantities.now lines.now) sums.old sums.new }
 {
-    if lines.len() == 0 {
+    if lines.is_empty() {
         return;
     }
-    let mut chosen = crate::adders::no_lines();
+    let mut chosen = [0; 32];
     pick_lines(j, lines, quantities, &mut chosen);
-    crate::adders::add_block(&chosen, sums);
+    adders::add_block(&chosen, sums);
+}
+
+// All lines that have the digit j, a block at a time.
+fn add_digit(j: usize, lines: &[u64], quantities: &[u8], sums: &mut [Pair; crate::PLANES])
+    requires digit { j < 8 }
+    requires same { length quantities.now ≡ length lines.now }
+    requires fits { Fits (picked j quantities.now lines.now) sums.old }
+    ensures { Added (picked j quantities.now lines.now) sums.old sums.new }
+{
+    let (blocks, rest) = lines.as_chunks::<32>();
+    let (many, few) = quantities.as_chunks::<32>();
+    let mut chosen = [0; 32];
+    for (i, block) in blocks.iter().enumerate() {
+        pick_lines(j, block, &many[i], &mut chosen);
+        adders::add_block(&chosen, sums);
+    }
+    pick_rest(j, rest, few, sums);
 }
 
 // All placements, where no quantity is above the most.
-pub fn add_digits(most: u8, lines: &[u64], quantities: &[u8], sums: &mut [u64])
-    requires { Countable quantities.now lines.now × All (λ q. q ≤ most) quantities.now × Empty sums.old }
+pub fn add_digits(most: u8, lines: &[u64], quantities: &[u8], sums: &mut [Pair; crate::PLANES])
+    requires countable { Countable quantities.now lines.now }
+    requires most { All (λ q. q ≤ most) quantities.now }
+    requires empty { Empty sums.old }
     ensures { Whole quantities.now lines.now sums.new }
 {
-    let mut j = (8 - u8::leading_zeros(most)) as usize;
-    while 0 < j {
-        j -= 1;
-        crate::adders::double(sums);
-        let i = pick_blocks(j, lines, quantities, sums);
-        pick_rest(j, &lines[i..], &quantities[i..], sums);
+    let digits = (u8::BITS - most.leading_zeros()) as usize;
+    for j in (0..digits).rev() {
+        adders::double(sums);
+        add_digit(j, lines, quantities, sums);
     }
 }

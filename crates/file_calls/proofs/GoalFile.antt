@@ -1,23 +1,27 @@
 -- A pair goal on a file: the struck lines are written, and what is written reads back as them, of the same rack with the same quantities.
 use Prim.Native.Nat.{ℕ}
-use mathlib.Core.Path.{◌≡◌, refl, sym, ap, ◌∙◌}
+use mathlib.Core.Path.{◌≡◌, refl, sym, ap, subst, ◌∙◌}
 use mathlib.Core.Logic.{◌↔◌}
-use mathlib.Core.List.{List}
+use mathlib.Core.List.{List, ◌++◌}
 use native.Mathlib.Omega.{arith}
-use lib.ListN.{length, take}
+use lib.ListN.{length, take, drop, length-append, length-drop}
+use lib.Seq.{length-take-le}
 use Rattle.placements.specs.Good.{GoodLines}
-use Rattle.refusal.specs.declared.Refusal.{Refusal}
-use Rattle.refusal.specs.Refusal.{lent_by, Given}
-use Rattle.refusal.proofs.Laws.{number_of}
+use Rattle.refusal.specs.Told.{Refusal}
+use Rattle.refusal.specs.declared.Refused.{Refused}
+use Rattle.refusal.specs.Reasons.{told_of}
+use Rattle.refusal.specs.Refusal.{none, lent_by, Given}
+use Rattle.refusal.proofs.Laws.{number_of, reason_not_0, lent_front}
 use Rattle.goals.specs.Goal.{strike}
 use Rattle.job.specs.Job.{Bytes, version_for, rack_in, sets_in, quantities_in, read_refusal, InShorterForm, ReadsAs}
 use Rattle.job.proofs.Reading.{read_good}
-use Rattle.line_calls.specs.declared.FileAnswer.{FileAnswer}
+use Rattle.line_calls.specs.Answers.{FileAnswer}
 use Rattle.line_calls.specs.Lines.{write_of, write_buffer}
 use Rattle.line_calls.specs.Goal.{goal_asked, goal_of, struck_sets, NoneMeets}
 use Rattle.line_calls.proofs.PairGoal as laws
+use Rattle.line_calls.proofs.JobFile.{write_stopped}
 use Rattle.line_calls.proofs.Refused.{Same, goal_same, write_same, write_buffer_same}
-use Rattle.file_calls.specs.declared.Outcome.{Outcome}
+use Rattle.file_calls.specs.Outcomes.{Outcome, refused_outcome}
 use Rattle.file_calls.specs.Goal.{file_outcome, goal_refusal_in, struck_in, goal_in, goal_file_in, GoalRuleOf}
 use Rattle.file_calls.proofs.ReadLines.{AsRead}
 use Rattle.file_calls.proofs.WrittenFile.{left-lines, given-left, same_number, decided, earlier_none, reads, shorter}
@@ -70,6 +74,24 @@ module _ (file : List ℕ) {d : Refusal} (e : d ≡ read_refusal file) {m n : �
         ∙ ap (λ x. file_outcome (write_of x (quantities_in file) (struck_in file K) (length out))) refusal_in,
     g ∙ write_buffer_same r same_struck out ∙ ap (λ x. write_buffer x (rack_in file) (quantities_in file) (struck_in file K) out) refusal_in,
   )
+
+-- ---- the places after striking changed those of the lines
+
+module _ {m n : ℕ} {qs sets : List ℕ} (given : Given none m n qs sets) (K : ℕ)
+    (p : none ≡ goal_of none m (take n qs) (take n sets) K) {new : List ℕ}
+    (q : new ≡ struck_sets none m (take n qs) (take n sets) K (take n sets)) (size : length new ≡ length (take n sets)) where
+  front : length (take n sets) ≡ n
+  front = length-take-le n sets (given.room refl)
+
+  pub whole-struck : new ++ drop n sets ≡ struck_sets none m (take n qs) (take n sets) K sets
+  unfolding struck_sets
+  whole-struck =
+      let r = goal_of none m (take n qs) (take n sets) K in
+      ap (λ l. l ++ drop n sets) q ∙ rw front (lent_front r n (strike m (take n qs) (take n sets) K) sets (given.room refl))
+
+  pub given-whole : Given none m n qs (new ++ drop n sets)
+  given-whole =
+      given-struck given K p whole-struck (omega (arith, length-append new (drop n sets), length-drop n sets, size, front, given.room refl))
 
 -- ---- the rule
 
@@ -124,3 +146,20 @@ module _ (file : List ℕ) (K : ℕ) (out : List ℕ) (bytes : Bytes file) where
           refuses = refuses;
         };
       }
+
+-- the rule of what is given and left, where these are what striking gives and leaves
+pub goal-ruled : (file : List ℕ) (K : ℕ) (out : List ℕ) → Bytes file → {o : Outcome} {last : List ℕ}
+    → o ≡ goal_in file K (length out) → last ≡ goal_file_in file K out → GoalRuleOf file K last o
+goal-ruled file K out bytes {o} {last} p q =
+    subst (λ x. GoalRuleOf file K x o) (sym q)
+    (subst (λ x. GoalRuleOf file K (goal_file_in file K out) x) (sym p) (goal-rule file K out bytes))
+
+-- striking is refused: nothing is written
+pub goal-refused : (file : List ℕ) → none ≡ read_refusal file → {m n : ℕ} {qs sets : List ℕ} → Given none m n qs sets
+    → (none.number ≡ 0 → AsRead file m (take n qs) (take n sets)) → (K : ℕ) (out : List ℕ) (e : Refused)
+    → told_of e ≡ goal_of none m (take n qs) (take n sets) K
+    → (refused_outcome e 0 ≡ goal_in file K (length out)) × (out ≡ goal_file_in file K out)
+goal-refused file r {m} {n} {qs} {sets} given same K out e p =
+    let left = struck_sets none m (take n qs) (take n sets) K sets in
+    let (f, g) = write_stopped (told_of e) m (take n qs) (take n left) out (reason_not_0 e.reason) in
+    goal-in file r given same K p {last = left} refl out f g

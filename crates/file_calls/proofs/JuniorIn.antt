@@ -4,10 +4,10 @@ use mathlib.Core.Path.{◌≡◌, sym, ap, ◌∙◌}
 use mathlib.Core.List.{List}
 use lib.ListN.{length}
 use Rattle.placements.specs.Good.{GoodLines}
-use Rattle.refusal.specs.declared.Refusal.{Refusal}
+use Rattle.refusal.specs.Told.{Refusal}
 use Rattle.refusal.proofs.Laws.{number_of}
 use Rattle.job.specs.Job.{rack_in, sets_in, quantities_in, read_refusal}
-use Rattle.line_calls.specs.declared.JuniorAnswer.{JuniorAnswer}
+use Rattle.line_calls.specs.Answers.{JuniorAnswer}
 use Rattle.line_calls.specs.Junior as Lines
 use Rattle.line_calls.proofs.Refused.{junior_same, junior_buffer_same}
 use Rattle.line_calls.proofs.JuniorPlan.{junior_rule}

@@ -1,28 +1,37 @@
 -- Keep within k on a file: the kept lines are written, and what is written reads back as the pruned lines of the same rack with the same quantities.
 use Prim.Native.Nat.{ℕ}
-use mathlib.Core.Path.{◌≡◌, refl, sym, ap, ◌∙◌}
+use mathlib.Core.Path.{◌≡◌, refl, sym, ap, subst, ◌∙◌}
 use mathlib.Core.Logic.{◌↔◌}
-use mathlib.Core.List.{List}
+use mathlib.Core.List.{List, ◌++◌}
 use native.Mathlib.Omega.{arith}
-use lib.IntN.{ℤ}
-use lib.ListN.{length, take}
+use lib.IntN.{ℤ, pos}
+use mathlib.Core.Bool.{Bool, true, false, cond}
+use lib.Dec.{eqb, ltb}
+use lib.ListN.{length, take, drop, length-append, length-drop}
+use lib.Seq.{length-take-le}
 use Rattle.model.specs.CommonTip.{margin}
 use Rattle.placements.specs.Repeated.{repeated}
 use Rattle.placements.specs.Good.{GoodLines}
 use Rattle.placements.specs.Keep.{prune_q}
-use Rattle.refusal.specs.declared.Refusal.{Refusal}
-use Rattle.refusal.specs.Refusal.{none, lent_by, Given}
-use Rattle.job.specs.Job.{Bytes, version_for, rack_in, sets_in, quantities_in, read_refusal, InShorterForm, ReadsAs}
+use Rattle.refusal.specs.Told.{Refusal}
+use Rattle.refusal.specs.Refusal.{none, or_else, when, lent_by, Given}
+use Rattle.job.specs.Job.{Bytes, file_length, version_for, rack_in, sets_in, quantities_in, read_refusal, InShorterForm, ReadsAs}
 use Rattle.job.proofs.Reading.{read_good}
-use Rattle.call_refusals.specs.Calls.{keep_refusal}
+use Rattle.call_refusals.specs.Calls.{is_negative, keep_refusal, write_refusal}
 use Rattle.call_refusals.proofs.Calls.{keep-none}
-use Rattle.line_calls.specs.declared.KeepAnswer.{KeepAnswer}
-use Rattle.line_calls.specs.declared.FileAnswer.{FileAnswer}
+use Rattle.std.specs.Prelude.{Ok, Err}
+use Rattle.refusal.specs.declared.Refused.{Refused}
+use Rattle.refusal.specs.declared.Unkept.{Unkept}
+use Rattle.refusal.specs.Reasons.{reason_number, told_of}
+use Rattle.refusal.proofs.Laws.{reason_not_0, lent_front}
+use Rattle.line_calls.proofs.JobFile.{write_stopped}
+use Rattle.line_calls.specs.Answers.{KeepAnswer, keep_told, file_told}
+use Rattle.line_calls.specs.Answers.{FileAnswer}
 use Rattle.line_calls.specs.Lines.{keep_of, sets_kept, write_of, write_buffer}
 use Rattle.line_calls.specs.Rules.{NoneWithin}
 use Rattle.line_calls.proofs.KeepWithin.{keep_exact, keep-refuses, keep_good}
 use Rattle.line_calls.proofs.Refused.{Same, keep_same, write_same, write_buffer_same}
-use Rattle.file_calls.specs.declared.Outcome.{Outcome}
+use Rattle.file_calls.specs.Outcomes.{Outcome, twos_complement, refused_outcome}
 use Rattle.file_calls.specs.Calls.{keep_outcome, keep_in, keep_file_in}
 use Rattle.file_calls.specs.Rules.{KeepRuleOf}
 use Rattle.file_calls.proofs.ReadLines.{AsRead}
@@ -149,3 +158,92 @@ module _ (file : List ℕ) (k : ℕ) (out : List ℕ) where
           rw (as_pruned z).sets_are (keep_exact (read_refusal file) k (read_good file) free);
       refuses = refuses;
     }
+
+-- a refusal of keep alone is none of the output's, and that of the output is 11
+pub keep-number : (z : ℤ) → eqb (keep_refusal none z).number 11 ≡ false
+unfolding keep_refusal or_else
+keep-number z = by (is_negative z)
+  where
+    by : (b : Bool) → eqb (when b 26).number 11 ≡ false
+    by true = refl
+    by false = refl
+
+pub write-number : (v n room : ℕ) → ((write_refusal none v n room).number ≡ 0 → ⊥) → eqb (write_refusal none v n room).number 11 ≡ true
+unfolding write_refusal or_else
+write-number v n room = by (ltb room (file_length v n))
+  where
+    by : (b : Bool) → ((when b 11).number ≡ 0 → ⊥) → eqb (when b 11).number 11 ≡ true
+    by true f = refl
+    by false f = absurd (f refl)
+
+-- ---- the places after keep changed those of the lines
+
+module _ {m n : ℕ} {qs sets : List ℕ} (given : Given none m n qs sets) (k : ℕ) {z : ℤ}
+    (p : keep_told (Ok z) ≡ keep_of none m (take n qs) (take n sets) k) {new : List ℕ}
+    (q : new ≡ sets_kept none m (take n qs) (take n sets) k (take n sets)) (size : length new ≡ length (take n sets)) where
+  front : length (take n sets) ≡ n
+  front = length-take-le n sets (given.room refl)
+
+  pub whole-kept : new ++ drop n sets ≡ sets_kept none m (take n qs) (take n sets) k sets
+  unfolding sets_kept
+  whole-kept =
+      let r = keep_refusal none (margin m (repeated (take n qs) (take n sets)) k) in
+      let new-lines = prune_q m (take n qs) (take n sets) k in
+      ap (λ l. l ++ drop n sets) q ∙ rw front (lent_front r n new-lines sets (given.room refl))
+
+  pub given-whole : Given none m n qs (new ++ drop n sets)
+  given-whole =
+      given-kept given k p whole-kept (omega (arith, length-append new (drop n sets), length-drop n sets, size, front, given.room refl))
+
+-- ---- what is given by a result
+
+-- the rule of what is given and left, where these are what keep gives and leaves
+pub kept-ruled : (file : List ℕ) (k : ℕ) (out : List ℕ) → Bytes file → {o : Outcome} {last : List ℕ}
+    → o ≡ keep_in file k (length out) → last ≡ keep_file_in file k out → KeepRuleOf file k last o
+kept-ruled file k out bytes {o} {last} p q =
+    subst (λ x. KeepRuleOf file k x o) (sym q)
+    (subst (λ x. KeepRuleOf file k (keep_file_in file k out) x) (sym p) (keep-rule file k out bytes))
+
+-- a refusal of writing tells no margin, and no other refusal but 26 has one
+no_margin : twos_complement (pos 0) ≡ 0
+unfolding twos_complement
+no_margin = refl
+
+module _ (file : List ℕ) (e : none ≡ read_refusal file) {m n : ℕ} {qs sets : List ℕ} (given : Given none m n qs sets)
+    (same : none.number ≡ 0 → AsRead file m (take n qs) (take n sets)) (k : ℕ) (out : List ℕ) where
+  -- keep is refused: nothing is written
+  pub margin-refused : (u : Unkept) → keep_told (Err u) ≡ keep_of none m (take n qs) (take n sets) k
+      → (refused_outcome u.refused (twos_complement u.margin) ≡ keep_in file k (length out)) × (out ≡ keep_file_in file k out)
+  unfolding keep_of
+  margin-refused u p =
+      let left = sets_kept none m (take n qs) (take n sets) k sets in
+      let (f, g) = write_stopped (told_of u.refused) m (take n qs) (take n left) out (reason_not_0 u.refused.reason) in
+      let (o, b) = keep-in file e given same k {kept = keep_told (Err u)} p {last = left} refl out f g in
+      let number : eqb (reason_number u.refused.reason) 11 ≡ false =
+      ap (λ a. eqb a.refusal.number 11) p ∙ keep-number (margin m (repeated (take n qs) (take n sets)) k) in
+      (ap (λ b. record { refusal = told_of u.refused; first = cond b 0 (twos_complement u.margin); second = 0; third = 0 }) (sym number) ∙ o, b)
+
+  module _ {z : ℤ} (p : keep_told (Ok z) ≡ keep_of none m (take n qs) (take n sets) k) {last : List ℕ}
+      (q : last ≡ sets_kept none m (take n qs) (take n sets) k sets) {bytes : List ℕ} where
+    -- the output has no room: no margin is told
+    pub write-refused : (w : Refused) → file_told (Err w) ≡ write_of none (take n qs) (take n last) (length out)
+        → bytes ≡ write_buffer none m (take n qs) (take n last) out
+        → (refused_outcome w (twos_complement (pos 0)) ≡ keep_in file k (length out)) × (bytes ≡ keep_file_in file k out)
+    unfolding write_of
+    write-refused w f g =
+        let (o, b) = keep-in file e given same k p q out f g in
+        let told = ap (λ a. a.refusal) f in
+        let number : eqb (reason_number w.reason) 11 ≡ true =
+        ap (λ r. eqb r.number 11) told
+        ∙ write-number (version_for (take n qs)) (length (take n last)) (length out)
+        (λ h. reason_not_0 w.reason (ap (λ r. r.number) told ∙ h)) in (
+          ap (refused_outcome w) no_margin
+              ∙ ap (λ b. record { refusal = told_of w; first = cond b 0 (twos_complement z); second = 0; third = 0 }) (sym number) ∙ o,
+          b,
+        )
+
+    pub kept-written : (size : ℕ) → file_told (Ok size) ≡ write_of none (take n qs) (take n last) (length out)
+        → bytes ≡ write_buffer none m (take n qs) (take n last) out
+        → (record { refusal = none; first = twos_complement z; second = size; third = 0 } ≡ keep_in file k (length out))
+        × (bytes ≡ keep_file_in file k out)
+    kept-written size f g = keep-in file e given same k p q out f g

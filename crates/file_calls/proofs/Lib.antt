@@ -5,3 +5,4 @@ pub mod KeptFile
 pub mod GoalFile
 pub mod TwoFiles
 pub mod JuniorIn
+pub mod Stopped

@@ -5,15 +5,15 @@ use mathlib.Core.List.{List}
 use lib.ListN.{length, take}
 use Rattle.model.specs.Choice.{Mounted}
 use Rattle.placements.specs.Good.{GoodLines}
-use Rattle.refusal.specs.declared.Refusal.{Refusal}
+use Rattle.refusal.specs.Told.{Refusal}
 use Rattle.refusal.proofs.Laws.{number_of}
 use Rattle.job.specs.Job.{rack_in, sets_in, quantities_in, read_refusal}
 use Rattle.reading.specs.Reading.{LinesRead}
 use Rattle.reading.proofs.Lines.{first_sets, first_quantities}
 use Rattle.call_refusals.specs.Calls.{mounted_refusal}
 use Rattle.call_refusals.proofs.Calls.{mounted_none, mounted_same, plan_none, best_none}
-use Rattle.line_calls.specs.declared.CommonAnswer.{CommonAnswer}
-use Rattle.line_calls.specs.declared.PlanAnswer.{PlanAnswer}
+use Rattle.line_calls.specs.Answers.{CommonAnswer}
+use Rattle.line_calls.specs.Answers.{PlanAnswer}
 use Rattle.line_calls.specs.Lines.{common_of, quick_of, quick_buffer, best_of, best_buffer, best_table, check_of}
 use Rattle.line_calls.specs.Rules.{CommonRule, HalfRule, BestRule}
 use Rattle.line_calls.proofs.Refused.{Same, common_same, quick_same, quick_buffer_same, best_same, best_buffer_same, best-table_same}

@@ -1,7 +1,7 @@
 -- Two files: from the lines that were read to what merging them and planning each alone give, and what is written reads back as the panel's lines.
 use Prim.Native.Nat.{ℕ, ◌+◌, ◌≤◌}
 use native.Mathlib.Omega.{arith}
-use mathlib.Core.Path.{◌≡◌, sym, refl, ap, ap₂, ◌∙◌}
+use mathlib.Core.Path.{◌≡◌, sym, refl, ap, ap₂, subst, ◌∙◌}
 use mathlib.Core.Bool.{Bool, true, false}
 use mathlib.Core.List.{List, ◌++◌}
 use lib.ListN.{length, take, drop}
@@ -10,25 +10,29 @@ use borrow.Author.Tests.{eqb-true, eqb-false}
 use Rattle.model.specs.Limits.{most_lines}
 use Rattle.placements.specs.Repeated.{total}
 use Rattle.placements.specs.Good.{GoodLines}
-use Rattle.refusal.specs.declared.Refusal.{Refusal}
+use Rattle.refusal.specs.Told.{Refusal}
+use Rattle.refusal.specs.declared.Refused.{Refused}
+use Rattle.refusal.specs.Reasons.{told_of}
 use Rattle.refusal.specs.Refusal.{accepts, Given}
-use Rattle.refusal.proofs.Laws.{number_of, or_none, accepted, later}
+use Rattle.refusal.proofs.Laws.{number_of, or_first, or_none, accepted, later, reason_not_0}
 use Rattle.goals.proofs.Append.{all_append}
 use Rattle.job.specs.Job.{Bytes, file_length, version_for, written_of, rack_in, sets_in, quantities_in, read_refusal, InShorterForm, ReadsAs}
 use Rattle.job.proofs.Reading.{bytes_quantities, read_good}
 use Rattle.job.proofs.Writing.{length-file_of, written_back}
 use Rattle.call_refusals.specs.Calls.{write_refusal}
 use Rattle.call_refusals.proofs.Calls.{plan_none, write_none}
-use Rattle.line_calls.specs.declared.FileAnswer.{FileAnswer}
+use Rattle.line_calls.specs.Answers.{FileAnswer}
 use Rattle.line_calls.specs.Lines.{write_of, write_buffer}
+use Rattle.line_calls.proofs.JobFile.{write_stopped}
 use Rattle.line_calls.proofs.Refused.{Same, write_same, write_buffer_same}
-use Rattle.panel.specs.declared.AloneAnswer.{AloneAnswer}
-use Rattle.panel.specs.Panel.{first_of, merge_of, merged_by, alone_of, alone_buffer}
+use Rattle.panel.specs.Answers.{AloneAnswer}
+use Rattle.panel.specs.Panel.{first_of, merge_refusal, merge_of, merged_by, alone_of, alone_buffer}
 use Rattle.panel.specs.Rules.{PanelRule, AloneRule}
+use Rattle.panel.proofs.BothPlans.{alone_stopped, alone_refused}
 use Rattle.panel.proofs.Panel.{good_append, panel-rule}
 use Rattle.panel.proofs.Merged.{Mergeable, merge_none, known, merged-lines, merged_quantities}
 use Rattle.panel.proofs.Refused.{merge_same, alone_same, alone_buffer_same, alone_rule_same}
-use Rattle.file_calls.specs.declared.Outcome.{Outcome}
+use Rattle.file_calls.specs.Outcomes.{Outcome, refused_outcome}
 use Rattle.file_calls.specs.Panel.{reads_refusal, merge_refusal_in, file_outcome, merge_of_files, merge_file_in, MergeRuleOf}
 use Rattle.file_calls.specs.Panel.{alone_outcome, alone_in, alone_plan_in, AloneRuleOf}
 use Rattle.file_calls.proofs.ReadLines.{AsRead}
@@ -84,6 +88,12 @@ module _ (first second : List ℕ) {d e state : Refusal} (p : d ≡ read_refusal
           alone_rule_same (λ z. same_both (free z)) rule,
         ),
       )
+
+  -- the refusal of merging what was read is that of merging the files
+  pub told-in : {r : Refusal} → r ≡ merge_of state m (take n qs) (take n sets) o (take k rs) (take k others) → r ≡ merge_refusal_in first second
+  told-in h =
+      h ∙ merge_same state same_both
+      ∙ ap (λ x. merge_of x (rack_in first) (quantities_in first) (sets_in first) (rack_in second) (quantities_in second) (sets_in second)) reads
 
   -- merging, then writing
   module _ {r : Refusal} (h : r ≡ merge_of state m (take n qs) (take n sets) o (take k rs) (take k others)) {last-qs last : List ℕ}
@@ -178,3 +188,46 @@ module _ (first second out : List ℕ) where
     same_rack = λ z. (reads_as z b c).rack-is;
     rule = λ z. let r = reads_as z b c in rw (r.quantities_are, r.sets_are) (lines-rule z);
   }
+
+-- ---- what is given by a result
+
+module _ (first second : List ℕ) where
+  -- planning alone, where a file is refused
+  pub alone_read : (e : Refused) → told_of e ≡ reads_refusal first second → (plan : List ℕ)
+      → (refused_outcome e 0 ≡ alone_in first second (length plan))
+      × ((plan ≡ alone_plan_in first second plan) × AloneRuleOf first second plan (refused_outcome e 0))
+  unfolding alone_in alone_plan_in
+  alone_read e r plan =
+      let n = reason_not_0 e.reason in
+      let stopped = alone_stopped (reads_refusal first second) (sets_in first) (sets_in second) (length plan)
+      (λ z. n (ap (λ x. x.number) r ∙ z)) in
+      let (a, (b, rule)) =
+      alone_refused (reads_refusal first second) (rack_in first) (quantities_in first) (sets_in first) (rack_in second) (quantities_in second)
+      (sets_in second) plan (r ∙ stopped) n in
+      (ap alone_outcome a, (b, rule))
+
+  -- the rule of what is given and left, where these are what merging gives and leaves
+  pub merge-ruled : (out : List ℕ) → Bytes first → Bytes second → {x : Outcome} {last : List ℕ}
+      → x ≡ merge_of_files first second (length out) → last ≡ merge_file_in first second out → MergeRuleOf first second last x
+  merge-ruled out b c {x} {last} p q =
+      subst (λ l. MergeRuleOf first second l x) (sym q)
+      (subst (λ y. MergeRuleOf first second (merge_file_in first second out) y) (sym p) (merge_rule first second out b c))
+
+  -- a file that is refused refuses the merge
+  pub reads-refused : (e : Refused) → told_of e ≡ reads_refusal first second → told_of e ≡ merge_refusal_in first second
+  unfolding merge_of merge_refusal
+  reads-refused e r = or_first r _ (reason_not_0 e.reason)
+
+  -- merging, where a file or the merge is refused: nothing is written
+  pub merge-refused : (e : Refused) → told_of e ≡ merge_refusal_in first second → (out : List ℕ) → Bytes first → Bytes second
+      → (refused_outcome e 0 ≡ merge_of_files first second (length out))
+      × ((out ≡ merge_file_in first second out) × MergeRuleOf first second out (refused_outcome e 0))
+  unfolding merge_of_files merge_file_in
+  merge-refused e r out b c =
+      let all-qs = quantities_in first ++ quantities_in second in
+      let all = sets_in first ++ sets_in second in
+      let (f, g) = write_stopped (told_of e) (rack_in first) all-qs all out (reason_not_0 e.reason) in
+      let told : refused_outcome e 0 ≡ merge_of_files first second (length out) =
+      ap file_outcome f ∙ ap (λ x. file_outcome (write_of x all-qs all (length out))) r in
+      let stays : out ≡ merge_file_in first second out = g ∙ ap (λ x. write_buffer x (rack_in first) all-qs all out) r in
+      (told, (stays, merge-ruled out b c told stays))

@@ -10,7 +10,7 @@ use lib.ListN.{length, take, drop}
 use lib.Seq.{length-take-le, take_at}
 use borrow.Author.Tests.{eqb-true}
 use Rattle.placements.specs.Good.{GoodLines}
-use Rattle.refusal.specs.declared.Refusal.{Refusal}
+use Rattle.refusal.specs.Told.{Refusal}
 use Rattle.refusal.specs.Refusal.{accepts, or_else, when, lent_by, Given}
 use Rattle.refusal.proofs.Laws.{accepted}
 use Rattle.job.specs.Job.{Bytes, file_length, paired, bytes_of_lines, file_of, version_for, written_of}

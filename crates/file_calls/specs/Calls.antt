@@ -1,22 +1,17 @@
 -- What each call gives for a job file: what it answers for the file's lines and their quantities after the refusal of reading.
-use Rattle.std.specs.Prelude.{ℕ, suc, ◌-◌, ◌^◌, cond, List, eqb, ℤ, pos, negsuc}
+use Rattle.std.specs.Prelude.{ℕ, cond, List, eqb}
 use Rattle.placements.specs.Keep.{prune_q}
 use Rattle.model.specs.Choice.{Mounted}
-use Rattle.refusal.specs.declared.Refusal.{Refusal}
+use Rattle.refusal.specs.Told.{Refusal}
 use Rattle.refusal.specs.Refusal.{told}
 use Rattle.call_refusals.specs.Calls.{mounted_refusal}
 use Rattle.job.specs.Job.{rack_in, count_in, sets_in, quantities_in, read_refusal}
-use Rattle.line_calls.specs.declared.CommonAnswer.{CommonAnswer}
-use Rattle.line_calls.specs.declared.PlanAnswer.{PlanAnswer}
-use Rattle.line_calls.specs.declared.KeepAnswer.{KeepAnswer}
-use Rattle.line_calls.specs.declared.FileAnswer.{FileAnswer}
+use Rattle.line_calls.specs.Answers.{CommonAnswer}
+use Rattle.line_calls.specs.Answers.{PlanAnswer}
+use Rattle.line_calls.specs.Answers.{KeepAnswer}
+use Rattle.line_calls.specs.Answers.{FileAnswer}
 use Rattle.line_calls.specs.Lines.{common_of, keep_of, quick_of, quick_buffer, best_of, best_buffer, best_table, check_of, write_of, write_buffer}
-use Rattle.file_calls.specs.declared.Outcome.{Outcome}
-
--- a signed number in the 64 bits of two's complement
-unfoldable pub twos_complement : ℤ → ℕ
-twos_complement (pos n) = n
-twos_complement (negsuc n) = 2 ^ 64 - suc n
+use Rattle.file_calls.specs.Outcomes.{Outcome, twos_complement}
 
 -- read: the rack size and the number of lines
 unfoldable pub read_in : List ℕ → Outcome

@@ -1,13 +1,13 @@
 -- Strike tips that miss a pair goal on a job file: what is given and written, and what it means.
 use Rattle.std.specs.Prelude.{ℕ, ◌≡◌, List, take}
-use Rattle.refusal.specs.declared.Refusal.{Refusal}
+use Rattle.refusal.specs.Told.{Refusal}
 use Rattle.refusal.specs.Refusal.{none}
 use Rattle.goals.specs.Goal.{strike}
 use Rattle.job.specs.Job.{rack_in, sets_in, quantities_in, read_refusal, InShorterForm}
-use Rattle.line_calls.specs.declared.FileAnswer.{FileAnswer}
+use Rattle.line_calls.specs.Answers.{FileAnswer}
 use Rattle.line_calls.specs.Lines.{write_of, write_buffer}
 use Rattle.line_calls.specs.Goal.{goal_asked, goal_of, GoalRule}
-use Rattle.file_calls.specs.declared.Outcome.{Outcome}
+use Rattle.file_calls.specs.Outcomes.{Outcome}
 
 -- the bytes of a file that is written
 abbrev pub file_outcome : FileAnswer → Outcome

@@ -2,9 +2,9 @@
 use Rattle.std.specs.Prelude.{ℕ, List, length}
 use Rattle.call_refusals.specs.Junior.{junior_refusal}
 use Rattle.job.specs.Job.{rack_in, sets_in, quantities_in, read_refusal}
-use Rattle.line_calls.specs.declared.JuniorAnswer.{JuniorAnswer}
+use Rattle.line_calls.specs.Answers.{JuniorAnswer}
 use Rattle.line_calls.specs.Junior.{junior_of, junior_buffer, JuniorRule}
-use Rattle.file_calls.specs.declared.Outcome.{Outcome}
+use Rattle.file_calls.specs.Outcomes.{Outcome}
 
 -- the pairs in the plan, and its tips u and v
 abbrev pub junior_outcome : JuniorAnswer → Outcome

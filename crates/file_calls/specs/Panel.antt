@@ -1,14 +1,14 @@
 -- What merging two job files and planning each alone give, and what that means of the number, the counts and the buffers that a caller sees.
 use Rattle.std.specs.Prelude.{ℕ, ◌≡◌, List, ◌++◌, take}
-use Rattle.refusal.specs.declared.Refusal.{Refusal}
+use Rattle.refusal.specs.Told.{Refusal}
 use Rattle.refusal.specs.Refusal.{none}
 use Rattle.job.specs.Job.{rack_in, sets_in, quantities_in, read_refusal, InShorterForm}
-use Rattle.line_calls.specs.declared.FileAnswer.{FileAnswer}
+use Rattle.line_calls.specs.Answers.{FileAnswer}
 use Rattle.line_calls.specs.Lines.{write_of, write_buffer}
-use Rattle.panel.specs.declared.AloneAnswer.{AloneAnswer}
+use Rattle.panel.specs.Answers.{AloneAnswer}
 use Rattle.panel.specs.Panel.{first_of, merge_of, alone_of, alone_buffer}
 use Rattle.panel.specs.Rules.{PanelRule, AloneRule}
-use Rattle.file_calls.specs.declared.Outcome.{Outcome}
+use Rattle.file_calls.specs.Outcomes.{Outcome}
 
 -- the refusals of reading the first file, then those of reading the second
 abbrev pub reads_refusal : List ℕ → List ℕ → Refusal

@@ -5,7 +5,7 @@ use Rattle.refusal.specs.Refusal.{none}
 use Rattle.call_refusals.specs.Calls.{best_refusal}
 use Rattle.job.specs.Job.{rack_in, sets_in, quantities_in, read_refusal, InShorterForm}
 use Rattle.line_calls.specs.Rules.{CommonRule, NoneWithin, HalfRule, BestRule, CheckRule}
-use Rattle.file_calls.specs.declared.Outcome.{Outcome}
+use Rattle.file_calls.specs.Outcomes.{Outcome}
 
 -- off is the least over all valid plans, and the set has the tips that as many placements allow as top
 abbrev pub CommonRuleOf : List ℕ → Outcome → Type 0

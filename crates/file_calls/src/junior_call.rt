@@ -1,37 +1,25 @@
 // The Junior with two holders on a job file.
 ghost use Rattle.std.specs.Prelude.{◌≡◌, length};
-ghost use Rattle.file_calls.specs.Junior.{junior_outcome, junior_in, junior_plan_in, JuniorRuleOf};
+ghost use Rattle.file_calls.specs.Outcomes.{outcome_of};
+ghost use Rattle.file_calls.specs.Junior.{junior_in, junior_plan_in, JuniorRuleOf};
 
-use crate::Outcome;
-use line_calls::JuniorAnswer;
+use crate::Counts;
+use refusal::Refused;
 
 // The counts are the plan's pairs and its tips u and v.
-fn told(laid: JuniorAnswer) -> Outcome
-    ensures { result ≡ junior_outcome laid }
-{
-    let refusal = laid.refusal;
-    Outcome {
-        refusal,
-        first: laid.pairs as u64,
-        second: laid.u as u64,
-        third: laid.v as u64,
-    }
-}
-
-pub fn junior_outcome(file: &[u8], plan: &mut [u8]) -> Outcome
-    ensures outcome { result ≡ junior_in file.now (length plan.old) }
+pub fn junior_outcome(file: &[u8], plan: &mut [u8]) -> Result<Counts, Refused>
+    ensures outcome { outcome_of result ≡ junior_in file.now (length plan.old) }
     ensures plan { plan.new ≡ junior_plan_in file.now plan.old }
-    ensures rule { JuniorRuleOf file.now (length plan.old) plan.new result }
+    ensures rule { JuniorRuleOf file.now (length plan.old) plan.new (outcome_of result) }
 {
     let mut sets = sound::no_sets();
     let mut quantities = sound::no_quantities();
-    let read = reading::read_lines(file, &mut sets, &mut quantities);
-    told(line_calls::junior(
-        read.refusal,
-        read.rack,
-        read.count,
-        &sets,
-        &quantities,
-        plan,
-    ))
+    let read = reading::read_lines(file, &mut sets, &mut quantities)?;
+    let count = read.count;
+    let found = line_calls::junior(read.rack, &sets[..count], &quantities[..count], plan)?;
+    Ok(Counts {
+        first: u64::from(found.pairs),
+        second: found.u as u64,
+        third: found.v as u64,
+    })
 }

@@ -1,16 +1,14 @@
-// What each call gives for a job file in memory: the lines are read once, and the calls work on them after the refusal of reading.
+// What each call gives for a job file in memory: the lines are read once, and the calls work on them where reading accepts the file.
 #![tactic(auto)]
 
 ghost use Rattle.std.specs.Prelude.{◌≡◌, length};
 ghost use Rattle.head.specs.OnHead.{on_head};
-ghost use Rattle.file_calls.specs.Calls.{twos_complement, plan_outcome, keep_outcome};
+ghost use Rattle.file_calls.specs.Outcomes.{outcome_of, kept_outcome_of, twos_complement};
 ghost use Rattle.file_calls.specs.Calls.{read_in, common_in, keep_in, keep_file_in, quick_in, quick_plan_in, best_in, best_plan_in, best_table_in};
 ghost use Rattle.file_calls.specs.Calls.{check_in};
 ghost use Rattle.file_calls.specs.Rules.{CommonRuleOf, KeepRuleOf, HalfRuleOf, BestRuleOf, CheckRuleOf};
 
-use head::Mounted;
-use line_calls::{FileAnswer, KeepAnswer, PlanAnswer};
-use refusal::Refusal;
+use refusal::{Refused, Unkept};
 
 mod goal_call;
 mod junior_call;
@@ -20,177 +18,148 @@ pub use goal_call::goal_outcome;
 pub use junior_call::junior_outcome;
 pub use panel_calls::{alone_outcome, merge_outcome};
 
-// A call's refusal, and up to three counts.
-#[derive(Clone, Copy)]
-pub struct Outcome {
-    pub refusal: Refusal,
+// Up to three counts that a call gives.
+#[derive(Clone, Copy, Debug, PartialEq, Eq)]
+pub struct Counts {
     pub first: u64,
     pub second: u64,
     pub third: u64,
 }
 
-pub fn read_outcome(file: &[u8]) -> Outcome
-    ensures { result ≡ read_in file.now }
-{
-    let refusal = reading::read_refusal(file);
-    if refusal.number != 0 {
-        return Outcome {
-            refusal,
-            first: 0,
+impl Counts {
+    // One count alone.
+    pub fn one(first: u64) -> Counts
+        ensures { result ≡ record { first = first; second = 0; third = 0 } }
+    {
+        Counts {
+            first,
             second: 0,
             third: 0,
-        };
+        }
     }
-    Outcome {
-        refusal,
+}
+
+// Two's complement in 64 bits.
+pub fn twos_complement(x: i32) -> u64
+    ensures { result ≡ twos_complement x }
+{
+    i64::from(x).cast_unsigned()
+}
+
+pub fn read_outcome(file: &[u8]) -> Result<Counts, Refused>
+    ensures { outcome_of result ≡ read_in file.now }
+{
+    reading::read_refusal(file)?;
+    Ok(Counts {
         first: job::rack_in(file) as u64,
         second: job::count_in(file) as u64,
         third: 0,
-    }
+    })
 }
 
-pub fn common_outcome(file: &[u8]) -> Outcome
-    ensures outcome { result ≡ common_in file.now }
-    ensures rule { CommonRuleOf file.now result }
+pub fn common_outcome(file: &[u8]) -> Result<Counts, Refused>
+    ensures outcome { outcome_of result ≡ common_in file.now }
+    ensures rule { CommonRuleOf file.now (outcome_of result) }
 {
     let mut sets = sound::no_sets();
     let mut quantities = sound::no_quantities();
-    let read = reading::read_lines(file, &mut sets, &mut quantities);
-    let found = line_calls::common(read.refusal, read.rack, read.count, &sets, &quantities);
-    let refusal = found.refusal;
-    Outcome {
-        refusal,
+    let read = reading::read_lines(file, &mut sets, &mut quantities)?;
+    let count = read.count;
+    let found = line_calls::common(read.rack, &sets[..count], &quantities[..count]);
+    Ok(Counts {
         first: found.top as u64,
         second: found.off as u64,
         third: found.tips,
-    }
+    })
 }
 
-// Two's complement in 64 bits. No cast takes a number below zero to an unsigned one.
-fn twos_complement(x: i32) -> u64
-    ensures { result ≡ twos_complement x }
-{
-    if x < 0 {
-        return !(!x as u64);
-    }
-    x as u64
-}
-
-fn keep_outcome_of(kept: KeepAnswer, written: FileAnswer) -> Outcome
-    ensures { result ≡ keep_outcome kept written }
-{
-    let refusal = written.refusal;
-    let first = if refusal.number == 11 {
-        0
-    } else {
-        twos_complement(kept.margin)
-    };
-    Outcome {
-        refusal,
-        first,
-        second: written.bytes as u64,
-        third: 0,
-    }
-}
-
-pub fn keep_outcome(file: &[u8], k: u16, out: &mut [u8]) -> Outcome
-    ensures outcome { result ≡ keep_in file.now k (length out.old) }
+pub fn keep_outcome(file: &[u8], k: u16, out: &mut [u8]) -> Result<Counts, Unkept>
+    ensures outcome { kept_outcome_of result ≡ keep_in file.now k (length out.old) }
     ensures out { out.new ≡ keep_file_in file.now k out.old }
-    ensures rule { KeepRuleOf file.now k out.new result }
+    ensures rule { KeepRuleOf file.now k out.new (kept_outcome_of result) }
 {
     let mut sets = sound::no_sets();
     let mut quantities = sound::no_quantities();
-    let read = reading::read_lines(file, &mut sets, &mut quantities);
-    let kept = line_calls::keep(
-        read.refusal,
-        read.rack,
-        read.count,
-        &mut sets,
-        &quantities,
-        k,
-    );
-    let written = line_calls::write(kept.refusal, read.rack, read.count, &sets, &quantities, out);
-    keep_outcome_of(kept, written)
-}
-
-fn plan_outcome(laid: PlanAnswer) -> Outcome
-    ensures { result ≡ plan_outcome laid }
-{
-    let refusal = laid.refusal;
-    Outcome {
-        refusal,
-        first: laid.pairs as u64,
-        second: 0,
+    let read = reading::read_lines(file, &mut sets, &mut quantities)?;
+    let count = read.count;
+    let margin = line_calls::keep(read.rack, &mut sets[..count], &quantities[..count], k)?;
+    let bytes = line_calls::write(read.rack, &sets[..count], &quantities[..count], out)?;
+    Ok(Counts {
+        first: twos_complement(margin),
+        second: bytes as u64,
         third: 0,
-    }
+    })
 }
 
-pub fn quick_outcome(file: &[u8], mounted: Mounted, plan: &mut [u8]) -> Outcome
-    ensures outcome { result ≡ quick_in file.now (on_head mounted) (length plan.old) }
+pub fn quick_outcome(
+    file: &[u8],
+    mounted: Option<usize>,
+    plan: &mut [u8],
+) -> Result<Counts, Refused>
+    ensures outcome { outcome_of result ≡ quick_in file.now (on_head mounted) (length plan.old) }
     ensures plan { plan.new ≡ quick_plan_in file.now (on_head mounted) plan.old }
-    ensures rule { HalfRuleOf file.now plan.new result }
+    ensures rule { HalfRuleOf file.now plan.new (outcome_of result) }
 {
     let mut sets = sound::no_sets();
     let mut quantities = sound::no_quantities();
-    let read = reading::read_lines(file, &mut sets, &mut quantities);
-    let refusal = call_refusals::mounted_refusal(read.refusal, read.rack, mounted);
-    plan_outcome(line_calls::quick(
-        refusal,
+    let read = reading::read_lines(file, &mut sets, &mut quantities)?;
+    let count = read.count;
+    call_refusals::mounted_refusal(read.rack, mounted)?;
+    let pairs = line_calls::quick(
         read.rack,
         mounted,
-        read.count,
-        &mut sets,
-        &quantities,
+        &mut sets[..count],
+        &quantities[..count],
         plan,
-    ))
+    )?;
+    Ok(Counts::one(u64::from(pairs)))
 }
 
-pub fn best_outcome(file: &[u8], mounted: Mounted, plan: &mut [u8], table: &mut [u32]) -> Outcome
-    ensures outcome { result ≡ best_in file.now (on_head mounted) (length plan.old) (length table.old) }
+pub fn best_outcome(
+    file: &[u8],
+    mounted: Option<usize>,
+    plan: &mut [u8],
+    table: &mut [u32],
+) -> Result<Counts, Refused>
+    ensures outcome { outcome_of result ≡ best_in file.now (on_head mounted) (length plan.old) (length table.old) }
     ensures plan { plan.new
         ≡ best_plan_in file.now (on_head mounted) plan.old (length table.old) }
     ensures table { table.new
         ≡ best_table_in file.now (on_head mounted) (length plan.old) table.old }
-    ensures rule { BestRuleOf file.now plan.new result }
+    ensures rule { BestRuleOf file.now plan.new (outcome_of result) }
 {
     let mut sets = sound::no_sets();
     let mut quantities = sound::no_quantities();
-    let read = reading::read_lines(file, &mut sets, &mut quantities);
-    let refusal = call_refusals::mounted_refusal(read.refusal, read.rack, mounted);
-    plan_outcome(line_calls::best(
-        refusal,
+    let read = reading::read_lines(file, &mut sets, &mut quantities)?;
+    let count = read.count;
+    call_refusals::mounted_refusal(read.rack, mounted)?;
+    let pairs = line_calls::best(
         read.rack,
         mounted,
-        read.count,
-        &mut sets,
-        &quantities,
+        &mut sets[..count],
+        &quantities[..count],
         plan,
         table,
-    ))
+    )?;
+    Ok(Counts::one(u64::from(pairs)))
 }
 
 // The plan, the claim and the table are only read: there is nothing to tell but the refusal.
-pub fn check_outcome(file: &[u8], plan: &[u8], claim: u32, table: &[u32]) -> Outcome
-    ensures outcome { result ≡ check_in file.now plan.now claim table.now }
-    ensures rule { CheckRuleOf file.now plan.now claim table.now result }
+pub fn check_outcome(file: &[u8], plan: &[u8], claim: u32, table: &[u32]) -> Result<Counts, Refused>
+    ensures outcome { outcome_of result ≡ check_in file.now plan.now claim table.now }
+    ensures rule { CheckRuleOf file.now plan.now claim table.now (outcome_of result) }
 {
     let mut sets = sound::no_sets();
     let mut quantities = sound::no_quantities();
-    let read = reading::read_lines(file, &mut sets, &mut quantities);
-    let refusal = line_calls::check(
-        read.refusal,
+    let read = reading::read_lines(file, &mut sets, &mut quantities)?;
+    let count = read.count;
+    line_calls::check(
         read.rack,
-        read.count,
-        &sets,
-        &quantities,
+        &sets[..count],
+        &quantities[..count],
         plan,
         claim,
         table,
-    );
-    Outcome {
-        refusal,
-        first: 0,
-        second: 0,
-        third: 0,
-    }
+    )?;
+    Ok(Counts::one(0))
 }

@@ -1,14 +1,12 @@
--- The report made of what the calls answer to good lines, where nothing is refused earlier and each plan has a byte a line.
+-- The report made of what the calls answer to good lines, where each plan has a byte a line.
 use Prim.Native.Nat.{ℕ, ◌*◌, ◌-◌}
-use mathlib.Core.Path.{◌≡◌, refl, sym}
+use mathlib.Core.Path.{◌≡◌, refl, sym, ap, ◌∙◌}
 use mathlib.Core.Bool.{Bool, true, false}
 use mathlib.Core.List.{List, ◌++◌, append-nil}
 use native.Mathlib.Omega.{arith}
-use native.Mathlib.Nat.{le_refl}
 use lib.Dec.{T, eqb}
-use lib.ListN.{length, take, drop, drop_of_length-le}
-use lib.Seq.{take-length, take_all}
-use borrow.Author.Tests.{eqb-true, le-ltb}
+use lib.ListN.{length, drop, drop_of_length-le}
+use borrow.Author.Tests.{eqb-true, ne_eqb, le-ltb}
 use Rattle.model.specs.Count.{each}
 use Rattle.model.specs.Limits.{most_tips}
 use Rattle.model.specs.Plan.{pairs}
@@ -20,28 +18,19 @@ use Rattle.model.proofs.Tests.{true_T, same_test}
 use Rattle.placements.specs.Repeated.{total, repeated}
 use Rattle.placements.specs.Plans.{quick_plan_q, best_plan_q}
 use Rattle.placements.specs.Good.{GoodLines}
-use Rattle.refusal.specs.declared.Refusal.{Refusal}
-use Rattle.refusal.specs.Refusal.{none, accepts, or_else, Given}
-use Rattle.refusal.proofs.Laws.{scan-none, scan_passes}
+use Rattle.std.specs.Prelude.{Option, Result, Ok, Err, IsOk, is_some, unwrap_or}
+use Rattle.std.specs.Result.{result_ok}
+use Rattle.refusal.specs.declared.Refused.{Refused}
+use Rattle.refusal.specs.Reasons.{reason_number, refusal_of, count_in}
+use Rattle.refusal.specs.Refusal.{none, accepts, or_else}
+use Rattle.refusal.proofs.Laws.{scan-none, scan_passes, reason_not_0}
 use Rattle.call_refusals.specs.Calls.{plan_refusal, run_refusal, best_refusal}
 use Rattle.call_refusals.proofs.Calls.{best-run, square_most}
-use Rattle.line_calls.specs.declared.CommonAnswer.{CommonAnswer}
-use Rattle.line_calls.specs.declared.PlanAnswer.{PlanAnswer}
+use Rattle.line_calls.specs.Answers.{CommonAnswer}
+use Rattle.line_calls.specs.Answers.{PlanAnswer, plan_told}
 use Rattle.line_calls.specs.Lines.{common_of, quick_of, quick_buffer, best_of, best_buffer}
 use Rattle.report.specs.Report.{Facts, pairs_text, line_text, line_at, best_text, report_of}
 use Rattle.file_report.specs.Summary.{all_runs, facts_of, BestTold}
-
--- as many as there are lines are all the quantities
-whole_quantities : {m : ℕ} {qs lines : List ℕ} → GoodLines m qs lines → take (length lines) qs ≡ qs
-whole_quantities {qs = qs} {lines = lines} good = take_all (length lines) qs (omega (arith, good.same))
-
--- all the sets are lines
-pub given_whole : {r : Refusal} {m : ℕ} {qs lines : List ℕ} → GoodLines m qs lines → Given r m (length lines) qs lines
-given_whole {lines = lines} good = record {
-  room = λ _. le_refl _;
-  quantity_room = λ _. omega (arith, good.same);
-  good = λ _. rw (take-length lines, whole_quantities good) good;
-}
 
 -- a plan with a byte a line is a whole buffer
 whole : (lines new old : List ℕ) → length old ≡ length lines → new ++ drop (length lines) old ≡ new
@@ -55,11 +44,11 @@ runs_each lines =
     (λ t. (each_iff run lines).1 (scan-none run (λ _. 25) lines (λ _ e. omega (arith, e)) (eqb-true _ 0 (true_T _ t))))
     (λ t. rw (scan_passes run (λ _. 25) lines ((each_iff run lines).0 t)) tt)
 
-module _ {m : ℕ} {qs lines : List ℕ} (good : GoodLines m qs lines) {earlier : Refusal} (free : earlier ≡ none) where
-  pub common_is : {r : CommonAnswer} → r ≡ common_of earlier m (take (length lines) qs) (take (length lines) lines)
+module _ {m : ℕ} {qs lines : List ℕ} (good : GoodLines m qs lines) where
+  pub common_is : {r : CommonAnswer} → r ≡ common_of none m qs lines
       → (r.off ≡ total qs - top m (repeated qs lines)) × (r.tips ≡ W m (repeated qs lines))
   unfolding common_of
-  common_is e = rw (e, free, take-length lines, whole_quantities good) (refl, refl)
+  common_is e = rw e (refl, refl)
 
   module _ (old : List ℕ) (size : length old ≡ length lines) where
     -- the plan buffer is not too short
@@ -67,26 +56,40 @@ module _ {m : ℕ} {qs lines : List ℕ} (good : GoodLines m qs lines) {earlier 
     unfolding plan_refusal or_else
     plan_long = rw (le-ltb (length old) (length lines) (omega (arith, size))) refl
 
-    pub quick_is : {r : PlanAnswer} {out : List ℕ} → r ≡ quick_of earlier m bare (take (length lines) qs) (take (length lines) lines) (length old)
-        → out ≡ quick_buffer earlier m bare (take (length lines) qs) (take (length lines) lines) old
+    -- so quick sharing has a value
+    pub quick_ok : (r : Result ℕ Refused) → plan_told r ≡ quick_of none m bare qs lines (length old) → IsOk r
+    unfolding quick_of
+    quick_ok (Ok x) e = refl
+    quick_ok (Err r) e = absurd (reason_not_0 r.reason (ap (λ a. a.refusal.number) e ∙ ap (λ a. a.number) plan_long))
+
+    pub quick_is : {r : PlanAnswer} {out : List ℕ} → r ≡ quick_of none m bare qs lines (length old)
+        → out ≡ quick_buffer none m bare qs lines old
         → (r.pairs ≡ pairs (repeated qs (quick_plan_q bare m qs lines))) × (out ≡ quick_plan_q bare m qs lines)
     unfolding quick_of quick_buffer
-    quick_is e f = rw (e, f, free, take-length lines, whole_quantities good, plan_long) (refl, whole lines (quick_plan_q bare m qs lines) old size)
+    quick_is e f = rw (e, f, plan_long) (refl, whole lines (quick_plan_q bare m qs lines) old size)
 
     -- both buffers are long enough: what is left to refuse is a line that is no run
     best-left : {places : ℕ} → places ≡ most_tips * most_tips → best_refusal none m lines (length old) places ≡ run_refusal lines
     best-left e = sym (best-run none refl m lines (length old) _ (omega (arith, size)) (omega (arith, e, square_most good.most)))
 
     pub best_is : {places : ℕ} → places ≡ most_tips * most_tips → {r : PlanAnswer} {out : List ℕ}
-        → r ≡ best_of earlier m (take (length lines) qs) (take (length lines) lines) (length old) places
-        → out ≡ best_buffer earlier m bare (take (length lines) qs) (take (length lines) lines) old places
+        → r ≡ best_of none m qs lines (length old) places → out ≡ best_buffer none m bare qs lines old places
         → BestTold m qs lines (eqb r.refusal.number 0) r.pairs out
     unfolding best_of best_buffer
-    best_is s e f = rw (e, f, free, take-length lines, whole_quantities good, best-left s) (record {
+    best_is s e f = rw (e, f, best-left s) (record {
       runs_are = runs_each lines;
       pairs_are = λ t. rw (true_T (accepts (run_refusal lines)) t) refl;
       plan_is = λ t. rw (true_T (accepts (run_refusal lines)) t) (whole lines (best_plan_q bare m qs lines) old size);
     })
+
+-- what is told of a result is told of its value, where it has one
+pub best_ok : (r : Result ℕ Refused) {o : Option ℕ} → o ≡ result_ok r → {m : ℕ} {qs lines out : List ℕ}
+    → BestTold m qs lines (eqb (refusal_of r).number 0) (count_in r) out → BestTold m qs lines (is_some o) (unwrap_or o 0) out
+best_ok (Ok x) e told = rw e told
+best_ok (Err r) e {m} {qs} {lines} {out} told =
+    let refused = ne_eqb (reason_number r.reason) 0 (reason_not_0 r.reason) in
+    let none_told : BestTold m qs lines false 0 out = rw refused at told in
+    rw e none_told
 
 -- what is reported of lines of which best sharing answers these pairs and this plan
 facts : ℕ → List ℕ → List ℕ → Bool → ℕ → List ℕ → Facts

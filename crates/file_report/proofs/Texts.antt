@@ -1,20 +1,23 @@
 -- The text for a file by cases on its refusal, and for the part of a file that is taken.
 use Prim.Native.Nat.{ℕ, min, ◌≤◌, ◌<◌}
-use mathlib.Core.Path.{◌≡◌, sym, ap, ◌∙◌}
+use mathlib.Core.Path.{◌≡◌, refl, sym, ap, ◌∙◌}
 use mathlib.Core.Logic.{⊎_elim}
 use mathlib.Core.Bool.{Bool, cond}
 use mathlib.Core.List.{List, [], ◌++◌}
 use native.Mathlib.Omega.{arith}
 use native.Mathlib.Nat.{min-eq_left, min-eq_right}
 use lib.ListN.{length, take, length-append, length-drop}
-use lib.Seq.{take_all, take_at, take-length}
+use lib.Seq.{take_all, take_at, take-length, length-take-le}
 use borrow.Author.Tests.{lt-ltb, le-ltb}
 use Rattle.model.proofs.Tests.{le_or_lt}
-use Rattle.refusal.specs.declared.Refusal.{Refusal}
+use Rattle.model.specs.Limits.{most_lines}
+use Rattle.placements.specs.Good.{GoodLines}
+use Rattle.refusal.specs.Told.{Refusal}
+use Rattle.refusal.specs.Refusal.{none}
 use Rattle.refusal.proofs.Laws.{refused, accepted}
 use Rattle.job.specs.Job.{count_in, read_refusal}
 use Rattle.reading.specs.Reading.{LinesRead}
-use Rattle.reading.proofs.Lines.{first_sets, first_quantities}
+use Rattle.reading.proofs.Lines.{first_sets, first_quantities, given_read}
 use Rattle.report.specs.Report.{report_of, refused_text}
 use Rattle.text.specs.Buffer.{Printed}
 use Rattle.file_report.specs.Summary.{taken_bytes, text_room, facts_of, BestTold, BestOfFile, text_of, summary_of}
@@ -33,6 +36,24 @@ module _ (file : List ℕ) {d : Refusal} (e : d ≡ read_refusal file) where
       → text_of file ≡ report_of (facts_of m (take n qs) (take n sets))
   unfolding text_of
   text_accepted z read = accepted _ _ e z ∙ rw (first_sets read, first_quantities read, read.rack-is)
+
+-- the lines that were read are in the sets and in the quantities, and few
+module _ {file : List ℕ} {m n : ℕ} {old-sets sets old-qs qs : List ℕ} (read : LinesRead file m n old-sets sets old-qs qs)
+    (e : none ≡ read_refusal file) where
+  pub read_room : n ≤ length sets
+  read_room = (given_read read e).room refl
+
+  pub quantity_room : n ≤ length qs
+  quantity_room = (given_read read e).quantity_room refl
+
+  pub read_lines_good : GoodLines m (take n qs) (take n sets)
+  read_lines_good = (given_read read e).good refl
+
+  pub read_size : length (take n sets) ≡ n
+  read_size = length-take-le n sets read_room
+
+  pub read_few : n ≤ most_lines
+  read_few = omega (arith, read_size, read_lines_good.few-lines)
 
 -- what is told of best sharing of the lines that were read is told of the file's, and the other way round
 module _ {file : List ℕ} {m n : ℕ} {old-sets sets old-qs qs : List ℕ} (read : LinesRead file m n old-sets sets old-qs qs) {runs : Bool} {x : ℕ} where

@@ -1,7 +1,8 @@
 // The whole of what the program tipshare prints for a file, written into a buffer.
 #![tactic(auto)]
 
-ghost use Rattle.std.specs.Prelude.{◌≡◌, false, ◌≤◌, min, length};
+ghost use Rattle.std.specs.Prelude.{◌≡◌, ◌≤◌, min, length, is_some, unwrap_or, IfOk};
+ghost use Rattle.refusal.specs.Reasons.{refusal_of};
 ghost use Rattle.model.specs.Limits.{most_lines};
 ghost use Rattle.placements.specs.Good.{GoodLines};
 ghost use Rattle.job.specs.Job.{read_refusal};
@@ -9,7 +10,7 @@ ghost use Rattle.report.specs.Report.{report_of};
 ghost use Rattle.text.specs.Buffer.{Printed};
 ghost use Rattle.file_report.specs.Summary.{facts_of, BestTold, BestOfFile, text_of, taken_bytes, text_room, summary_of};
 
-use head::Mounted;
+use refusal::Refused;
 
 // The bytes of a file that are taken: one more than the longest good file has, by which a longer one is seen.
 pub const TAKEN: usize = 4617;
@@ -31,58 +32,35 @@ fn table_buffer() -> [u32; 4096]
     [0u32; 4096]
 }
 
-// Whether each line is a run of the named tips, and the pairs of best sharing where it is so.
-#[derive(Clone, Copy)]
-struct Best {
-    runs: bool,
-    pairs: u32,
-}
-
-// Best sharing of the lines, which uses them up. Where some line is no run the plan stays as it was.
-fn best_lines(rack: usize, lines: &mut [u64], quantities: &[u8], plan: &mut [u8]) -> Best
+// The pairs of best sharing of the lines, which uses them up; nothing where some line is no run of the named tips, and then the plan stays
+// as it was.
+fn best_lines(rack: usize, lines: &mut [u64], quantities: &[u8], plan: &mut [u8]) -> Option<u32>
     requires { GoodLines rack quantities.now lines.old × (length plan.old ≡ length lines.old) }
-    ensures { BestTold rack quantities.now lines.old result.runs result.pairs plan.new }
+    ensures { BestTold rack quantities.now lines.old (is_some result) (unwrap_or result 0) plan.new }
 {
     let mut table = table_buffer();
-    let count = lines.len();
-    let laid = line_calls::best(
-        refusal::refuse(0),
-        rack,
-        Mounted::Nothing,
-        count,
-        lines,
-        quantities,
-        plan,
-        &mut table,
-    );
-    let refusal = laid.refusal;
-    Best {
-        runs: refusal.number == 0,
-        pairs: laid.pairs,
-    }
+    line_calls::best(rack, None, lines, quantities, plan, &mut table).ok()
 }
 
-// Best sharing of the lines of a file, which are read for it, and used up. Of a refused file no runs and no pairs are told.
-fn best_of_file(file: &[u8], sets: &mut [u64], quantities: &mut [u8], plan: &mut [u8]) -> Best
+// Best sharing of the lines of a file, which are read for it, and used up.
+fn best_of_file(
+    file: &[u8],
+    sets: &mut [u64],
+    quantities: &mut [u8],
+    plan: &mut [u8],
+) -> Result<Option<u32>, Refused>
     requires { (length sets.old ≡ most_lines) × (length quantities.old ≡ most_lines) × (length plan.old ≡ most_lines) }
-    ensures told { (read_refusal file.now).number ≡ 0 → BestOfFile file.now result.runs result.pairs plan.new }
-    ensures none { ((read_refusal file.now).number ≡ 0 → ⊥) → (result.runs ≡ false) × (result.pairs ≡ 0) }
+    ensures refusal { refusal_of result ≡ read_refusal file.now }
+    ensures told { IfOk result (λ shared. BestOfFile file.now (is_some shared) (unwrap_or shared 0) plan.new) }
 {
-    let read = reading::read_lines(file, sets, quantities);
-    let refusal = read.refusal;
-    if refusal.number != 0 {
-        return Best {
-            runs: false,
-            pairs: 0,
-        };
-    }
+    let read = reading::read_lines(file, sets, quantities)?;
     let count = read.count;
-    best_lines(
+    Ok(best_lines(
         read.rack,
         &mut sets[..count],
         &quantities[..count],
         &mut plan[..count],
-    )
+    ))
 }
 
 // The report on good lines, which quick sharing uses up; both plans have a byte a line.
@@ -90,58 +68,50 @@ fn write_lines(
     rack: usize,
     lines: &mut [u64],
     quantities: &[u8],
-    shared: Best,
+    shared: Option<u32>,
     quick: &mut [u8],
     best: &[u8],
     out: &mut [u8],
 ) -> usize
     requires good_lines { GoodLines rack quantities.now lines.old × (text_room ≤ length out.old) }
     requires quick_len { (length quick.old ≡ length lines.old) × (length best.now ≡ length lines.old) }
-    requires best_told { BestTold rack quantities.now lines.old shared.runs shared.pairs best.now }
+    requires best_told { BestTold rack quantities.now lines.old (is_some shared) (unwrap_or shared 0) best.now }
     ensures { Printed
         (report_of (facts_of rack quantities.now lines.old))
         out.old
         result
         out.new }
 {
-    let count = lines.len();
-    let common = line_calls::common(refusal::refuse(0), rack, count, lines, quantities);
-    let laid = line_calls::quick(
-        refusal::refuse(0),
-        rack,
-        Mounted::Nothing,
-        count,
-        lines,
-        quantities,
-        quick,
-    );
+    let common = line_calls::common(rack, lines, quantities);
+    let pairs = line_calls::quick(rack, None, lines, quantities, quick).unwrap();
     report::write_report(
         rack,
         common.off,
         common.tips,
-        laid.pairs,
-        shared.runs,
-        shared.pairs,
+        pairs,
+        shared,
         quick,
         best,
         out,
     )
 }
 
-// The report on a file, or on its refusal. The lines are read twice, for each plan uses them up; a second array would need more stack.
-fn write_file(file: &[u8], out: &mut [u8]) -> usize
-    requires { text_room ≤ length out.old }
+// The report on a file that reading accepts. Its lines are read again, for each plan uses them up; a second array would need more stack.
+fn write_accepted(
+    file: &[u8],
+    shared: Option<u32>,
+    sets: &mut [u64],
+    quantities: &mut [u8],
+    best: &[u8],
+    out: &mut [u8],
+) -> usize
+    requires accepted { (read_refusal file.now).number ≡ 0 }
+    requires rooms { (length sets.old ≡ most_lines) × (length quantities.old ≡ most_lines) × (length best.now ≡ most_lines)
+        × (text_room ≤ length out.old) }
+    requires told { BestOfFile file.now (is_some shared) (unwrap_or shared 0) best.now }
     ensures { Printed (text_of file.now) out.old result out.new }
 {
-    let mut sets = sound::no_sets();
-    let mut quantities = sound::no_quantities();
-    let mut best = plan_buffer();
-    let shared = best_of_file(file, &mut sets, &mut quantities, &mut best);
-    let read = reading::read_lines(file, &mut sets, &mut quantities);
-    let refusal = read.refusal;
-    if refusal.number != 0 {
-        return report::write_refused(refusal.number, out);
-    }
+    let read = reading::read_lines(file, sets, quantities).unwrap();
     let count = read.count;
     let mut quick = plan_buffer();
     write_lines(
@@ -153,6 +123,20 @@ fn write_file(file: &[u8], out: &mut [u8]) -> usize
         &best[..count],
         out,
     )
+}
+
+// The report on a file, or on its refusal.
+fn write_file(file: &[u8], out: &mut [u8]) -> usize
+    requires { text_room ≤ length out.old }
+    ensures { Printed (text_of file.now) out.old result out.new }
+{
+    let mut sets = sound::no_sets();
+    let mut quantities = sound::no_quantities();
+    let mut best = plan_buffer();
+    match best_of_file(file, &mut sets, &mut quantities, &mut best) {
+        Ok(shared) => write_accepted(file, shared, &mut sets, &mut quantities, &best, out),
+        Err(refused) => report::write_refused(refused.reason.number(), out),
+    }
 }
 
 // The size of the part that is taken of a file of this size.

@@ -12,28 +12,26 @@ use borrow.Author.Tests.{lt-ltb, le-ltb, lt-leb, le-leb, eq-eqb, ne_eqb}
 use Rattle.model.proofs.Tests.{le_or_lt, test, true_T, false_T}
 use Rattle.ordering.specs.Number.{number}
 use Rattle.ordering.proofs.Number.{number_cong, number-none}
-use Rattle.flat_order.specs.declared.PartSet.{PartSet}
+use Rattle.flat_order.specs.declared.sets.PartSet.{PartSet}
 use Rattle.flat_order.specs.Sets.{has_part, removed}
-use Rattle.flat_order.specs.Flat.{row_at, is_due, PartsAt, Below, Levels}
+use Rattle.flat_order.specs.Flat.{row_at, is_due, PartsAt}
 use Rattle.flat_order.proofs.Members.{has-removed}
 use Rattle.flat_order.proofs.Below.{row-set}
 use Rattle.flat_order.proofs.Waiting.{Waiting}
 
 -- up to place e stand the parts whose last positions are before it, after it those that ended just before it, and up to e stand the levels
-pub record Ended (all : PartSet) (lasts₀ lasts : List ℕ) (e : ℕ) (low high levels : List ℕ) : Type 0 where
-  pub lows : length low ≡ 130
-  pub highs : length high ≡ 130
-  pub size : length levels ≡ 128
-  pub done : (k x : ℕ) → k ≤ e → has_part (row_at low high k) x ≡ (ltb x (length lasts₀) && ltb (get_or lasts x 0) k)
-  pub rest : (k x : ℕ) → e < k → k < 130 → has_part (row_at low high k) x ≡ (ltb x (length lasts₀) && eqb (get_or lasts₀ x 0 + 1) k)
+pub record Ended (all : PartSet) (lasts₀ lasts : List ℕ) (e : ℕ) (ends : List PartSet) (levels : List ℕ) : Type 0 where
+  pub size : length ends ≡ 130
+  pub level_size : length levels ≡ 128
+  pub done : (k x : ℕ) → k ≤ e → has_part (row_at ends k) x ≡ (ltb x (length lasts₀) && ltb (get_or lasts x 0) k)
+  pub rest : (k x : ℕ) → e < k → k < 130 → has_part (row_at ends k) x ≡ (ltb x (length lasts₀) && eqb (get_or lasts₀ x 0 + 1) k)
   pub level : (k : ℕ) → k < e → get_or levels k 0 ≡ number (is_due all lasts k) (length lasts₀)
 
-pub ended-none : (all : PartSet) (lasts low high levels : List ℕ) → PartsAt lasts (length lasts) low high → length levels ≡ 128
-    → Ended all lasts lasts 0 low high levels
-ended-none all lasts low high levels p s = record {
-  lows = p.lows;
-  highs = p.highs;
-  size = s;
+pub ended-none : (all : PartSet) (lasts : List ℕ) (ends : List PartSet) (levels : List ℕ) → PartsAt lasts (length lasts) ends
+    → length levels ≡ 128 → Ended all lasts lasts 0 ends levels
+ended-none all lasts ends levels p s = record {
+  size = p.size;
+  level_size = s;
   done = λ k x l.
       let e : k ≡ 0 = omega arith in
       rw e (p.each 0 x (omega arith) ∙ rw (ne_eqb (get_or lasts x 0 + 1) 0 (λ z. omega arith), le-ltb (get_or lasts x 0) 0 (omega arith)));
@@ -51,9 +49,9 @@ number-rest f (suc m) = omega (arith, number-rest f m, one (f m))
     one true = refl
     one false = refl
 
-module _ (all : PartSet) (lasts₀ lasts : List ℕ) (j e : ℕ) (low high levels : List ℕ) (left due : PartSet)
+module _ (all : PartSet) (lasts₀ lasts : List ℕ) (j e : ℕ) (ends : List PartSet) (levels : List ℕ) (left due : PartSet)
     (is_all : (x : ℕ) → has_part all x ≡ ltb x (length lasts₀)) (w : Waiting lasts₀ j lasts left due e)
-    (d : Ended all lasts₀ lasts e low high levels) where
+    (d : Ended all lasts₀ lasts e ends levels) where
   abbrev n : ℕ
   n = length lasts₀
 
@@ -68,11 +66,10 @@ module _ (all : PartSet) (lasts₀ lasts : List ℕ) (j e : ℕ) (low high level
         (λ u. f (sym (get_or-set_other lasts b x e 0 (λ z. T_not (eqb b x) u (rw z (eqb_refl b))))))
         (test (eqb b x))
 
-    pub ended-set : Ended all lasts₀ (set lasts b e) e low high levels
+    pub ended-set : Ended all lasts₀ (set lasts b e) e ends levels
     ended-set = record {
-      lows = d.lows;
-      highs = d.highs;
       size = d.size;
+      level_size = d.level_size;
       done = λ k x l. d.done k x l ∙ ap (λ v. ltb x n && v) (set_before x
           (λ z. ap (λ v. ltb v k) z)
           (λ h z. rw (z, le-ltb e k l, le-ltb (get_or lasts x 0) k (omega arith))));
@@ -103,22 +100,20 @@ module _ (all : PartSet) (lasts₀ lasts : List ℕ) (j e : ℕ) (low high level
         omega (arith, same, number-rest (has_part left) n, w.count)
 
     pub ended_next : (gone : PartSet) → gone ≡ removed all left
-        → Ended all lasts₀ lasts (e + 1) (set low (e + 1) gone.low) (set high (e + 1) gone.high) (set levels e j)
+        → Ended all lasts₀ lasts (e + 1) (set ends (e + 1) gone) (set levels e j)
     ended_next gone q =
-        let at : (k x : ℕ) → has_part (row_at (set low (e + 1) gone.low) (set high (e + 1) gone.high) k) x
-        ≡ has_part (cond (eqb (e + 1) k) gone (row_at low high k)) x =
-        λ k x. ap (λ s. has_part s x) (row-set low high (e + 1) k gone (omega (arith, d.lows)) (omega (arith, d.highs))) in
+        let at : (k x : ℕ) → has_part (row_at (set ends (e + 1) gone) k) x ≡ has_part (cond (eqb (e + 1) k) gone (row_at ends k)) x =
+        λ k x. ap (λ s. has_part s x) (row-set ends (e + 1) k gone (omega (arith, d.size))) in
         record {
-          lows = length-set low (e + 1) gone.low ∙ d.lows;
-          highs = length-set high (e + 1) gone.high ∙ d.highs;
-          size = length-set levels e j ∙ d.size;
+          size = length-set ends (e + 1) gone ∙ d.size;
+          level_size = length-set levels e j ∙ d.level_size;
           done = λ k x h. at k x ∙ ⊎_elim
               (λ (u : e + 1 ≤ k). let z : e + 1 ≡ k = omega arith in rw (← z, eq-eqb (e + 1) (e + 1) refl, q) (gone_at x))
               (λ (u : k < e + 1). rw (ne_eqb (e + 1) k (λ z. omega arith)) (d.done k x (omega arith)))
               (le_or_lt (e + 1) k);
           rest = λ k x h m. at k x ∙ rw (ne_eqb (e + 1) k (λ z. omega arith)) (d.rest k x (omega arith) m);
           level = λ k h. ⊎_elim
-              (λ (u : e ≤ k). let z : k ≡ e = omega arith in rw z (get_or-set_same levels e j 0 (omega (arith, d.size)) ∙ level_is))
+              (λ (u : e ≤ k). let z : k ≡ e = omega arith in rw z (get_or-set_same levels e j 0 (omega (arith, d.level_size)) ∙ level_is))
               (λ (u : k < e). get_or-set_other levels e k j 0 (λ z. omega arith) ∙ d.level k u)
               (le_or_lt e k);
         }
@@ -126,12 +121,3 @@ module _ (all : PartSet) (lasts₀ lasts : List ℕ) (j e : ℕ) (low high level
   -- at the end no part is left
   pub ended-count : n ≤ e → n ≤ j
   ended-count l = omega (arith, w.count, number-none (has_part left) n (λ x h t. omega (arith, w.ahead x t, w.below x h)))
-
-  pub ended-below : n ≤ e → Below lasts n low high
-  ended-below l = record { lows = d.lows; highs = d.highs; each = λ k x h. d.done k x (omega arith) }
-
-  pub ended_levels : n ≤ e → Levels all lasts 0 levels
-  ended_levels l = record {
-    size = d.size;
-    each = λ v k h. rw w.size (let s : v < n = omega (arith, w.size) in omega (arith, d.level v (omega arith)));
-  }

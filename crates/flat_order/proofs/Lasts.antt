@@ -6,7 +6,7 @@ use mathlib.Core.Logic.{⊎_elim}
 use mathlib.Core.Bool.{Bool, true, false, ◌||◌}
 use lib.Dec.{T, ltb, eqb, ltb→lt, lt→ltb, eqb→eq, eqb_refl, not_T}
 use Rattle.model.proofs.Tests.{same_test, false_T, le_or_lt, cond_case}
-use Rattle.flat_order.specs.declared.PartSet.{PartSet}
+use Rattle.flat_order.specs.declared.sets.PartSet.{PartSet}
 use Rattle.flat_order.specs.Sets.{has_part, single, joined}
 use Rattle.flat_order.proofs.Members.{has-none, has-single, has-joined}
 

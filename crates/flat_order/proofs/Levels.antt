@@ -1,51 +1,22 @@
 -- The levels of the positions: one part placed, and the first position up to which all are taken.
 use Prim.Native.Nat.{ℕ, suc, ◌+◌, ◌-◌, ◌≤◌, ◌<◌}
 use native.Mathlib.Omega.{arith}
-use mathlib.Core.Path.{◌≡◌, refl, ap, sym, ◌∙◌}
+use mathlib.Core.Path.{◌≡◌, ap, sym, ◌∙◌}
 use mathlib.Core.Logic.{⊎_elim}
 use mathlib.Core.Bool.{cond, ◌&&◌}
 use mathlib.Core.List.{List}
 use lib.Dec.{T, leb, eqb, eqb→eq, le→leb}
-use lib.ListN.{length, get_or, set, length-set}
-use lib.Seq.{get_or-set_same, get_or-set_other}
+use lib.ListN.{length, get_or}
 use borrow.Author.Tests.{lt-leb, le-leb}
 use Rattle.model.proofs.Tests.{le_or_lt, eqb_T, and_left, and_in}
 use Rattle.ordering.specs.Number.{number, without}
 use Rattle.ordering.proofs.Number.{number_le, number_cong, number-without, lowest_is}
-use Rattle.flat_order.specs.declared.PartSet.{PartSet}
+use Rattle.flat_order.specs.declared.sets.PartSet.{PartSet}
 use Rattle.flat_order.specs.Sets.{has_part, single, removed}
 use Rattle.flat_order.specs.Flat.{is_due, Levels, Raised, IsEnd, tight_of, InPlace}
 use Rattle.flat_order.proofs.Settled.{left-without}
 
 -- ---- one level raised
-
-pub raised-none : (from : ℕ) (levels : List ℕ) → Raised from from levels levels 0
-raised-none from levels = record {
-  size = refl;
-  inside = λ v l h. absurd (omega arith);
-  after = λ v l h. refl;
-  none = λ e v l h. absurd (omega arith);
-}
-
-pub raised-more : (from v : ℕ) (old levels : List ℕ) (r s : ℕ) → from ≤ v → v < length old → Raised from v old levels r → r ≤ s
-    → (get_or levels v 0 ≡ v → 0 < s) → Raised from (v + 1) old (set levels v (get_or levels v 0 + 1)) s
-raised-more from v old levels r s l k d m f =
-    let new = get_or levels v 0 + 1 in
-    let same = get_or-set_same levels v new 0 (omega (arith, d.size)) in
-    let other : (w : ℕ) → (w ≡ v → ⊥) → get_or (set levels v new) w 0 ≡ get_or levels w 0 = λ w n. get_or-set_other levels v w new 0 n in
-    record {
-      size = length-set levels v new ∙ d.size;
-      inside = λ w h q. ⊎_elim
-          (λ (z : v ≤ w). let e : w ≡ v = omega arith in rw e (same ∙ ap (λ t. t + 1) (d.after v l (omega arith))))
-          (λ (z : w < v). other w (λ e. omega arith) ∙ d.inside w h z)
-          (le_or_lt v w);
-      after = λ w h q. other w (λ e. omega arith) ∙ d.after w h (omega arith);
-      none = λ e w h q z. ⊎_elim
-          (λ (y : v ≤ w). let a : w ≡ v = omega arith in
-          omega (arith, f (d.after v l (omega arith) ∙ (rw a at z))))
-          (λ (y : w < v). d.none (omega arith) w h y z)
-          (le_or_lt v w);
-    }
 
 pub raised_all : (from to v : ℕ) (old levels : List ℕ) (r : ℕ) → to ≤ v → (from < v → v ≤ to) → Raised from v old levels r
     → Raised from to old levels r
@@ -125,12 +96,6 @@ module _ (left : PartSet) (lasts levels : List ℕ) (p : ℕ) (at : Levels left 
               eqb→eq (number (is_due left lasts (p + k)) n) (suc k) u,
             ))),
       )
-
--- one position more that is not the end
-pub none_more : (p v : ℕ) (levels : List ℕ) → ((k : ℕ) → p ≤ k → k < v → get_or levels k 0 ≡ k + 1 → ⊥) → (get_or levels v 0 ≡ v + 1 → ⊥)
-    → (k : ℕ) → p ≤ k → k < v + 1 → get_or levels k 0 ≡ k + 1 → ⊥
-none_more p v levels f n k l h e =
-    ⊎_elim (λ (z : v ≤ k). let a : k ≡ v = omega arith in n (rw a at e)) (λ (z : k < v). f k l z e) (le_or_lt v k)
 
 -- the end stays where it is, where no level before it is reached
 pub end_stays : (n p : ℕ) (levels levels₂ : List ℕ) (end last r : ℕ) → IsEnd n p levels end → Raised (p + 1) last levels levels₂ r → last ≤ end

@@ -11,7 +11,7 @@ use Rattle.model.specs.Interval.{low}
 use Rattle.model.proofs.Tests.{le_or_lt}
 use Rattle.model.proofs.Sets.{has-below, has_some}
 use Rattle.model.proofs.Run.{low_le, low-tip}
-use Rattle.flat_order.specs.declared.PartSet.{PartSet}
+use Rattle.flat_order.specs.declared.sets.PartSet.{PartSet}
 use Rattle.flat_order.specs.Sets.{has_part, IsLowest}
 
 -- the lowest bit of a word that is not 0
@@ -47,12 +47,9 @@ module _ (s : PartSet) where
     none-low : (x : ℕ) → T (has_part s x) → x < 64 → ⊥
     none-low x h l = omega (arith, z, has_some s.low x (rw (in_low x l) at h))
 
-    pub lowest-none : s.high ≡ 0 → IsLowest s 128
-    lowest-none y = record {
-      found = λ l. absurd (omega arith);
-      least = λ x h. ⊎_elim (λ l. absurd (omega (arith, y, has_some s.high (x - 64) (rw (in_high x l) at h)))) (λ l. absurd (none-low x h l))
-          (le_or_lt 64 x);
-    }
+    pub lowest-none : s.high ≡ 0 → (x : ℕ) → T (has_part s x) → ⊥
+    lowest-none y x h =
+        ⊎_elim (λ l. omega (arith, y, has_some s.high (x - 64) (rw (in_high x l) at h))) (λ l. none-low x h l) (le_or_lt 64 x)
 
     pub lowest-high : s.high < 2 ^ 64 → 0 < s.high → (r : ℕ) → r ≡ 64 + low s.high → IsLowest s r
     lowest-high b p r e =

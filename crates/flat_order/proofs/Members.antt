@@ -6,13 +6,13 @@ use mathlib.Core.Path.{◌≡◌, refl, ap, sym, ◌∙◌}
 use mathlib.Core.Logic.{⊎_elim}
 use mathlib.Core.Bool.{Bool, true, false, not, cond, ◌&&◌, ◌||◌}
 use lib.Dec.{T, eqb, eqb→eq, eqb_refl, not_T, T_not}
-use lib.Bits.{bit_and, bit_xor, differ, xor_step, xor_shr, and_le_l}
+use lib.Bits.{bit_and, bit_xor, differ, xor_step, xor_shr}
 use lib.Pow.{pow-lt}
 use borrow.Author.Tests.{lt-ltb, le-ltb}
 use Rattle.model.specs.Plan.{has}
 use Rattle.model.proofs.Tests.{le_or_lt, true_T, false_T, same_test, test, and_left, and_right, and_in}
 use Rattle.model.proofs.Sets.{has-digit, digit-has, has-suc, has_some, has_and, has_or, highest}
-use Rattle.flat_order.specs.declared.PartSet.{PartSet}
+use Rattle.flat_order.specs.declared.sets.PartSet.{PartSet}
 use Rattle.flat_order.specs.Sets.{has_part, single, joined, removed, met, apart}
 
 -- a shift does not lose the bit
@@ -133,9 +133,9 @@ or_second true b u = tt
 or_second false b u = u
 
 -- two words with no bit in common
-word_apart : (a b : ℕ) → a < 2 ^ 64 → ((t : ℕ) → t < 64 → T (has a t) → T (has b t) → ⊥) → bit_and a b ≡ 0
+word_apart : (a b : ℕ) → bit_and a b < 2 ^ 64 → ((t : ℕ) → t < 64 → T (has a t) → T (has b t) → ⊥) → bit_and a b ≡ 0
 word_apart a b l f = ⊎_elim (λ z. omega arith) (λ p.
-    let (t, e, h, u) = highest 64 (bit_and a b) p (omega (arith, and_le_l a b)) in
+    let (t, e, h, u) = highest 64 (bit_and a b) p l in
     let w = ap (λ z. z) (has_and a b t) in
     absurd (f t (omega arith) (and_left (has a t) (has b t) (rw (← w) h)) (and_right (has a t) (has b t) (rw (← w) h)))) (le_or_lt (bit_and a b) 0)
 
@@ -155,7 +155,8 @@ apart_none s t u x h k =
     (λ l. let e = lt-ltb x 64 l in word_meets s.low t.low x lows (rw e at h) (rw e at k))
     (le_or_lt 64 x)
 
-pub apart_if : (s t : PartSet) → s.low < 2 ^ 64 → s.high < 2 ^ 64 → ((x : ℕ) → x < 128 → T (has_part s x) → T (has_part t x) → ⊥) → T (apart s t)
+pub apart_if : (s t : PartSet) → bit_and s.low t.low < 2 ^ 64 → bit_and s.high t.high < 2 ^ 64
+    → ((x : ℕ) → x < 128 → T (has_part s x) → T (has_part t x) → ⊥) → T (apart s t)
 unfolding has_part apart
 apart_if s t k h f =
     let lows = word_apart s.low t.low k (λ x l a b. let e = lt-ltb x 64 l in f x (omega arith) (rw e a) (rw e b)) in

@@ -1,6 +1,7 @@
 -- The greedy order over flat arrays: what the search for a part finds, and where the loop stands at position p.
 use Prim.Native.Nat.{ℕ, ◌+◌, ◌-◌, ◌≤◌, ◌<◌, ◌^◌}
 use native.Mathlib.Omega.{arith}
+use native.Mathlib.Nat.{le_refl}
 use mathlib.Core.Path.{◌≡◌, refl, ap, sym, ◌∙◌}
 use mathlib.Core.Logic.{⊎_elim}
 use mathlib.Core.Bool.{Bool, true, false, not, ◌&&◌}
@@ -8,21 +9,24 @@ use mathlib.Core.List.{List}
 use mathlib.Core.Option.{none, some}
 use lib.Dec.{T, ltb, leb, not_T, T_not, ltb→lt, lt→ltb, leb→le, le→leb}
 use lib.ListN.{length, get_or, take, set, length-set}
-use lib.Seq.{take_all}
+use lib.Bits.{bit_and, bit_xor}
+use Rattle.std.proofs.lemmas.Nat.{and_le_l, and_le_r, xor_lt}
 use Rattle.model.specs.Count.{every}
 use borrow.Author.Tests.{lt-ltb}
 use Rattle.model.proofs.Tests.{le_or_lt, true_T, same_test, and_left, and_right, and_in, every_iff}
 use Rattle.ordering.specs.Number.{number, lowest, without}
 use Rattle.ordering.specs.Order.{Task}
-use Rattle.ordering.specs.Least.{due, tight, is_free_part, fits, pick, prepend, greedy}
-use Rattle.ordering.proofs.Number.{lowest_cong, without-left, number_cong, number-all, number-without}
+use Rattle.ordering.specs.Least.{due, tight, is_free_part, fits as part_fits, pick, prepend, greedy}
+use Rattle.ordering.proofs.Number.{lowest_cong, lowest_is, without-left, number_cong, number-all, number-without}
 use Rattle.ordering.proofs.Agree.{greedy_cong}
 use Rattle.ordering.proofs.Loops.{prepend_all, prepend-none, prepend_end, placed-more, greedy_picks, greedy_stops}
-use Rattle.flat_order.specs.declared.PartSet.{PartSet}
+use Rattle.flat_order.specs.declared.sets.PartSet.{PartSet}
 use Rattle.flat_order.specs.Sets.{has_part, single, removed, met, apart}
-use Rattle.flat_order.specs.Flat.{row_at, flat_task, tight_of, candidates_at, is_pick, Below}
+use Rattle.flat_order.specs.Flat.{row_at, flat_task, tight_of, candidates_at, is_pick, IsFirst, InPlace, Below, Levels, IsEnd}
 use Rattle.flat_order.proofs.Members.{has-met, has-removed, apart_none, apart_if}
 use Rattle.flat_order.proofs.Settled.{left-without}
+use Rattle.flat_order.proofs.Free.{pick-among}
+use Rattle.flat_order.proofs.Levels.{end_in, end_tight}
 
 -- a position is before the next of p, or it is after p
 before_next : (a p : ℕ) → ltb a (p + 1) ≡ leb a p
@@ -42,35 +46,48 @@ arrange true true false false = refl
 arrange true true true true = refl
 arrange true true true false = refl
 
-module _ (firsts lasts low high : List ℕ) (left : PartSet) (inside : (i : ℕ) → T (has_part left i) → i < length lasts)
-    (words : (i : ℕ) → (get_or low i 0 < 2 ^ 64) × (get_or high i 0 < 2 ^ 64)) where
+-- the candidates are left
+pub among_left : (left begun : PartSet) (ends : List PartSet) (p v x : ℕ) → T (has_part (candidates_at p v (met left begun) ends) x)
+    → T (has_part left x)
+unfolding candidates_at
+among_left left begun ends p v x u =
+    let past = removed (row_at ends (v + 1)) (row_at ends p) in
+    and_left (has_part left x) (has_part begun x) (rw (has-met left begun x) at
+    (and_left (has_part (met left begun) x) (has_part past x) (rw (has-met (met left begun) past x) at u)))
+
+module _ (firsts lasts : List ℕ) (rows : List PartSet) (left : PartSet) (inside : (i : ℕ) → T (has_part left i) → i < length lasts)
+    (low : left.low < 2 ^ 64) (high : left.high < 2 ^ 64) where
   abbrev t : Task
-  t = flat_task firsts lasts low high
+  t = flat_task firsts lasts rows
+
+  fits : (a b c : ℕ) → b < 2 ^ 64 → bit_and a (bit_xor b (bit_and b c)) < 2 ^ 64
+  fits a b c l = omega (arith, and_le_r a (bit_xor b (bit_and b c)), xor_lt 64 b (bit_and b c) l (omega (arith, and_le_l b c)))
 
   -- no other part left is to be placed earlier than x exactly when its row and the parts left have none in common
-  free_is : (x : ℕ) → is_free_part t (has_part left) x ≡ apart (row_at low high x) (removed left (single x))
-  unfolding is_free_part
+  free_is : (x : ℕ) → is_free_part t (has_part left) x ≡ apart (row_at rows x) (removed left (single x))
+  unfolding is_free_part removed
   free_is x =
       let test : ℕ → Bool = λ y. not (without x (has_part left) y && t.before y x) in
-      same_test (every test (length lasts)) (apart (row_at low high x) (removed left (single x)))
-      (λ u. apart_if (row_at low high x) (removed left (single x)) (words x).0 (words x).1 (λ y l a b.
+      same_test (every test (length lasts)) (apart (row_at rows x) (removed left (single x)))
+      (λ u. apart_if (row_at rows x) (removed left (single x)) (fits (row_at rows x).low left.low (single x).low low) (fits
+      (row_at rows x).high left.high (single x).high high) (λ y l a b.
       let w : T (without x (has_part left) y) = rw (left-without left x y) at b in
       T_not (without x (has_part left) y && t.before y x) ((every_iff test (length lasts)).0 u y (inside y (without-left (has_part left) x y w)))
       (and_in (without x (has_part left) y) (t.before y x) w a)))
       (λ u. (every_iff test (length lasts)).1 (λ y l. not_T (without x (has_part left) y && t.before y x) (λ h.
-      apart_none (row_at low high x) (removed left (single x)) u y (and_right (without x (has_part left) y) (t.before y x) h)
+      apart_none (row_at rows x) (removed left (single x)) u y (and_right (without x (has_part left) y) (t.before y x) h)
       (rw (left-without left x y) (and_left (without x (has_part left) y) (t.before y x) h)))))
 
-  module _ (ll lh : List ℕ) (begun : PartSet) (p : ℕ) (begins : (x : ℕ) →
+  module _ (ends : List PartSet) (begun : PartSet) (p : ℕ) (begins : (x : ℕ) →
       has_part begun x ≡ (ltb x (length lasts) && ltb (get_or firsts x 0) (p + 1)))
-      (closes : Below lasts (length lasts) ll lh) where
+      (closes : Below lasts (length lasts) ends) where
     -- a candidate by the sets is one by its window
-    among-is : (v x : ℕ) → p < length lasts → v < length lasts → x < length lasts → has_part (candidates_at p v (met left begun) ll lh) x
+    among-is : (v x : ℕ) → p < length lasts → v < length lasts → x < length lasts → has_part (candidates_at p v (met left begun) ends) x
         ≡ (has_part left x && leb (get_or firsts x 0) p && leb p (get_or lasts x 0) && leb (get_or lasts x 0) v)
     unfolding candidates_at
     among-is v x k h l =
-        let due = row_at ll lh (v + 1) in
-        let past = row_at ll lh p in
+        let due = row_at ends (v + 1) in
+        let past = row_at ends p in
         has-met (met left begun) (removed due past) x
         ∙ rw (
           has-met left begun x,
@@ -86,14 +103,14 @@ module _ (firsts lasts low high : List ℕ) (left : PartSet) (inside : (i : ℕ)
 
     -- the search up to the end finds the pick
     pub pick_is : (v : ℕ) → p < length lasts → v < length lasts → v ≡ p + tight_of left lasts p → pick t p (has_part left)
-        ≡ lowest (is_pick (candidates_at p v (met left begun) ll lh) left low high) (length lasts)
-    unfolding pick fits tight due tight_of is_pick
+        ≡ lowest (is_pick (candidates_at p v (met left begun) ends) left rows) (length lasts)
+    unfolding pick part_fits tight due tight_of is_pick
     pick_is v k h e = rw (← e) (lowest_cong _ _ (length lasts) (λ x l. rw (free_is x)
-        (ap (λ b. b && apart (row_at low high x) (removed left (single x))) (sym (among-is v x k h l)))))
+        (ap (λ b. b && apart (row_at rows x) (removed left (single x))) (sym (among-is v x k h l)))))
 
     -- a pick is left, and its last position is neither before p nor after v
     pub pick_known : (v x : ℕ) → p < length lasts → v < length lasts → x < length lasts
-        → T (is_pick (candidates_at p v (met left begun) ll lh) left low high x) → T (has_part left x) × (get_or lasts x 0 ≤ v)
+        → T (is_pick (candidates_at p v (met left begun) ends) left rows x) → T (has_part left x) × (get_or lasts x 0 ≤ v)
     unfolding is_pick
     pick_known v x k h l u =
         let a = has_part left x in
@@ -101,27 +118,49 @@ module _ (firsts lasts low high : List ℕ) (left : PartSet) (inside : (i : ℕ)
         let d = leb p (get_or lasts x 0) in
         let e = leb (get_or lasts x 0) v in
         let w = rw (among-is v x k h l) at
-        (and_left (has_part (candidates_at p v (met left begun) ll lh) x) (apart (row_at low high x) (removed left (single x))) u) in
+        (and_left (has_part (candidates_at p v (met left begun) ends) x) (apart (row_at rows x) (removed left (single x))) u) in
         (and_left a b (and_left (a && b) d (and_left (a && b && d) e w)), leb→le (get_or lasts x 0) v (and_right (a && b && d) e w))
+
+    module _ (v : ℕ) (k : p < length lasts) (h : v < length lasts) (e : v ≡ p + tight_of left lasts p) where
+      abbrev among : PartSet
+      among = candidates_at p v (met left begun) ends
+
+      abbrev test : ℕ → Bool
+      test = is_pick among left rows
+
+      -- the first part that can be picked is the pick
+      pub first_is : (x : ℕ) → IsFirst test x → (x ≡ pick t p (has_part left)) × T (has_part left x) × (get_or lasts x 0 ≤ v)
+      first_is x f =
+          let u = among_left left begun ends p v x (pick-among among left rows x f.passes) in
+          let l = inside x u in (
+            lowest_is test (length lasts) x (omega (arith, l)) (λ _. f.passes) (λ i m w. omega (arith, f.least i w)) ∙ sym (pick_is v k h e),
+            u,
+            (pick_known v x k h l f.passes).1,
+          )
+
+      pub none_is : ((x : ℕ) → T (test x) → ⊥) → length lasts ≤ pick t p (has_part left)
+      none_is f =
+          let n = length lasts in
+          omega (arith, lowest_is test n n (le_refl n) (λ m. absurd (omega arith)) (λ i m w. f i w), pick_is v k h e)
 
 and-true : (a : Bool) → (a && true) ≡ a
 and-true true = refl
 and-true false = refl
 
 -- at position p: the parts before it are in the order, and what is left to place
-pub record Placing (firsts lasts low high : List ℕ) (p : ℕ) (order : List ℕ) (left : PartSet) : Type 0 where
-  pub size : length order ≡ length lasts
+pub record Placing (firsts lasts : List ℕ) (rows : List PartSet) (p : ℕ) (order : List ℕ) (left : PartSet) : Type 0 where
+  pub size : length lasts ≤ length order
   pub inside : (i : ℕ) → T (has_part left i) → i < length lasts
   pub count : number (has_part left) (length lasts) + p ≡ length lasts
-  pub same : prepend_all (take p order) (greedy (flat_task firsts lasts low high) (length lasts - p) p (has_part left))
-      ≡ greedy (flat_task firsts lasts low high) (length lasts) 0 (λ _. true)
+  pub same : prepend_all (take p order) (greedy (flat_task firsts lasts rows) (length lasts - p) p (has_part left))
+      ≡ greedy (flat_task firsts lasts rows) (length lasts) 0 (λ _. true)
 
-module _ (firsts lasts low high : List ℕ) where
+module _ (firsts lasts : List ℕ) (rows : List PartSet) where
   abbrev u : Task
-  u = flat_task firsts lasts low high
+  u = flat_task firsts lasts rows
 
-  pub placing_none : (order : List ℕ) (left : PartSet) → length order ≡ length lasts → ((x : ℕ) → has_part left x ≡ ltb x (length lasts))
-      → Placing firsts lasts low high 0 order left
+  pub placing_none : (order : List ℕ) (left : PartSet) → length lasts ≤ length order → ((x : ℕ) → has_part left x ≡ ltb x (length lasts))
+      → Placing firsts lasts rows 0 order left
   placing_none order left e h = record {
     size = e;
     inside = λ i v. ltb→lt i (length lasts) (rw (h i) at v);
@@ -134,15 +173,15 @@ module _ (firsts lasts low high : List ℕ) where
         rw z (greedy_cong u n 0 (has_part left) (λ _. true) (λ i l. h i ∙ true_T (ltb i n) (lt→ltb i n l)));
   }
 
-  module _ (order : List ℕ) (left : PartSet) (p : ℕ) (l : p < length lasts) (s : Placing firsts lasts low high p order left) where
+  module _ (order : List ℕ) (left : PartSet) (p : ℕ) (l : p < length lasts) (s : Placing firsts lasts rows p order left) where
     pub placing_more : (x : ℕ) → x ≡ pick u p (has_part left) → x < length lasts → T (has_part left x)
-        → Placing firsts lasts low high (p + 1) (set order p x) (removed left (single x))
+        → Placing firsts lasts rows (p + 1) (set order p x) (removed left (single x))
     placing_more x e h t =
         let n = length lasts in
         let k : pick u p (has_part left) < n = omega (arith, e) in
         let more = greedy_picks u (has_part left) p l k in
         record {
-          size = length-set order p x ∙ s.size;
+          size = omega (arith, length-set order p x, s.size);
           inside = λ i v. s.inside i (without-left (has_part left) x i (rw (left-without left x i) at v));
           count =
               let f = number-without (has_part left) (λ _. true) x n h t in
@@ -158,10 +197,29 @@ module _ (firsts lasts low high : List ℕ) where
     pub placing_stops : length lasts ≤ pick u p (has_part left) → none ≡ greedy u (length lasts) 0 (λ _. true)
     placing_stops h = sym (prepend-none (take p order)) ∙ ap (prepend_all (take p order)) (sym (greedy_stops u (has_part left) p l h)) ∙ s.same
 
-  pub placing_all : (order : List ℕ) (left : PartSet) (p : ℕ) → p ≡ length lasts → Placing firsts lasts low high p order left
-      → some order ≡ greedy u (length lasts) 0 (λ _. true)
+  pub placing_all : (order : List ℕ) (left : PartSet) (p : ℕ) → p ≡ length lasts → Placing firsts lasts rows p order left
+      → some (take (length lasts) order) ≡ greedy u (length lasts) 0 (λ _. true)
   unfolding greedy
   placing_all order left p e s =
       let z : length lasts - p ≡ 0 = omega arith in
-      ap some (sym (take_all p order (omega (arith, s.size)))) ∙ sym (prepend_end (take p order))
+      ap (λ k. some (take k order)) (sym e) ∙ sym (prepend_end (take p order))
       ∙ ap (λ k. prepend_all (take p order) (greedy u k p (has_part left))) (sym z) ∙ s.same
+
+-- ---- the part that is found at position p
+
+module _ (firsts lasts : List ℕ) (rows ends : List PartSet) (p v : ℕ) (order levels : List ℕ) (left begun among : PartSet) (k : p < length lasts)
+    (s : Placing firsts lasts rows p order left) (d : Levels left lasts p levels) (is : IsEnd (length lasts) p levels v)
+    (low : left.low < 2 ^ 64) (high : left.high < 2 ^ 64) (within : InPlace (length lasts) lasts) (closes : Below lasts (length lasts) ends)
+    (begins : (x : ℕ) → has_part begun x ≡ (ltb x (length lasts) && ltb (get_or firsts x 0) (p + 1)))
+    (e : among ≡ candidates_at p v (met left begun) ends) where
+  v_in : v < length lasts
+  v_in = end_in left lasts levels p d s.count v within k is
+
+  pub found : (x : ℕ) → IsFirst (is_pick among left rows) x
+      → (x ≡ pick (flat_task firsts lasts rows) p (has_part left)) × T (has_part left x) × (get_or lasts x 0 ≤ v)
+  found x f =
+      first_is firsts lasts rows left s.inside low high ends begun p begins closes v k v_in (end_tight left lasts levels p d v is) x (rw e at f)
+
+  pub found_none : ((x : ℕ) → T (is_pick among left rows x) → ⊥) → none ≡ greedy (flat_task firsts lasts rows) (length lasts) 0 (λ _. true)
+  found_none f = placing_stops firsts lasts rows order left p k s
+      (none_is firsts lasts rows left s.inside low high ends begun p begins closes v k v_in (end_tight left lasts levels p d v is) (rw e at f))

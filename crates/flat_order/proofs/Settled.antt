@@ -14,7 +14,7 @@ use Rattle.ordering.specs.Order.{Task}
 use Rattle.ordering.specs.Least.{earliest, relax, settle, lasts_of, ending, greedy, least_order}
 use Rattle.ordering.proofs.Agree.{settle_cong}
 use Rattle.ordering.proofs.Loops.{settle-more}
-use Rattle.flat_order.specs.declared.PartSet.{PartSet}
+use Rattle.flat_order.specs.declared.sets.PartSet.{PartSet}
 use Rattle.flat_order.specs.Sets.{has_part, single, removed}
 use Rattle.flat_order.specs.Flat.{row_at, flat_task, weight_of, cap_of, capped}
 use Rattle.flat_order.proofs.Members.{has-single, has-removed}
@@ -24,10 +24,10 @@ pub left-without : (left : PartSet) (b i : ℕ) → has_part (removed left (sing
 left-without left b i = has-removed left (single b) i ∙ ap (λ r. has_part left i && not r) (has-single b i)
 
 -- after j parts: as many last positions as before, and what is left to settle
-pub record Settling (low high lasts₀ : List ℕ) (j : ℕ) (lasts : List ℕ) (left : PartSet) : Type 0 where
+pub record Settling (rows : List PartSet) (lasts₀ : List ℕ) (j : ℕ) (lasts : List ℕ) (left : PartSet) : Type 0 where
   pub size : length lasts ≡ length lasts₀
-  pub same : (firsts : List ℕ) → settle (flat_task firsts lasts₀ low high) (length lasts₀ - j) (has_part left) lasts ≡ lasts_of
-      (flat_task firsts lasts₀ low high)
+  pub same : (firsts : List ℕ) → settle (flat_task firsts lasts₀ rows) (length lasts₀ - j) (has_part left) lasts ≡ lasts_of
+      (flat_task firsts lasts₀ rows)
 
 -- one part, where the number of parts is known as n
 turn : (t : Task) (left : ℕ → Bool) (lasts : List ℕ) (j : ℕ) → j < t.size → (n : ℕ) → n ≡ t.size
@@ -38,40 +38,40 @@ turn : (t : Task) (left : ℕ → Bool) (lasts : List ℕ) (j : ℕ) → j < t.s
 unfolding earliest relax
 turn t left lasts j l n e = rw e (sym (settle-more t left lasts j l))
 
-module _ (low high lasts₀ : List ℕ) where
-  pub settling_none : (left : PartSet) → ((x : ℕ) → has_part left x ≡ ltb x (length lasts₀)) → Settling low high lasts₀ 0 lasts₀ left
+module _ (rows : List PartSet) (lasts₀ : List ℕ) where
+  pub settling_none : (left : PartSet) → ((x : ℕ) → has_part left x ≡ ltb x (length lasts₀)) → Settling rows lasts₀ 0 lasts₀ left
   unfolding lasts_of
   settling_none left h = record {
     size = refl;
     same = λ firsts.
-        let t = flat_task firsts lasts₀ low high in
+        let t = flat_task firsts lasts₀ rows in
         let n = length lasts₀ in
         let e : n - 0 ≡ n = omega arith in
         rw e (settle_cong t n (has_part left) (λ _. true) lasts₀ (λ i l. h i ∙ true_T (ltb i n) (lt→ltb i n l))
         ∙ ap (settle t n (λ _. true)) (list_is t.last n lasts₀ refl (λ k l. refl)));
   }
 
-  module _ (lasts : List ℕ) (left : PartSet) (j : ℕ) (l : j < length lasts₀) (s : Settling low high lasts₀ j lasts left) where
+  module _ (lasts : List ℕ) (left : PartSet) (j : ℕ) (l : j < length lasts₀) (s : Settling rows lasts₀ j lasts left) where
     abbrev b : ℕ
     b = lowest_at (weight_of left lasts) (length lasts)
 
-    pub settling_more : Settling low high lasts₀ (j + 1) (capped (row_at low high b) (get_or lasts b 0) lasts) (removed left (single b))
+    pub settling_more : Settling rows lasts₀ (j + 1) (capped (row_at rows b) (get_or lasts b 0) lasts) (removed left (single b))
     unfolding capped
     settling_more = record {
-      size = length-list_of (cap_of (row_at low high b) (get_or lasts b 0) lasts) (length lasts) ∙ s.size;
+      size = length-list_of (cap_of (row_at rows b) (get_or lasts b 0) lasts) (length lasts) ∙ s.size;
       same = λ firsts.
-          let t = flat_task firsts lasts₀ low high in
+          let t = flat_task firsts lasts₀ rows in
           settle_cong t (length lasts₀ - (j + 1)) (has_part (removed left (single b))) (without b (has_part left))
-          (capped (row_at low high b) (get_or lasts b 0) lasts)
+          (capped (row_at rows b) (get_or lasts b 0) lasts)
           (λ i _. left-without left b i) ∙ turn t (has_part left) lasts j l (length lasts) s.size ∙ s.same firsts;
     }
 
-  pub settling_all : (lasts : List ℕ) (left : PartSet) (j : ℕ) → length lasts₀ ≤ j → Settling low high lasts₀ j lasts left
-      → (firsts : List ℕ) → lasts ≡ lasts_of (flat_task firsts lasts₀ low high)
+  pub settling_all : (lasts : List ℕ) (left : PartSet) (j : ℕ) → length lasts₀ ≤ j → Settling rows lasts₀ j lasts left
+      → (firsts : List ℕ) → lasts ≡ lasts_of (flat_task firsts lasts₀ rows)
   unfolding settle
   settling_all lasts left j l s firsts =
       let e : length lasts₀ - j ≡ 0 = omega arith in
-      sym (ap (λ k. settle (flat_task firsts lasts₀ low high) k (has_part left) lasts) e) ∙ s.same firsts
+      sym (ap (λ k. settle (flat_task firsts lasts₀ rows) k (has_part left) lasts) e) ∙ s.same firsts
 
 -- as many last positions after as before
 settle-length : (t : Task) (k : ℕ) (left : ℕ → Bool) (lasts : List ℕ) → length lasts ≡ t.size → length (settle t k left lasts) ≡ t.size
@@ -82,12 +82,12 @@ settle-length t (suc k) left lasts e =
     settle-length t k (without b left) (relax t b lasts) (length-list_of _ t.size)
 
 -- the least order is the greedy order with the last positions settled
-pub least_settled : (firsts lasts low high settled : List ℕ) → settled ≡ lasts_of (flat_task firsts lasts low high)
+pub least_settled : (firsts lasts : List ℕ) (rows : List PartSet) (settled : List ℕ) → settled ≡ lasts_of (flat_task firsts lasts rows)
     → (length settled ≡ length lasts)
-    × (greedy (flat_task firsts settled low high) (length settled) 0 (λ _. true) ≡ least_order (flat_task firsts lasts low high))
+    × (greedy (flat_task firsts settled rows) (length settled) 0 (λ _. true) ≡ least_order (flat_task firsts lasts rows))
 unfolding least_order lasts_of
-least_settled firsts lasts low high settled e =
-    let t = flat_task firsts lasts low high in
+least_settled firsts lasts rows settled e =
+    let t = flat_task firsts lasts rows in
     let n : length settled ≡ length lasts = ap length e
     ∙ settle-length t (length lasts) (λ _. true) (list_of t.last (length lasts)) (length-list_of t.last (length lasts)) in
     (n, rw n (ap (λ l. greedy (ending t l) (length lasts) 0 (λ _. true)) e))

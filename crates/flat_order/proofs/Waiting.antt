@@ -14,12 +14,12 @@ use Rattle.model.proofs.ListOf.{length-list_of, list_of-at, list_of_cong, list_i
 use Rattle.model.proofs.Largest.{lowest-only}
 use Rattle.ordering.specs.Number.{number, without}
 use Rattle.ordering.proofs.Number.{number_but, number_pos, without-left, without_differs, without_in, number-all, number_cong}
-use Rattle.flat_order.specs.declared.PartSet.{PartSet}
+use Rattle.flat_order.specs.declared.sets.PartSet.{PartSet}
 use Rattle.flat_order.specs.Sets.{has_part, single, joined, removed, met, no_parts, IsLowest}
 use Rattle.flat_order.specs.Flat.{row_at, weight_of, capped, InPlace}
 use Rattle.flat_order.proofs.Members.{has-joined, has-met, some_or, or_first, or_second}
 use Rattle.flat_order.proofs.Lasts.{first-none}
-use Rattle.flat_order.proofs.Settled.{Settling, left-without, settling_more}
+use Rattle.flat_order.proofs.Settled.{Settling, left-without, settling_none, settling_more}
 
 -- the last positions, where a part that is due has to stand at e or earlier
 pub viewed : PartSet → ℕ → List ℕ → List ℕ
@@ -113,33 +113,34 @@ module _ (lasts₀ lasts : List ℕ) (j e : ℕ) (left due ends : PartSet) (few 
           (test (has_part here x))))
           (test (has_part due x))
 
-  -- where none is due, all parts left end later
-  module _ (b : ℕ) (is : IsLowest here b) (h : 128 ≤ b) where
-    none-due : (x : ℕ) → T (not (has_part here x))
-    none-due x = not_T (has_part here x) (λ t. omega (arith, is.least x t, w.inside x (due-left x t), few))
+-- ---- where no part is due, all parts left end later
 
-    pub later : (x : ℕ) → T (has_part left x) → e < get_or lasts x 0
-    later x t = strictly x t (none-due x)
+module _ (lasts₀ lasts : List ℕ) (j e : ℕ) (left due : PartSet) (w : Waiting lasts₀ j lasts left due e)
+    (strict : (x : ℕ) → T (has_part left x) → T (not (has_part due x)) → e < get_or lasts x 0)
+    (none : (x : ℕ) → T (has_part due x) → ⊥) where
+  later : (x : ℕ) → T (has_part left x) → e < get_or lasts x 0
+  later x t = strict x t (not_T (has_part due x) (none x))
 
-    pub waiting_next : Waiting lasts₀ j lasts left here (e + 1)
-    waiting_next = record {
-      size = w.size;
-      count = w.count;
-      inside = w.inside;
-      below = w.below;
-      part = due-left;
-      kept = w.kept;
-      ahead = λ x t. omega (arith, later x t);
-      behind = λ x l t. omega (arith, w.behind x l t);
-    }
+  waiting_next : Waiting lasts₀ j lasts left due (e + 1)
+  waiting_next = record {
+    size = w.size;
+    count = w.count;
+    inside = w.inside;
+    below = w.below;
+    part = w.part;
+    kept = w.kept;
+    ahead = λ x t. omega (arith, later x t);
+    behind = λ x l t. omega (arith, w.behind x l t);
+  }
 
-    pub viewed_next : viewed here (e + 1) lasts ≡ viewed due e lasts
-    unfolding viewed
-    viewed_next = list_of_cong _ _ (length lasts) (λ x l. rw (false_T (has_part here x) (none-due x))) ∙ viewed_here
+  viewed_next : viewed due (e + 1) lasts ≡ viewed due e lasts
+  unfolding viewed
+  viewed_next = list_of_cong _ _ (length lasts) (λ x l. rw (false_T (has_part due x) (not_T (has_part due x) (none x))))
 
 -- ---- one part settled
 
-module _ (low high lasts₀ lasts : List ℕ) (j e b : ℕ) (left due : PartSet) (few : length lasts₀ ≤ 128) (w : Waiting lasts₀ j lasts left due e)
+module _ (rows : List PartSet) (lasts₀ lasts : List ℕ) (j e b : ℕ) (left due : PartSet) (few : length lasts₀ ≤ 128)
+    (w : Waiting lasts₀ j lasts left due e)
     (strict : (x : ℕ) → T (has_part left x) → T (not (has_part due x)) → e < get_or lasts x 0) (within : e < length lasts₀)
     (is : IsLowest due b) (is-due : T (has_part due b)) where
   abbrev m : ℕ
@@ -152,7 +153,7 @@ module _ (low high lasts₀ lasts : List ℕ) (j e b : ℕ) (left due : PartSet)
   left₂ = removed left (single b)
 
   abbrev due₂ : PartSet
-  due₂ = met (joined due (row_at low high b)) left₂
+  due₂ = met (joined due (row_at rows b)) left₂
 
   is_left : T (has_part left b)
   is_left = w.part b is-due
@@ -209,8 +210,8 @@ module _ (low high lasts₀ lasts : List ℕ) (j e b : ℕ) (left due : PartSet)
   left-stays x t d = rw (left-without left b x) (without_in (has_part left) b x t d)
 
   due-left₂ : (x : ℕ) → T (has_part due₂ x) → T (has_part left₂ x)
-  due-left₂ x t = and_right (has_part (joined due (row_at low high b)) x) (has_part left₂ x)
-      (rw (has-met (joined due (row_at low high b)) left₂ x) at t)
+  due-left₂ x t = and_right (has_part (joined due (row_at rows b)) x) (has_part left₂ x)
+      (rw (has-met (joined due (row_at rows b)) left₂ x) at t)
 
   set_other : (x : ℕ) → b ≢ x → get_or (set lasts b e) x 0 ≡ get_or lasts x 0
   set_other x d = get_or-set_other lasts b x e 0 (λ z. d (sym z))
@@ -242,7 +243,7 @@ module _ (low high lasts₀ lasts : List ℕ) (j e b : ℕ) (left due : PartSet)
 
   -- the last positions after the part, as its row asks for them
   abbrev row : PartSet
-  row = row_at low high b
+  row = row_at rows b
 
   due₂_in : (x : ℕ) → T (has_part left₂ x) → T (has_part due x || has_part row x) → T (has_part due₂ x)
   due₂_in x t u = rw (has-met (joined due row) left₂ x, has-joined due row x) (and_in (has_part due x || has_part row x) (has_part left₂ x) u t)
@@ -301,21 +302,80 @@ module _ (low high lasts₀ lasts : List ℕ) (j e b : ℕ) (left due : PartSet)
       let s : length (set lasts b e) ≡ length now = length-set lasts b e ∙ w.size ∙ sym now_size in
       rw s (list_of_cong _ _ (length now) (λ x l. place x (omega (arith, now_size))))
 
-  settling_next : j < m → Settling low high lasts₀ j now left → Settling low high lasts₀ (j + 1) (viewed due₂ e (set lasts b e)) left₂
-  settling_next l s = rw (earliest_is, now-due b is-due, capped_is) at (settling_more low high lasts₀ now left j l s)
+  settling_next : j < m → Settling rows lasts₀ j now left → Settling rows lasts₀ (j + 1) (viewed due₂ e (set lasts b e)) left₂
+  settling_next l s = rw (earliest_is, now-due b is-due, capped_is) at (settling_more rows lasts₀ now left j l s)
 
-  -- the next turn, for the sets that are left and due then
-  pub settled_one : (l₂ d₂ : PartSet) → l₂ ≡ removed left (single b) → d₂ ≡ met (joined due (row_at low high b)) l₂ → j < m
-      → Settling low high lasts₀ j now left
-      → Waiting lasts₀ (j + 1) (set lasts b e) l₂ d₂ e × Settling low high lasts₀ (j + 1) (viewed d₂ e (set lasts b e)) l₂
-  settled_one l₂ d₂ p q l s = rw (q, p) (waiting_more, settling_next l s)
-
--- ---- all parts settled
+  strict_more : (x : ℕ) → T (has_part left₂ x) → T (not (has_part due₂ x)) → e < get_or (set lasts b e) x 0
+  strict_more x t u =
+      let (k, d) = left_keeps x t in
+      let v = not_T (has_part due x) (λ z. T_not (has_part due₂ x) u (due₂_in x t (or_first (has_part due x) (has_part row x) z))) in
+      rw (set_other x d) (strict x k v)
 
 pub viewed_none : (lasts : List ℕ) → viewed no_parts 0 lasts ≡ lasts
 unfolding viewed
 viewed_none lasts = sym (list_is _ (length lasts) lasts refl (λ k l. rw (false_T (has_part no_parts k) (not_T (has_part no_parts k) (λ t.
     let v : T (ltb k 0) = rw (first-none k) at t in omega (arith, ltb→lt k 0 v))))))
+
+-- ---- a position: its parts that are due are settled one by one
+
+pub record Turn (rows : List PartSet) (lasts₀ : List ℕ) (j : ℕ) (lasts : List ℕ) (left due : PartSet) (e : ℕ) : Type 0 where
+  pub waiting : Waiting lasts₀ j lasts left due e
+  pub settling : Settling rows lasts₀ j (viewed due e lasts) left
+  pub strict : (x : ℕ) → T (has_part left x) → T (not (has_part due x)) → e < get_or lasts x 0
+
+-- no position has been settled, or those before this one
+pub record Before (rows : List PartSet) (lasts₀ : List ℕ) (j : ℕ) (lasts : List ℕ) (left due : PartSet) (e : ℕ) : Type 0 where
+  pub waiting : Waiting lasts₀ j lasts left due e
+  pub settling : Settling rows lasts₀ j (viewed due e lasts) left
+
+pub before_none : (rows : List PartSet) (lasts : List ℕ) (left : PartSet) → ((x : ℕ) → has_part left x ≡ ltb x (length lasts))
+    → InPlace (length lasts) lasts → Before rows lasts 0 lasts left no_parts 0
+before_none rows lasts left h p = record {
+  waiting = waiting_none lasts left h p;
+  settling = rw (viewed_none lasts) (settling_none rows lasts left h);
+}
+
+module _ (rows : List PartSet) (lasts₀ : List ℕ) (few : length lasts₀ ≤ 128) (j : ℕ) (lasts : List ℕ) (left due : PartSet) (e : ℕ) where
+  pub turn_begins : (ends : PartSet) → ((x : ℕ) → has_part ends x ≡ (ltb x (length lasts₀) && eqb (get_or lasts₀ x 0 + 1) (e + 1)))
+      → Before rows lasts₀ j lasts left due e → Turn rows lasts₀ j lasts left (met (joined due ends) left) e
+  turn_begins ends at t = record {
+    waiting = waiting_here lasts₀ lasts j e left due ends few at t.waiting;
+    settling = rw (viewed_here lasts₀ lasts j e left due ends few at t.waiting) t.settling;
+    strict = strictly lasts₀ lasts j e left due ends few at t.waiting;
+  }
+
+  module _ (t : Turn rows lasts₀ j lasts left due e) where
+    pub turn_more : (b : ℕ) → e < length lasts₀ → IsLowest due b → b < 128
+        → Turn rows lasts₀ (j + 1) (set lasts b e) (removed left (single b)) (met (joined due (row_at rows b)) (removed left (single b))) e
+    turn_more b l is h =
+        let w = t.waiting in
+        let d = is.found h in
+        let u = w.part b d in
+        let k : j < length lasts₀ = omega (arith, w.count, number_pos (has_part left) (length lasts₀) b (w.inside b u) u) in
+        record {
+          waiting = waiting_more rows lasts₀ lasts j e b left due few w t.strict l is d;
+          settling = settling_next rows lasts₀ lasts j e b left due few w t.strict l is d k t.settling;
+          strict = strict_more rows lasts₀ lasts j e b left due few w t.strict l is d;
+        }
+
+    -- a part that is due is one of the parts, and not all of them are settled
+    pub turn_in : (b : ℕ) → IsLowest due b → b < 128 → (b < length lasts₀) × (j < length lasts₀) × T (has_part left b)
+    turn_in b is h =
+        let w = t.waiting in
+        let u = w.part b (is.found h) in
+        (w.inside b u, omega (arith, w.count, number_pos (has_part left) (length lasts₀) b (w.inside b u) u), u)
+
+    module _ (none : (x : ℕ) → T (has_part due x) → ⊥) where
+      pub turn_later : (x : ℕ) → T (has_part left x) → e < get_or lasts x 0
+      turn_later = later lasts₀ lasts j e left due t.waiting t.strict none
+
+      pub turn_ends : Before rows lasts₀ j lasts left due (e + 1)
+      turn_ends = record {
+        waiting = waiting_next lasts₀ lasts j e left due t.waiting t.strict none;
+        settling = rw (viewed_next lasts₀ lasts j e left due t.waiting t.strict none) t.settling;
+      }
+
+-- ---- all parts settled
 
 pub viewed_all : (lasts₀ lasts : List ℕ) (left due : PartSet) (e j : ℕ) → length lasts₀ ≤ j → Waiting lasts₀ j lasts left due e
     → viewed due e lasts ≡ lasts

@@ -1,22 +1,22 @@
 -- The task that flat arrays describe: first and last positions, and the rows of the parts that are to precede each part.
-use Rattle.std.specs.Prelude.{ℕ, suc, ◌+◌, ◌-◌, ◌≤◌, ◌<◌, min, ◌≡◌, Bool, cond, ◌&&◌, List, T, ltb, leb, eqb, length, get_or, replicate}
+use Rattle.std.specs.Prelude.{ℕ, suc, ◌+◌, ◌-◌, ◌≤◌, ◌<◌, min, ◌≡◌, Bool, cond, ◌&&◌, List, T, ltb, leb, eqb, length, get_or}
 use Rattle.model.specs.Count.{list_of}
 use Rattle.ordering.specs.Number.{number, lowest}
 use Rattle.ordering.specs.Order.{Task}
-use Rattle.flat_order.specs.declared.PartSet.{PartSet}
-use Rattle.flat_order.specs.Sets.{has_part, single, removed, met, apart}
+use Rattle.flat_order.specs.declared.sets.PartSet.{PartSet}
+use Rattle.flat_order.specs.Sets.{has_part, single, removed, met, apart, no_parts}
 
 -- the row of part b
-abbrev pub row_at : List ℕ → List ℕ → ℕ → PartSet
-row_at low high b = record { low = get_or low b 0; high = get_or high b 0 }
+abbrev pub row_at : List PartSet → ℕ → PartSet
+row_at rows b = get_or rows b no_parts
 
 -- the task, with a part for each last position
-abbrev pub flat_task : List ℕ → List ℕ → List ℕ → List ℕ → Task
-flat_task firsts lasts low high = record {
+abbrev pub flat_task : List ℕ → List ℕ → List PartSet → Task
+flat_task firsts lasts rows = record {
   size = length lasts;
   first = λ i. get_or firsts i 0;
   last = λ i. get_or lasts i 0;
-  before = λ a b. has_part (row_at low high b) a;
+  before = λ a b. has_part (row_at rows b) a;
 }
 
 -- how early the last position of part i is, if it is left
@@ -30,10 +30,6 @@ cap_of earlier limit lasts i = cond (has_part earlier i) (min (get_or lasts i 0)
 -- the last positions, where no part of the set has one after the limit
 unfoldable pub capped : PartSet → ℕ → List ℕ → List ℕ
 capped earlier limit lasts = list_of (cap_of earlier limit lasts) (length lasts)
-
--- an array of 128 zero bytes
-unfoldable pub no_levels : List ℕ
-no_levels = replicate 128 0
 
 -- part i is left and has to stand at position v or earlier
 abbrev pub is_due : PartSet → List ℕ → ℕ → ℕ → Bool
@@ -64,43 +60,40 @@ tight_of left lasts p = lowest (λ d. eqb (number (is_due left lasts (p + d)) (l
 
 -- the parts begun that have not ended before position p, and have to stand at v or earlier: at each place of the lists stand the parts whose
 -- last positions are before it
-unfoldable pub candidates_at : ℕ → ℕ → PartSet → List ℕ → List ℕ → PartSet
-candidates_at p v begun ends_low ends_high = met begun (removed (row_at ends_low ends_high (v + 1)) (row_at ends_low ends_high p))
+unfoldable pub candidates_at : ℕ → ℕ → PartSet → List PartSet → PartSet
+candidates_at p v begun ends = met begun (removed (row_at ends (v + 1)) (row_at ends p))
 
 -- part x is among the candidates, and no other part left is to be placed earlier
-unfoldable pub is_pick : PartSet → PartSet → List ℕ → List ℕ → ℕ → Bool
-is_pick among left low high x = has_part among x && apart (row_at low high x) (removed left (single x))
+unfoldable pub is_pick : PartSet → PartSet → List PartSet → ℕ → Bool
+is_pick among left rows x = has_part among x && apart (row_at rows x) (removed left (single x))
+
+-- x is the least number that passes the test
+pub record IsFirst (f : ℕ → Bool) (x : ℕ) : Type 0 where
+  pub passes : T (f x)
+  pub least : (y : ℕ) → T (f y) → x ≤ y
 
 -- each of the first n positions is below n
 abbrev pub InPlace : ℕ → List ℕ → Type 0
 InPlace n positions = (i : ℕ) → i < n → get_or positions i 0 < n
 
--- an array of 130 zeros
-unfoldable pub no_words : List ℕ
-no_words = replicate 130 0
-
 -- each of the first n parts is at the place after its position
-pub record PartsAt (positions : List ℕ) (n : ℕ) (low high : List ℕ) : Type 0 where
-  pub lows : length low ≡ 130
-  pub highs : length high ≡ 130
-  pub each : (w x : ℕ) → w < 130 → has_part (row_at low high w) x ≡ (ltb x n && eqb (get_or positions x 0 + 1) w)
+pub record PartsAt (positions : List ℕ) (n : ℕ) (rows : List PartSet) : Type 0 where
+  pub size : length rows ≡ 130
+  pub each : (w x : ℕ) → w < 130 → has_part (row_at rows w) x ≡ (ltb x n && eqb (get_or positions x 0 + 1) w)
 
 -- at each place up to n are those of the first n parts whose positions are before it
-pub record Below (positions : List ℕ) (n : ℕ) (low high : List ℕ) : Type 0 where
-  pub lows : length low ≡ 130
-  pub highs : length high ≡ 130
-  pub each : (w x : ℕ) → w ≤ n → has_part (row_at low high w) x ≡ (ltb x n && ltb (get_or positions x 0) w)
+pub record Below (positions : List ℕ) (n : ℕ) (rows : List PartSet) : Type 0 where
+  pub size : length rows ≡ 130
+  pub each : (w x : ℕ) → w ≤ n → has_part (row_at rows w) x ≡ (ltb x n && ltb (get_or positions x 0) w)
 
 -- each part that waits is noted at a part left that is to precede it
-pub record Held (left waiting : PartSet) (low high wait-low wait-high : List ℕ) : Type 0 where
-  pub lows : length wait-low ≡ 130
-  pub highs : length wait-high ≡ 130
+pub record Held (left waiting : PartSet) (rows noted : List PartSet) : Type 0 where
+  pub size : length noted ≡ 128
   pub each : (x : ℕ) → T (has_part waiting x)
-      → (b : ℕ) × T (has_part (met (row_at low high x) (removed left (single x))) b) × T (has_part (row_at wait-low wait-high b) x)
+      → (b : ℕ) × T (has_part (met (row_at rows x) (removed left (single x))) b) × T (has_part (row_at noted b) x)
 
 -- there are at most 128 parts, and each has its first position and its row
-pub record SizedFor (n : ℕ) (fs ls hs : List ℕ) : Type 0 where
+pub record SizedFor (n : ℕ) (fs : List ℕ) (rs : List PartSet) : Type 0 where
   pub parts : n ≤ 128
   pub firsts : n ≤ length fs
-  pub low : n ≤ length ls
-  pub high : n ≤ length hs
+  pub rows : n ≤ length rs

@@ -1,54 +1,32 @@
 // The parts by their positions, as sets.
-ghost use Rattle.std.specs.Prelude.{◌≡◌, ℕ, ◌≤◌, ◌<◌, ltb, length};
+ghost use Rattle.std.specs.Prelude.{◌≡◌, ℕ, ◌≤◌, ltb, length};
 ghost use Rattle.flat_order.specs.Sets.{has_part};
-ghost use Rattle.flat_order.specs.Flat.{row_at, no_words, PartsAt, InPlace};
+ghost use Rattle.flat_order.specs.Flat.{PartsAt, InPlace};
 
-use crate::PartSet;
-use crate::sets::{join, single_part};
-
-// The row of part b.
-pub fn row(low: &[u64], high: &[u64], b: usize) -> PartSet
-    requires { (b < length low.now) × (b < length high.now) }
-    ensures { result ≡ row_at low.now high.now b }
-{
-    PartSet {
-        low: low[b],
-        high: high[b],
-    }
-}
-
-pub fn no_words() -> [u64; 130]
-    ensures { result ≡ no_words }
-{
-    [0; 130]
-}
+use crate::sets::PartSet;
 
 // The set of the first n parts.
 pub fn first_parts(n: usize) -> PartSet
     requires { n ≤ 128 }
     ensures { (x : ℕ) → has_part result x ≡ ltb x n }
 {
-    let mut all = PartSet { low: 0, high: 0 };
-    let mut i = 0;
-    while i < n {
-        all = join(all, single_part(i));
-        i += 1;
+    let mut all = PartSet::EMPTY;
+    for i in 0..n {
+        all = all | PartSet::single(i);
     }
     all
 }
 
-// The first n parts, each at the place after its position.
-pub fn put_parts(positions: &[usize], n: usize, low: &mut [u64], high: &mut [u64])
-    requires { (n ≤ 128) × (n ≤ length positions.now) × InPlace n positions.now
-        × (low.old ≡ no_words) × (high.old ≡ no_words) }
-    ensures { PartsAt positions.now n low.new high.new }
+// The parts, each at the place after its position.
+pub fn by_position(positions: &[usize]) -> [PartSet; 130]
+    requires few { length positions.now ≤ 128 }
+    requires within { InPlace (length positions.now) positions.now }
+    ensures { PartsAt positions.now (length positions.now) result }
 {
-    let mut i = 0;
-    while i < n {
-        let at = positions[i] + 1;
-        let one = single_part(i);
-        low[at] |= one.low;
-        high[at] |= one.high;
-        i += 1;
+    let mut sets = [PartSet::EMPTY; 130];
+    for (i, &position) in positions.iter().enumerate() {
+        let at = position + 1;
+        sets[at] = sets[at] | PartSet::single(i);
     }
+    sets
 }

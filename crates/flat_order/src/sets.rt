@@ -1,57 +1,86 @@
 // Sets of parts, in two words.
-ghost use Rattle.std.specs.Prelude.{◌≡◌, ◌<◌};
-ghost use Rattle.flat_order.specs.Sets.{single, joined, removed, met, IsLowest};
+ghost use Rattle.std.specs.Prelude.{◌≡◌, ℕ, ◌<◌, T, IfSome, IfNone};
+ghost use Rattle.flat_order.specs.Sets.{has_part, single, joined, removed, met, no_parts, IsLowest};
 
-use crate::PartSet;
-use tips::lowest;
+use std::ops::{BitAnd, BitOr, Sub};
 
-pub fn single_part(x: usize) -> PartSet
-    requires { x < 128 }
-    ensures { result ≡ single x }
-{
-    let bit = 1 << (x % 64);
-    if x < 64 {
-        return PartSet { low: bit, high: 0 };
-    }
-    PartSet { low: 0, high: bit }
+// A set of parts: part x is bit x of `low`, and from 64 on bit x - 64 of `high`.
+#[derive(Clone, Copy, PartialEq, Eq)]
+pub struct PartSet {
+    pub low: u64,
+    pub high: u64,
 }
 
-pub fn join(s: PartSet, t: PartSet) -> PartSet
-    ensures { result ≡ joined s t }
-{
-    PartSet {
-        low: s.low | t.low,
-        high: s.high | t.high,
+impl PartSet {
+    pub const EMPTY: PartSet = PartSet { low: 0, high: 0 };
+
+    // The set of part x alone.
+    pub fn single(x: usize) -> PartSet
+        requires { x < 128 }
+        ensures { result ≡ single x }
+    {
+        let bit = 1 << (x % 64);
+        if x < 64 {
+            PartSet { low: bit, high: 0 }
+        } else {
+            PartSet { low: 0, high: bit }
+        }
+    }
+
+    // The lowest part of the set.
+    pub fn lowest(self) -> Option<usize>
+        ensures some { IfSome result (λ x. (x < 128) × IsLowest self x) }
+        ensures none { IfNone result ((x : ℕ) → T (has_part self x) → ⊥) }
+    {
+        if self.low != 0 {
+            return Some(tips::lowest(self.low));
+        }
+        if self.high != 0 {
+            return Some(64 + tips::lowest(self.high));
+        }
+        None
     }
 }
 
-pub fn remove(s: PartSet, t: PartSet) -> PartSet
-    ensures { result ≡ removed s t }
-{
-    PartSet {
-        low: s.low ^ (s.low & t.low),
-        high: s.high ^ (s.high & t.high),
+impl BitOr for PartSet {
+    type Output = PartSet;
+
+    ghost bitor_gives = { λ s t r. r ≡ joined s t };
+
+    #[tactic(auto, unfolding(crate::specs::Sets::joined))]
+    fn bitor(self, other: PartSet) -> PartSet {
+        PartSet {
+            low: self.low | other.low,
+            high: self.high | other.high,
+        }
     }
 }
 
-pub fn meet(s: PartSet, t: PartSet) -> PartSet
-    ensures { result ≡ met s t }
-{
-    PartSet {
-        low: s.low & t.low,
-        high: s.high & t.high,
+impl BitAnd for PartSet {
+    type Output = PartSet;
+
+    ghost bitand_gives = { λ s t r. r ≡ met s t };
+
+    #[tactic(auto, unfolding(crate::specs::Sets::met))]
+    fn bitand(self, other: PartSet) -> PartSet {
+        PartSet {
+            low: self.low & other.low,
+            high: self.high & other.high,
+        }
     }
 }
 
-// The lowest part of the set; 128 where it has none.
-pub fn lowest_part(s: PartSet) -> usize
-    ensures { IsLowest s result }
-{
-    if s.low != 0 {
-        return lowest(s.low);
+// The parts of the first set that are not in the second.
+impl Sub for PartSet {
+    type Output = PartSet;
+
+    ghost sub_gives = { λ s t r. r ≡ removed s t };
+
+    #[tactic(auto, unfolding(crate::specs::Sets::removed))]
+    fn sub(self, other: PartSet) -> PartSet {
+        PartSet {
+            low: self.low ^ (self.low & other.low),
+            high: self.high ^ (self.high & other.high),
+        }
     }
-    if s.high == 0 {
-        return 128;
-    }
-    64 + lowest(s.high)
 }

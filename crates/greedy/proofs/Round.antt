@@ -8,7 +8,7 @@ use mathlib.Core.Bool.{cond}
 use mathlib.Core.List.{List, [], ◌∷◌, map}
 use lib.Dec.{T_not, not_T, eqb→eq}
 use lib.ListN.{length, get_or, replicate, length-map}
-use Rattle.model.specs.Count.{All, none, more, largest}
+use Rattle.model.specs.Count.{All, more, largest}
 use Rattle.model.specs.Limits.{most_placements, most_pairs}
 use Rattle.model.specs.Plan.{has, occ, is_empty, pairs, choose2, Domain, prefer}
 use Rattle.model.specs.Choice.{Mounted}
@@ -32,7 +32,7 @@ use Rattle.unplanned.specs.Listed.{Unplanned}
 use Rattle.counts.specs.Counts.{count_at, busy_tips, Counts}
 use Rattle.head.specs.OnHead.{chosen}
 use Rattle.counts.proofs.Read.{largest-top}
-use Rattle.greedy.specs.Rounds.{plan_by, cleared, placed, Taken, ListsFit, RoundReady}
+use Rattle.greedy.specs.Rounds.{Sizes, plan_by, cleared, placed, Taken, ListsFit, RoundReady}
 use Rattle.greedy.proofs.Chosen.{chosen-busiest}
 use Rattle.greedy.proofs.PlanBy.{length-plan_by, plan_by_same, plan_by-map, plan_by-twice}
 use Rattle.greedy.proofs.Unplanned.{unplanned, occ-unplanned, unplanned-all, unplanned-cleared, unplanned-none, none-unplanned}
@@ -180,12 +180,15 @@ none-listed left u z =
     absurd (omega arith))
     (test (is_empty (get_or left i 0))))
 
--- the lists have the lengths that they had
-pub record Sizes (list₀ places₀ sets₀ taken₀ list places sets taken : List ℕ) : Type 0 where
-  pub list_size : length list ≡ length list₀
-  pub places_size : length places ≡ length places₀
-  pub sets_size : length sets ≡ length sets₀
-  pub taken_size : length taken ≡ length taken₀
+pub sizes_on : {list₀ places₀ sets₀ taken₀ list₁ places₁ sets₁ taken₁ list places sets taken : List ℕ}
+    → Sizes list₀ places₀ sets₀ taken₀ list₁ places₁ sets₁ taken₁ → Sizes list₁ places₁ sets₁ taken₁ list places sets taken
+    → Sizes list₀ places₀ sets₀ taken₀ list places sets taken
+sizes_on a b = record {
+  list_size = b.list_size ∙ a.list_size;
+  places_size = b.places_size ∙ a.places_size;
+  sets_size = b.sets_size ∙ a.sets_size;
+  taken_size = b.taken_size ∙ a.taken_size;
+}
 
 pub still_fit : {n : ℕ} {list₀ places₀ sets₀ taken₀ list places sets taken : List ℕ} → ListsFit n list₀ places₀ sets₀ taken₀
     → Sizes list₀ places₀ sets₀ taken₀ list places sets taken → ListsFit n list places sets taken
@@ -210,6 +213,11 @@ pub record Begun (mounted : Mounted) (m : ℕ) (qs lines left plan counts : List
   pub counts_are : Counts (repeated qs left) counts
   pub good : GoodLines m qs lines
   pub is_most : most ≡ largest (count_at counts) m
+
+pub begins : {mounted : Mounted} {m shared : ℕ} {qs lines left plan counts : List ℕ} {n : ℕ} {list : List ℕ} {most : ℕ}
+    → Ongoing mounted m shared qs lines left plan counts n list → GoodLines m qs lines → most ≡ largest (count_at counts) m
+    → Begun mounted m qs lines left plan counts shared most
+begins o g e = record { state = o.state; counts_are = o.counts_are; good = g; is_most = e }
 
 module _ {mounted : Mounted} {m : ℕ} {qs lines left plan counts : List ℕ} {shared most : ℕ}
     (b : Begun mounted m qs lines left plan counts shared most) where
@@ -247,6 +255,11 @@ pub record Chosen (mounted : Mounted) (m : ℕ) (qs lines left plan counts : Lis
   pub begun : Begun mounted m qs lines left plan counts shared most
   pub lines_left : most ≡ 0 → ⊥
   pub is_tip : tip ≡ chosen mounted (busy_tips (count_at counts) most m)
+
+pub chooses : {mounted : Mounted} {m : ℕ} {qs lines left plan counts : List ℕ} {shared most tips tip : ℕ}
+    → Begun mounted m qs lines left plan counts shared most → (most ≡ 0 → ⊥) → tips ≡ busy_tips (count_at counts) most m
+    → tip ≡ chosen mounted tips → Chosen mounted m qs lines left plan counts shared most tip
+chooses {mounted} b s t e = record { begun = b; lines_left = s; is_tip = e ∙ ap (chosen mounted) t }
 
 module _ {mounted : Mounted} {m : ℕ} {qs lines left plan counts : List ℕ} {shared most tip : ℕ}
     (r : Chosen mounted m qs lines left plan counts shared most tip) where

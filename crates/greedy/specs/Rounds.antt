@@ -100,3 +100,10 @@ pub record RoundsReady (rack : ℕ) (qs left plan counts list places sets taken 
   pub shareable : Shareable rack qs left plan
   pub counts_are : Counts (repeated qs left) counts
   pub fit : ListsFit (length left) list places sets taken
+
+-- the lists are as long as they were
+pub record Sizes (list₀ places₀ sets₀ taken₀ list places sets taken : List ℕ) : Type 0 where
+  pub list_size : length list ≡ length list₀
+  pub places_size : length places ≡ length places₀
+  pub sets_size : length sets ≡ length sets₀
+  pub taken_size : length taken ≡ length taken₀

@@ -8,19 +8,25 @@ ghost use Rattle.head.specs.OnHead.{on_head};
 ghost use Rattle.pair_count.specs.PairTable.{PairTable};
 ghost use Rattle.counts.specs.Counts.{Counts};
 ghost use Rattle.greedy.specs.Rounds.{Shareable, QuickShared, TakeReady, ListTaken};
-ghost use Rattle.greedy.specs.Rounds.{RoundReady, RoundDone, RoundsReady};
+ghost use Rattle.greedy.specs.Rounds.{RoundReady, RoundDone, Sizes, RoundsReady};
 
-use head::Mounted;
-
-// The lines of the longest board, and those of a short one: lists for fewer lines are sooner made.
+// The lines of the longest board, and those of a short one: room for fewer lines is sooner made.
 const MOST: usize = model::MOST_LINES;
 
 const FEW: usize = 64;
 
+// Room for as many lines as the board may have: a list of those without a tip, and the places, sets and quantities of those taken in a round.
+#[derive(Drop)]
+struct Rooms<const N: usize> {
+    list: [u16; N],
+    places: [u16; N],
+    sets: [u64; N],
+    taken: [u8; N],
+}
+
 // The tip is taken for the lines at the places; their sets and quantities are gathered, and their sets become empty.
 fn take_places(
     tip: usize,
-    n: usize,
     places: &[u16],
     list: &[u16],
     quantities: &[u8],
@@ -29,178 +35,122 @@ fn take_places(
     sets: &mut [u64],
     taken: &mut [u8],
 )
-    requires { TakeReady tip n places.now list.now quantities.now left.old plan.old sets.old taken.old }
-    ensures { ListTaken tip n places.now list.now quantities.now left.old
+    requires { TakeReady tip (length places.now) places.now list.now quantities.now left.old plan.old sets.old taken.old }
+    ensures { ListTaken tip (length places.now) places.now list.now quantities.now left.old
         plan.old left.new plan.new sets.new taken.new }
 {
-    let mut k = 0;
-    while k < n {
-        let line = unplanned::wide(list[unplanned::wide(places[k])]);
+    for (k, &place) in places.iter().enumerate() {
+        let line = usize::from(list[usize::from(place)]);
         sets[k] = left[line];
         taken[k] = quantities[line];
         left[line] = 0;
         plan[line] = tip as u8;
-        k += 1;
     }
 }
 
 // One round: the tip is taken for each line that has it. Unless these are all that are left, their placements come off the counts.
-fn take_lines(
+fn take_lines<const N: usize>(
     tip: usize,
     m: usize,
-    list: &mut [u16],
-    places: &mut [u16],
-    sets: &mut [u64],
-    taken: &mut [u8],
+    rooms: &mut Rooms<N>,
     quantities: &[u8],
     left: &mut [u64],
     plan: &mut [u8],
-    counts: &mut [u64],
+    counts: &mut [u64; counts::PLANES],
 ) -> usize
-    requires { RoundReady tip m quantities.now left.old plan.old counts.old list.old places.old sets.old taken.old }
-    ensures { RoundDone tip quantities.now left.old plan.old
-        left.new plan.new counts.new result list.new }
+    requires { RoundReady tip m quantities.now left.old plan.old counts.old
+        rooms.old.list rooms.old.places rooms.old.sets rooms.old.taken }
+    ensures done { RoundDone tip quantities.now left.old plan.old
+        left.new plan.new counts.new result rooms.new.list }
+    ensures sizes { Sizes rooms.old.list rooms.old.places rooms.old.sets rooms.old.taken
+        rooms.new.list rooms.new.places rooms.new.sets rooms.new.taken }
 {
-    let found = unplanned::find_places(tip, m, list, left, places);
+    let found = unplanned::find_places(tip, &rooms.list[..m], left, &mut rooms.places);
     take_places(
-        tip, found, places, list, quantities, left, plan, sets, taken,
+        tip,
+        &rooms.places[..found],
+        &rooms.list,
+        quantities,
+        left,
+        plan,
+        &mut rooms.sets,
+        &mut rooms.taken,
     );
     if found == m {
         return 0;
     }
-    let rest = unplanned::drop_places(found, places, m, list);
-    let mut gone = [0u64; counts::PLANES];
-    counts::count_tips(&sets[..found], &taken[..found], &mut gone);
+    let rest = unplanned::drop_places(&rooms.places[..found], &mut rooms.list[..m]);
+    let gone = counts::count_tips(&rooms.sets[..found], &rooms.taken[..found]);
     counts::difference::subtract(&gone, counts);
     rest
 }
 
 // Each round takes the tip that most placements left allow; on a tie the mounted one, else the lowest.
-fn take_rounds(
+fn take_rounds<const N: usize>(
     rack: usize,
-    mounted: Mounted,
+    mounted: Option<usize>,
     pairs: &[u32],
-    list: &mut [u16],
-    places: &mut [u16],
-    sets: &mut [u64],
-    taken: &mut [u8],
+    rooms: &mut Rooms<N>,
     quantities: &[u8],
     left: &mut [u64],
     plan: &mut [u8],
-    counts: &mut [u64],
+    counts: &mut [u64; counts::PLANES],
 ) -> u32
-    requires { RoundsReady rack quantities.now left.old plan.old counts.old list.old places.old sets.old taken.old
-        × PairTable pairs.now }
+    requires ready { RoundsReady rack quantities.now left.old plan.old counts.old
+        rooms.old.list rooms.old.places rooms.old.sets rooms.old.taken }
+    requires table { PairTable pairs.now }
+    requires size { N ≤ most_lines }
     ensures { QuickShared (on_head mounted) rack quantities.now left.old result plan.new left.new }
 {
     let mut unplanned = left.len();
-    unplanned::list_all(unplanned, list);
+    unplanned::list_all(&mut rooms.list[..unplanned]);
     let mut shared = 0;
-    loop {
+    'rounds: loop {
         let busiest = counts::busiest_tips(counts, rack);
         if busiest.top == 0 {
             return shared;
         }
         let tip = head::choose(mounted, busiest.tips);
         shared += pair_count::pairs_among(pairs, busiest.top);
-        unplanned = take_lines(
-            tip, unplanned, list, places, sets, taken, quantities, left, plan, counts,
-        );
+        unplanned = take_lines(tip, unplanned, rooms, quantities, left, plan, counts);
         if unplanned == 0 {
             return shared;
         }
     }
 }
 
-// A place for each line of the longest board.
-fn no_lines() -> [u16; MOST]
-    ensures { length result ≡ most_lines }
-{
-    [0u16; MOST]
-}
-
-fn no_sets() -> [u64; MOST]
-    ensures { length result ≡ most_lines }
-{
-    [0u64; MOST]
-}
-
-fn no_quantities() -> [u8; MOST]
-    ensures { length result ≡ most_lines }
-{
-    [0u8; MOST]
-}
-
-// The rounds of any board, with the lists that they need.
-fn plan_many(
+// The rounds of a board of at most N lines, with the rooms that they need.
+fn plan_in<const N: usize>(
     rack: usize,
-    mounted: Mounted,
+    mounted: Option<usize>,
     pairs: &[u32],
     quantities: &[u8],
     left: &mut [u64],
     plan: &mut [u8],
-    counts: &mut [u64],
+    counts: &mut [u64; counts::PLANES],
 ) -> u32
-    requires { Shareable rack quantities.now left.old plan.old × Counts (repeated quantities.now left.old) counts.old
-        × PairTable pairs.now }
+    requires shareable { Shareable rack quantities.now left.old plan.old }
+    requires counted { Counts (repeated quantities.now left.old) counts.old }
+    requires table { PairTable pairs.now }
+    requires room { length left.old ≤ N }
+    requires size { N ≤ most_lines }
     ensures { QuickShared (on_head mounted) rack quantities.now left.old result plan.new left.new }
 {
-    let mut list = no_lines();
-    let mut places = no_lines();
-    let mut sets = no_sets();
-    let mut taken = no_quantities();
+    let mut rooms = Rooms::<N> {
+        list: [0; N],
+        places: [0; N],
+        sets: [0; N],
+        taken: [0; N],
+    };
     take_rounds(
-        rack,
-        mounted,
-        pairs,
-        &mut list,
-        &mut places,
-        &mut sets,
-        &mut taken,
-        quantities,
-        left,
-        plan,
-        counts,
-    )
-}
-
-// The rounds of a short board.
-fn plan_few(
-    rack: usize,
-    mounted: Mounted,
-    pairs: &[u32],
-    quantities: &[u8],
-    left: &mut [u64],
-    plan: &mut [u8],
-    counts: &mut [u64],
-) -> u32
-    requires { Shareable rack quantities.now left.old plan.old × Counts (repeated quantities.now left.old) counts.old
-        × PairTable pairs.now × (length left.old ≤ 64) }
-    ensures { QuickShared (on_head mounted) rack quantities.now left.old result plan.new left.new }
-{
-    let mut list = [0u16; FEW];
-    let mut places = [0u16; FEW];
-    let mut sets = [0u64; FEW];
-    let mut taken = [0u8; FEW];
-    take_rounds(
-        rack,
-        mounted,
-        pairs,
-        &mut list,
-        &mut places,
-        &mut sets,
-        &mut taken,
-        quantities,
-        left,
-        plan,
-        counts,
+        rack, mounted, pairs, &mut rooms, quantities, left, plan, counts,
     )
 }
 
 // The plan of quick sharing, and its pairs. The lines are the caller's working copy: at the end each set is empty.
 pub fn plan_lines(
     rack: usize,
-    mounted: Mounted,
+    mounted: Option<usize>,
     left: &mut [u64],
     quantities: &[u8],
     plan: &mut [u8],
@@ -208,11 +158,11 @@ pub fn plan_lines(
     requires { Shareable rack quantities.now left.old plan.old }
     ensures { QuickShared (on_head mounted) rack quantities.now left.old result plan.new left.new }
 {
-    let mut counts = [0u64; counts::PLANES];
-    counts::count_tips(left, quantities, &mut counts);
+    let mut counts = counts::count_tips(left, quantities);
     let pairs = pair_count::pair_table();
     if left.len() <= FEW {
-        return plan_few(rack, mounted, &pairs, quantities, left, plan, &mut counts);
+        plan_in::<FEW>(rack, mounted, &pairs, quantities, left, plan, &mut counts)
+    } else {
+        plan_in::<MOST>(rack, mounted, &pairs, quantities, left, plan, &mut counts)
     }
-    plan_many(rack, mounted, &pairs, quantities, left, plan, &mut counts)
 }

@@ -15,7 +15,7 @@ use Rattle.model.proofs.Tests.{le_or_lt}
 use Rattle.model.proofs.Lists.{all, get_d_map, fail_map, fail_cong}
 use Rattle.model.proofs.ListOf.{list_of_cong}
 use Rattle.model.proofs.Fails.{none_fails}
-use Rattle.refusal.specs.declared.Refusal.{Refusal}
+use Rattle.refusal.specs.Told.{Refusal}
 use Rattle.refusal.specs.Refusal.{refuse, scan}
 use Rattle.refusal.proofs.Laws.{or_first, or_next, scan_passes, scan-at}
 use Rattle.job.specs.Job.{bytes_of, mark, header_length, set_length, counted, line_length, paired, line_of, bytes_of_lines, file_of, header_of}

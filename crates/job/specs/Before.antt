@@ -3,7 +3,7 @@ use Rattle.std.specs.Prelude.{ℕ, ◌+◌, ◌*◌, not, cond, List, [], ◌∷
 use Rattle.model.specs.Count.{list_of}
 use Rattle.model.specs.Plan.{is_empty, in_rack, is_domain, rack_ok}
 use Rattle.model.specs.Limits.{most_lines}
-use Rattle.refusal.specs.declared.Refusal.{Refusal}
+use Rattle.refusal.specs.Told.{Refusal}
 use Rattle.refusal.specs.Refusal.{refuse, or_else, scan}
 use Rattle.job.specs.Job.{bytes_of, number_at, mark, header_length, set_length, header_of, mark_in, version_in, rack_in, count_in}
 

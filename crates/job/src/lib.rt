@@ -2,8 +2,12 @@
 #![tactic(auto)]
 
 ghost use Rattle.std.specs.Prelude.{◌≡◌, ◌+◌, ◌<◌, ◌≤◌, ◌^◌, length};
+ghost use Rattle.model.specs.Plan.{rack_ok};
 ghost use Rattle.job.specs.Job.{number_at, header_length, line_length, file_length, mark_in, version_in, rack_in, count_in};
 ghost use Rattle.job.specs.Job.{version_ok, start_number, size_number, header_number, line_number};
+ghost use Rattle.refusal.specs.Reasons.{number_in};
+
+use refusal::Reason;
 
 // The bytes 54 49 50 hex, "TIP".
 pub const MARK: u64 = 0x544950;
@@ -18,6 +22,7 @@ pub const HEADER: usize = 8;
 pub const SET: usize = 8;
 
 // The bytes of one line.
+#[tactic(auto, unfolding(crate::specs::Job::line_length))]
 pub fn line_length(version: u64) -> usize
     ensures { result ≡ line_length version }
 {
@@ -32,26 +37,21 @@ pub fn file_length(version: u64, count: usize) -> usize
     HEADER + line_length(version) * count
 }
 
-// The number of one byte, and of two, from `i` on.
-pub fn byte_at(file: &[u8], i: usize) -> u64
-    requires { i + 1 ≤ length file.now }
-    ensures { (result ≡ number_at 1 file.now i) × (result < 256) }
-{
-    file[i] as u64
-}
-
-fn two_at(file: &[u8], i: usize) -> u64
+// The number of two bytes from `i` on.
+#[tactic(auto, using(crate::proofs::Numbers::number_two))]
+fn two_at(file: &[u8], i: usize) -> u16
     requires { i + 2 ≤ length file.now }
-    ensures { (result ≡ number_at 2 file.now i) × (result < 65536) }
+    ensures { result ≡ number_at 2 file.now i }
 {
-    byte_at(file, i) * 256 + byte_at(file, i + 1)
+    u16::from_be_bytes([file[i], file[i + 1]])
 }
 
+#[tactic(auto, using(crate::proofs::Numbers::number_three))]
 fn mark_in(file: &[u8]) -> u64
     requires { header_length ≤ length file.now }
     ensures { result ≡ mark_in file.now }
 {
-    byte_at(file, 0) * 65536 + two_at(file, 1)
+    u64::from(u32::from_be_bytes([0, file[0], file[1], file[2]]))
 }
 
 // The version, the rack size and the number of lines that the header says.
@@ -59,93 +59,93 @@ pub fn version_in(file: &[u8]) -> u64
     requires { header_length ≤ length file.now }
     ensures { result ≡ version_in file.now }
 {
-    two_at(file, 3)
+    u64::from(two_at(file, 3))
 }
 
+#[tactic(auto, using(crate::proofs::Numbers::number_one))]
 pub fn rack_in(file: &[u8]) -> usize
     requires { header_length ≤ length file.now }
     ensures { result ≡ rack_in file.now }
 {
-    byte_at(file, 5) as usize
+    usize::from(file[5])
 }
 
 pub fn count_in(file: &[u8]) -> usize
     requires { header_length ≤ length file.now }
     ensures { result ≡ count_in file.now }
 {
-    two_at(file, 6) as usize
+    usize::from(two_at(file, 6))
 }
 
+#[tactic(auto, unfolding(crate::specs::Job::version_ok))]
 fn version_ok(version: u64) -> bool
     ensures { result ≡ version_ok version }
 {
-    if version == PLAIN {
-        return true;
-    }
-    version == COUNTED
+    version == PLAIN || version == COUNTED
 }
 
-// The refusal by the mark, the version and the rack, in the rule book's order; 0 for none.
-pub fn start_number(file: &[u8]) -> u32
-    ensures { result ≡ start_number file.now }
+// A rack of 1 to 64 tips.
+#[tactic(auto, unfolding(model::specs::Plan::rack_ok))]
+fn rack_ok(rack: usize) -> bool
+    ensures { result ≡ rack_ok rack }
+{
+    1 <= rack && rack <= model::MOST_TIPS
+}
+
+// Why the file is refused by the mark, the version or the rack, in the rule book's order.
+pub fn check_start(file: &[u8]) -> Result<(), Reason>
+    ensures { number_in result ≡ start_number file.now }
 {
     if file.len() < HEADER {
-        return 6;
+        return Err(Reason::ShortFile);
     }
     if mark_in(file) != MARK {
-        return 7;
+        return Err(Reason::WrongMark);
     }
     if !version_ok(version_in(file)) {
-        return 8;
+        return Err(Reason::WrongVersion);
     }
-    let rack = rack_in(file);
-    if rack < 1 {
-        return 1;
+    if !rack_ok(rack_in(file)) {
+        return Err(Reason::RackSize);
     }
-    if model::MOST_TIPS < rack {
-        return 1;
-    }
-    0
+    Ok(())
 }
 
-// The refusal by the number of lines and the file's length; 0 for none.
-fn size_number(file: &[u8]) -> u32
+// By the number of lines or the file's length.
+fn check_size(file: &[u8]) -> Result<(), Reason>
     requires { header_length ≤ length file.now }
-    ensures { result ≡ size_number file.now }
+    ensures { number_in result ≡ size_number file.now }
 {
     let count = count_in(file);
     if model::MOST_LINES < count {
-        return 9;
+        return Err(Reason::FileLines);
     }
     if file.len() != file_length(version_in(file), count) {
-        return 10;
+        return Err(Reason::FileLength);
     }
-    0
+    Ok(())
 }
 
-// The refusal by the header and the length; 0 for none.
-pub fn header_number(file: &[u8]) -> u32
-    ensures { result ≡ header_number file.now }
+// By the header or the length.
+pub fn check_header(file: &[u8]) -> Result<(), Reason>
+    ensures { number_in result ≡ header_number file.now }
 {
-    let number = start_number(file);
-    if number != 0 {
-        return number;
-    }
-    size_number(file)
+    check_start(file)?;
+    check_size(file)
 }
 
-// The refusal of a line by its set, then by its quantity; 0 for none.
-pub fn line_number(rack: usize, set: u64, quantity: u8) -> u32
-    ensures { result ≡ line_number rack set quantity }
+// Why a line is refused, by its set, then by its quantity.
+pub fn check_line(rack: usize, set: u64, quantity: u8) -> Result<(), Reason>
+    ensures { number_in result ≡ line_number rack set quantity }
 {
     if tips::is_empty(set) {
-        return 2;
+        return Err(Reason::EmptyLine);
     }
     if !tips::in_rack(rack, set) {
-        return 3;
+        return Err(Reason::TipOutside);
     }
     if quantity == 0 {
-        return 15;
+        return Err(Reason::ZeroQuantity);
     }
-    0
+    Ok(())
 }

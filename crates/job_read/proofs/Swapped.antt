@@ -4,10 +4,11 @@ use native.Mathlib.Omega.{arith}
 use native.Mathlib.Nat.{one-le-pow, pow-succ', mul-le-mul_left, div-lt_iff_lt-mul}
 use mathlib.Core.Path.{◌≡◌, refl, sym, ap, ap₂, ◌∙◌}
 use lib.Arith.{digits_lt}
-use lib.Pow.{pow-add}
 use lib.Bits.{bit_or, or_zero_l, or_block, or_shr, or_mod}
 use borrow.Author.Tests.{ne_eqb}
+use Rattle.std.specs.Int.{w64, swap_bytes}
 use Rattle.model.specs.Plan.{is_empty}
+use Rattle.job.proofs.Numbers.{pow_bits}
 use Rattle.job_read.specs.Swapped.{swapped}
 
 swapped_lt : (w x : ℕ) → swapped w x < 256 ^ w
@@ -16,13 +17,6 @@ swapped_lt zero x = omega arith
 swapped_lt (suc w) x =
     let l : x % 256 < 256 = omega arith in
     omega (arith, digits_lt l (swapped_lt w (x / 256)), pow-succ' 256 w)
-
--- a power of 256 as one of 2
-pow_bits : (w : ℕ) → 256 ^ w ≡ 2 ^ (8 * w)
-pow_bits zero = refl
-pow_bits (suc w) =
-    let more : 8 * suc w ≡ 8 + 8 * w = omega arith in
-    omega (arith, pow-succ' 256 w, pow_bits w, ap (λ k. 2 ^ k) more, pow-add 2 8 (8 * w))
 
 pub swapped_or : (w x y : ℕ) → swapped w (bit_or x y) ≡ bit_or (swapped w x) (swapped w y)
 unfolding swapped
@@ -74,33 +68,46 @@ swapped_one : (b : ℕ) → b < 256 → swapped 1 b ≡ b
 unfolding swapped
 swapped_one b h = omega arith
 
--- the number of four bytes, by each of them
-pub swapped_four : (a b c d : ℕ) → a < 256 → b < 256 → c < 256 → d < 256
-    → swapped 4 (a + b * 256 + c * 65536 + d * 16777216) ≡ a * 16777216 + b * 65536 + c * 256 + d
-swapped_four a b c d ha hb hc hd =
-    let x = b + (c + d * 256) * 256 in
-    let e : a + b * 256 + c * 65536 + d * 16777216 ≡ a + x * 256 = omega arith in
-    ap (swapped 4) e ∙ omega (arith, swapped-more 3 a x ha, swapped-more 2 b (c + d * 256) hb, swapped-more 1 c d hc, swapped_one d hd)
+-- the number of eight bytes, by each of them
+pub swapped_eight : (a b c d e f g h : ℕ) → a < 256 → b < 256 → c < 256 → d < 256 → e < 256 → f < 256 → g < 256 → h < 256
+    → swapped 8 (a + b * 256 ^ 1 + c * 256 ^ 2 + d * 256 ^ 3 + e * 256 ^ 4 + f * 256 ^ 5 + g * 256 ^ 6 + h * 256 ^ 7)
+    ≡ a * 256 ^ 7 + b * 256 ^ 6 + c * 256 ^ 5 + d * 256 ^ 4 + e * 256 ^ 3 + f * 256 ^ 2 + g * 256 ^ 1 + h
+swapped_eight a b c d e f g h ha hb hc hd he hf hg hh =
+    let x6 = g + h * 256 in
+    let x5 = f + x6 * 256 in
+    let x4 = e + x5 * 256 in
+    let x3 = d + x4 * 256 in
+    let x2 = c + x3 * 256 in
+    let x1 = b + x2 * 256 in
+    let x = a + b * 256 ^ 1 + c * 256 ^ 2 + d * 256 ^ 3 + e * 256 ^ 4 + f * 256 ^ 5 + g * 256 ^ 6 + h * 256 ^ 7 in
+    let same : x ≡ a + x1 * 256 = omega arith in
+    ap (swapped 8) same
+    ∙ omega (
+      arith,
+      swapped-more 7 a x1 ha,
+      swapped-more 6 b x2 hb,
+      swapped-more 5 c x3 hc,
+      swapped-more 4 d x4 hd,
+      swapped-more 3 e x5 he,
+      swapped-more 2 f x6 hf,
+      swapped-more 1 g h hg,
+      swapped_one h hh,
+    )
 
--- the bytes of the lower half, and what stands for the upper half
-joined : (x y : ℕ)
-    → x % 256 * 256 ^ 7 + (x / 256 % 256 * 256 ^ 6 + (x / 256 / 256 % 256 * 256 ^ 5 + (x / 256 / 256 / 256 % 256 * 256 ^ 4 + y)))
-    ≡ swapped 4 x * 2 ^ 32 + y
+-- it is std's number of the swapped bytes
+pub swapped_is : (x : ℕ) → swap_bytes w64 x ≡ swapped 8 x
 unfolding swapped
-joined x y = sum (x % 256) (x / 256 % 256) (x / 256 / 256 % 256) (x / 256 / 256 / 256 % 256)
-  where
-    sum : (a b c d : ℕ) → a * 256 ^ 7 + (b * 256 ^ 6 + (c * 256 ^ 5 + (d * 256 ^ 4 + y)))
-        ≡ (a * 256 ^ 3 + (b * 256 ^ 2 + (c * 256 ^ 1 + (d * 256 ^ 0 + 0)))) * 2 ^ 32 + y
-    sum a b c d = omega arith
+swapped_is x = omega arith
 
--- the number of eight bytes, by its two halves
-pub swapped_halves : (x y : ℕ) → x < 2 ^ 32 → swapped 8 (x + y * 2 ^ 32) ≡ swapped 4 x * 2 ^ 32 + swapped 4 y
-swapped_halves x y h =
-    let e : x + y * 2 ^ 32 ≡ x + y * 2 ^ 24 * 256 = omega arith in
-    let f : x / 256 + y * 2 ^ 24 ≡ x / 256 + y * 2 ^ 16 * 256 = omega arith in
-    let g : x / 256 / 256 + y * 2 ^ 16 ≡ x / 256 / 256 + y * 2 ^ 8 * 256 = omega arith in
-    let past : x / 256 / 256 / 256 / 256 + y ≡ y = omega arith in
-    let four = swapped_step 4 (x / 256 / 256 / 256) y ∙ ap (λ r. x / 256 / 256 / 256 % 256 * 256 ^ 4 + swapped 4 r) past in
-    let three = ap (swapped 6) g ∙ swapped_step 5 (x / 256 / 256) (y * 2 ^ 8) ∙ ap (λ r. x / 256 / 256 % 256 * 256 ^ 5 + r) four in
-    let two = ap (swapped 7) f ∙ swapped_step 6 (x / 256) (y * 2 ^ 16) ∙ ap (λ r. x / 256 % 256 * 256 ^ 6 + r) three in
-    ap (swapped 8) e ∙ swapped_step 7 x (y * 2 ^ 24) ∙ ap (λ r. x % 256 * 256 ^ 7 + r) two ∙ joined x (swapped 4 y)
+-- swapped twice it is the same
+pub swapped_back : (x : ℕ) → x < 2 ^ 64 → swapped 8 (swap_bytes w64 x) ≡ x
+swapped_back x h =
+    let byte : ℕ → ℕ = λ k. x / 256 ^ k % 256 in
+    let small : (k : ℕ) → byte k < 256 = λ k. omega arith in
+    let same : swap_bytes w64 x
+    ≡ byte 7 + byte 6 * 256 ^ 1 + byte 5 * 256 ^ 2 + byte 4 * 256 ^ 3 + byte 3 * 256 ^ 4 + byte 2 * 256 ^ 5 + byte 1 * 256 ^ 6 + byte 0 * 256 ^ 7 =
+    omega arith in
+    ap (swapped 8) same
+    ∙ swapped_eight (byte 7) (byte 6) (byte 5) (byte 4) (byte 3) (byte 2) (byte 1) (byte 0)
+    (small 7) (small 6) (small 5) (small 4) (small 3) (small 2) (small 1) (small 0)
+    ∙ omega arith

@@ -1,85 +1,59 @@
 // The lines of a job file, each with its set and its quantity, read from its bytes, and whether they are good.
 #![tactic(auto)]
 
-ghost use Rattle.std.specs.Prelude.{◌≡◌, cond, ◌&&◌, ◌+◌, ◌*◌, ◌<◌, ◌≤◌, ◌^◌, eqb, leb, length, replicate};
-ghost use Rattle.model.specs.Count.{first_fail};
+ghost use Rattle.std.specs.Prelude.{◌≡◌, cond, ◌&&◌, ◌+◌, ◌*◌, ◌<◌, ◌≤◌, ◌^◌, eqb, leb, length, get_or, bit_or};
 ghost use Rattle.model.specs.Plan.{is_empty, in_rack};
 ghost use Rattle.model.specs.Limits.{most_placements};
 ghost use Rattle.placements.specs.Totals.{first_over};
 ghost use Rattle.job.specs.Job.{number_at, set_length, file_length, version_in, count_in, set_from, quantity_from, set_in, quantity_in};
 ghost use Rattle.job.specs.Job.{sets_in, quantities_in, line_numbers, good_lines, GoodHeader};
+ghost use Rattle.refusal.specs.Refusal.{scan, refuse_at};
+ghost use Rattle.refusal.specs.Reasons.{refusal_of};
 ghost use Rattle.job_read.specs.Swapped.{swapped};
-ghost use Rattle.job_read.specs.Lines.{ReadTo};
 
-// The upper and the lower half of a set, each byte shifted to its place: the compiler then makes one load of the eight.
-fn upper_at(file: &[u8], i: usize) -> u64
-    requires { i + 4 ≤ length file.now }
-    ensures { (result ≡ number_at 4 file.now i * 2 ^ 32) × (result + 2 ^ 32 ≤ 2 ^ 64) }
-{
-    job::byte_at(file, i) * 72057594037927936
-        + job::byte_at(file, i + 1) * 281474976710656
-        + job::byte_at(file, i + 2) * 1099511627776
-        + job::byte_at(file, i + 3) * 4294967296
-}
+use refusal::{Reason, Refused};
 
-fn lower_at(file: &[u8], i: usize) -> u64
-    requires { i + 4 ≤ length file.now }
-    ensures { (result ≡ number_at 4 file.now i) × (result < 2 ^ 32) }
-{
-    job::byte_at(file, i) * 16777216
-        + job::byte_at(file, i + 1) * 65536
-        + job::byte_at(file, i + 2) * 256
-        + job::byte_at(file, i + 3)
-}
-
-// It becomes one load only after loops are vectorized: a loop that stores sets is quicker one set at a time.
+// The number of a set's eight bytes.
+#[tactic(auto, using(job::proofs::Numbers::number_eight))]
 fn set_at(file: &[u8], i: usize) -> u64
     requires { i + set_length ≤ length file.now }
     ensures { result ≡ number_at set_length file.now i }
 {
-    upper_at(file, i) + lower_at(file, i + 4)
+    u64::from_be_bytes([
+        file[i],
+        file[i + 1],
+        file[i + 2],
+        file[i + 3],
+        file[i + 4],
+        file[i + 5],
+        file[i + 6],
+        file[i + 7],
+    ])
 }
 
-// The number of four bytes, and of a set's eight, the lowest byte first: it becomes one load before loops are vectorized.
-fn four_swapped(file: &[u8], i: usize) -> u64
-    requires { i + 4 ≤ length file.now }
-    ensures { (swapped 4 result ≡ number_at 4 file.now i) × (result < 2 ^ 32) }
+// The same byte by byte. It becomes one load only after loops are vectorized: a loop that only stores sets takes more than twice the time by
+// `from_be_bytes`, since two sets are then swapped at once, without an instruction for it.
+fn set_by_bytes(file: &[u8], i: usize) -> u64
+    requires { i + set_length ≤ length file.now }
+    ensures { result ≡ number_at set_length file.now i }
 {
-    job::byte_at(file, i)
-        + job::byte_at(file, i + 1) * 256
-        + job::byte_at(file, i + 2) * 65536
-        + job::byte_at(file, i + 3) * 16777216
+    let mut set = 0;
+    for byte in &file[i..i + job::SET] {
+        set = set * 256 + u64::from(*byte);
+    }
+    set
 }
 
+// The number with its bytes the other way round: the compiler swaps nothing, and makes one load before loops are vectorized.
 fn swapped_at(file: &[u8], i: usize) -> u64
     requires { i + set_length ≤ length file.now }
-    ensures { (swapped set_length result ≡ number_at set_length file.now i) × (result < 2 ^ 64) }
+    ensures { swapped set_length result ≡ number_at set_length file.now i }
 {
-    four_swapped(file, i) + four_swapped(file, i + 4) * 4294967296
-}
-
-// The bytes of `x` the other way round.
-fn swap(x: u64) -> u64
-    ensures { result ≡ swapped set_length x }
-{
-    let a = x / 256;
-    let b = a / 256;
-    let c = b / 256;
-    let d = c / 256;
-    let e = d / 256;
-    let f = e / 256;
-    let g = f / 256;
-    x % 256 * 72057594037927936
-        + a % 256 * 281474976710656
-        + b % 256 * 1099511627776
-        + c % 256 * 4294967296
-        + d % 256 * 16777216
-        + e % 256 * 65536
-        + f % 256 * 256
-        + g % 256
+    set_at(file, i).swap_bytes()
 }
 
 // The set and the quantity of line `i` in a file of that version; without quantities it is 1.
+#[tactic(auto, using(job::proofs::Lines::set_inside))]
 pub fn set_of(file: &[u8], version: u64, i: usize) -> u64
     requires { file_length version (i + 1) ≤ length file.now }
     ensures { result ≡ set_from version file.now i }
@@ -87,15 +61,16 @@ pub fn set_of(file: &[u8], version: u64, i: usize) -> u64
     set_at(file, job::file_length(version, i))
 }
 
+#[tactic(auto, using(job::proofs::Numbers::number_one, job::proofs::Lines::quantity_inside))]
 pub fn quantity_of(file: &[u8], version: u64, i: usize) -> u8
     requires { file_length version (i + 1) ≤ length file.now }
-    ensures { (result ≡ quantity_from version file.now i) × (result < 256) }
+    ensures { result ≡ quantity_from version file.now i }
 {
     if version == job::COUNTED {
-        let at = job::file_length(version, i) + job::SET;
-        return file[at];
+        file[job::file_length(version, i) + job::SET]
+    } else {
+        1
     }
-    1
 }
 
 // The set and the quantity of line `i`.
@@ -113,24 +88,42 @@ pub fn quantity_in(file: &[u8], i: usize) -> u8
     quantity_of(file, job::version_in(file), i)
 }
 
-fn one_if_zero(x: u64) -> u64
-    ensures { (result ≡ cond (is_empty x) 1 0) × (result ≤ 1) }
-{
-    if x == 0 { 1 } else { 0 }
+// What is gathered of the lines read so far: the union of the sets, the number of empty sets and of quantities 0, and the total.
+#[derive(Clone, Copy)]
+struct Gathered {
+    union: u64,
+    zeros: u64,
+    total: usize,
 }
 
-// The lines are good, by the union of the sets, the number of empty sets and of quantities 0, and the total.
-fn all_good(rack: usize, union: u64, zeros: u64, total: usize) -> bool
-    ensures { result ≡ ((eqb zeros 0 && in_rack rack union) && leb total most_placements) }
-{
-    if zeros != 0 {
-        return false;
+impl Gathered {
+    fn with(self, set: u64, quantity: u8) -> Gathered
+        requires zeros_fit { self.zeros + 2 < 2 ^ 64 }
+        requires total_fits { self.total + quantity < 2 ^ 64 }
+        ensures union { result.union ≡ bit_or self.union set }
+        ensures zeros { result.zeros ≡ self.zeros + (cond (is_empty set) 1 0 + cond (eqb quantity 0) 1 0) }
+        ensures total { result.total ≡ self.total + quantity }
+    {
+        Gathered {
+            union: self.union | set,
+            zeros: self.zeros + (u64::from(set == 0) + u64::from(quantity == 0)),
+            total: self.total + usize::from(quantity),
+        }
     }
-    if !tips::in_rack(rack, union) {
-        return false;
+
+    // The lines are good.
+    fn is_good(self, rack: usize) -> bool
+        ensures { result ≡ ((eqb self.zeros 0 && in_rack rack self.union) && leb self.total most_placements) }
+    {
+        self.zeros == 0 && tips::in_rack(rack, self.union) && self.total <= model::MOST_PLACEMENTS
     }
-    total <= model::MOST_PLACEMENTS
 }
+
+const NONE: Gathered = Gathered {
+    union: 0,
+    zeros: 0,
+    total: 0,
+};
 
 // The lines are good. The loop has no branch, so that it is quick where they are: the version stays, and the compiler makes a loop of each.
 // The union is that of the sets with their bytes the other way round, and is swapped once.
@@ -139,53 +132,19 @@ pub fn good_lines(file: &[u8]) -> bool
     ensures { result ≡ good_lines file.now }
 {
     let version = job::version_in(file);
-    let count = job::count_in(file);
-    let mut union = 0;
-    let mut zeros = 0;
-    let mut total = 0;
-    let mut i = 0;
-    while i < count {
+    let mut swapped = NONE;
+    for i in 0..job::count_in(file) {
         let set = swapped_at(file, job::file_length(version, i));
-        let quantity = quantity_of(file, version, i);
-        union |= set;
-        zeros += one_if_zero(set) + one_if_zero(quantity as u64);
-        total += quantity as usize;
-        i += 1;
+        swapped = swapped.with(set, quantity_of(file, version, i));
     }
-    all_good(job::rack_in(file), swap(union), zeros, total)
+    let gathered = Gathered {
+        union: swapped.union.swap_bytes(),
+        ..swapped
+    };
+    gathered.is_good(job::rack_in(file))
 }
 
-// The union of the sets read so far, and the number of empty ones.
-#[derive(Clone, Copy)]
-struct Tested {
-    union: u64,
-    zeros: u64,
-}
-
-// Reads the sets of `count` lines from line `first` on, of a file without quantities.
-fn read_some(file: &[u8], first: usize, count: usize, sets: &mut [u64], before: Tested) -> Tested
-    requires good_header { GoodHeader file.now }
-    requires file_value { version_in file.now ≡ 1 }
-    requires sets_len { length sets.old ≡ count_in file.now }
-    requires count_bound { first + count ≤ count_in file.now }
-    requires read_to { ReadTo file.now sets.old first before.union before.zeros }
-    ensures { ReadTo file.now sets.new (first + count) result.union result.zeros }
-{
-    let mut union = before.union;
-    let mut zeros = before.zeros;
-    let mut k = 0;
-    while k < count {
-        let i = first + k;
-        let set = set_of(file, job::PLAIN, i);
-        sets[i] = set;
-        union |= set;
-        zeros += one_if_zero(set);
-        k += 1;
-    }
-    Tested { union, zeros }
-}
-
-// Reads the sets of a file without quantities, and tells in the same pass whether the lines are good. The compiler unrolls four lines.
+// Reads the sets of a file without quantities, and tells in the same pass whether the lines are good.
 fn read_plain(file: &[u8], sets: &mut [u64]) -> bool
     requires good_header { GoodHeader file.now }
     requires file_value { version_in file.now ≡ 1 }
@@ -193,24 +152,12 @@ fn read_plain(file: &[u8], sets: &mut [u64]) -> bool
     ensures good { result ≡ good_lines file.now }
     ensures sets { sets.new ≡ sets_in file.now }
 {
-    let mut tested = Tested { union: 0, zeros: 0 };
-    let mut i = 0;
-    while i + 4 <= sets.len() {
-        tested = read_some(file, i, 4, sets, tested);
-        i += 4;
+    let mut gathered = NONE;
+    for (i, set) in sets.iter_mut().enumerate() {
+        *set = set_by_bytes(file, job::file_length(job::PLAIN, i));
+        gathered = gathered.with(*set, 1);
     }
-    let all = read_some(file, i, sets.len() - i, sets, tested);
-    all_good(job::rack_in(file), all.union, all.zeros, sets.len())
-}
-
-fn fill_ones(quantities: &mut [u8])
-    ensures { quantities.new ≡ replicate (length quantities.old) 1 }
-{
-    let mut i = 0;
-    while i < quantities.len() {
-        quantities[i] = 1;
-        i += 1;
-    }
+    gathered.is_good(job::rack_in(file))
 }
 
 // Reads the sets and the quantities of a file that has them, and tells in the same pass whether the lines are good.
@@ -223,24 +170,19 @@ fn read_counted(file: &[u8], sets: &mut [u64], quantities: &mut [u8]) -> bool
     ensures sets { sets.new ≡ sets_in file.now }
     ensures quantities { quantities.new ≡ quantities_in file.now }
 {
-    let mut union = 0;
-    let mut zeros = 0;
-    let mut total = 0;
-    let mut i = 0;
-    while i < sets.len() {
+    let mut gathered = NONE;
+    for i in 0..sets.len() {
         let set = set_of(file, job::COUNTED, i);
         let quantity = quantity_of(file, job::COUNTED, i);
         sets[i] = set;
         quantities[i] = quantity;
-        union |= set;
-        zeros += one_if_zero(set) + one_if_zero(quantity as u64);
-        total += quantity as usize;
-        i += 1;
+        gathered = gathered.with(set, quantity);
     }
-    all_good(job::rack_in(file), union, zeros, total)
+    gathered.is_good(job::rack_in(file))
 }
 
-// Reads the sets and the quantities of the lines, and tells whether the lines are good.
+// Reads the sets and the quantities of the lines, and tells whether the lines are good. One loop for both versions stores a quantity 1 with each
+// set of a file without quantities, and takes a third more time there.
 pub fn read_lines(file: &[u8], sets: &mut [u64], quantities: &mut [u8]) -> bool
     requires good_header { GoodHeader file.now }
     requires sets_len { length sets.old ≡ count_in file.now }
@@ -252,42 +194,36 @@ pub fn read_lines(file: &[u8], sets: &mut [u64], quantities: &mut [u8]) -> bool
     if job::version_in(file) == job::COUNTED {
         return read_counted(file, sets, quantities);
     }
-    fill_ones(quantities);
+    quantities.fill(1);
     read_plain(file, sets)
 }
 
-// The first line that is refused; the number of lines where there is none.
-pub fn first_bad(file: &[u8]) -> usize
+// The first line that is refused, with why.
+pub fn check_lines(file: &[u8]) -> Result<(), Refused>
     requires { GoodHeader file.now }
-    ensures { result ≡ first_fail (λ n. eqb n 0) (line_numbers file.now) }
+    ensures { refusal_of result ≡ scan (λ n. eqb n 0) (λ i. get_or (line_numbers file.now) i 0) (line_numbers file.now) }
 {
     let rack = job::rack_in(file);
-    let count = job::count_in(file);
-    let mut i = 0;
-    while i < count {
-        if job::line_number(rack, set_in(file, i), quantity_in(file, i)) != 0 {
-            return i;
+    for i in 0..job::count_in(file) {
+        if let Err(reason) = job::check_line(rack, set_in(file, i), quantity_in(file, i)) {
+            return Err(reason.at(i));
         }
-        i += 1;
     }
-    i
+    Ok(())
 }
 
-// The first line with which the total passes; the number of lines where there is none.
-pub fn first_over(file: &[u8]) -> usize
+// The first line with which the total passes.
+pub fn check_total(file: &[u8]) -> Result<(), Refused>
     requires { GoodHeader file.now }
-    ensures { result ≡ first_over most_placements (quantities_in file.now) }
+    ensures { refusal_of result ≡ refuse_at 30 (first_over most_placements (quantities_in file.now)) (count_in file.now) }
 {
-    let count = job::count_in(file);
     let mut left = model::MOST_PLACEMENTS;
-    let mut i = 0;
-    while i < count {
-        let quantity = quantity_in(file, i) as usize;
+    for i in 0..job::count_in(file) {
+        let quantity = usize::from(quantity_in(file, i));
         if left < quantity {
-            return i;
+            return Err(Reason::TooManyPlacements.at(i));
         }
         left -= quantity;
-        i += 1;
     }
-    i
+    Ok(())
 }

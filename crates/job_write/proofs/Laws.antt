@@ -14,7 +14,7 @@ use borrow.Author.Tests.{eq-eqb, ne_eqb, eqb-true, eqb-false}
 use Rattle.model.specs.Count.{none}
 use Rattle.model.proofs.Tests.{and_left, and_right, same_test, eqb_T}
 use Rattle.job.specs.Job.{bytes_of, header_length, set_length, counted, line_length, file_length, line_of, version_for}
-use Rattle.job.proofs.Lines.{line, line-two}
+use Rattle.job.proofs.Lines.{line, line_two}
 use Rattle.job.proofs.Writing.{version-for, version_one}
 
 -- ---- a line in the output
@@ -35,7 +35,7 @@ module _ (v s q p : ℕ) (out : List ℕ) (small : q < 256) (room : p + line_len
   unfolding line_of line_length
   counted-line e =
       let at = p + set_length in
-      let l : at < length out = omega (arith, room, line-two v e) in
+      let l : at < length out = omega (arith, room, line_two v e) in
       let front = take p out ++ bytes_of set_length s in
       let rest = drop (suc at) out in
       let next : suc at ≡ p + (set_length + 1) = omega arith in

@@ -10,10 +10,8 @@ pub fn version_for(quantities: &[u8]) -> u64
     ensures { result ≡ version_for quantities.now }
 {
     let mut others = 0;
-    let mut i = 0;
-    while i < quantities.len() {
-        others |= quantities[i] ^ 1;
-        i += 1;
+    for quantity in quantities {
+        others |= quantity ^ 1;
     }
     if others == 0 {
         job::PLAIN
@@ -27,14 +25,13 @@ pub fn put_header(version: u64, rack: usize, count: usize, out: &mut [u8])
     requires { header_length ≤ length out.old }
     ensures { out.new ≡ header_of version rack count ++ drop header_length out.old }
 {
-    out[0] = (job::MARK / 65536 % 256) as u8;
-    out[1] = (job::MARK / 256 % 256) as u8;
-    out[2] = (job::MARK % 256) as u8;
-    out[3] = (version / 256 % 256) as u8;
-    out[4] = (version % 256) as u8;
-    out[5] = (rack % 256) as u8;
-    out[6] = (count / 256 % 256) as u8;
-    out[7] = (count % 256) as u8;
+    let mark = job::MARK.to_be_bytes();
+    let version = version.to_be_bytes();
+    let rack = rack.to_be_bytes();
+    let count = count.to_be_bytes();
+    out[..job::HEADER].copy_from_slice(&[
+        mark[5], mark[6], mark[7], version[6], version[7], rack[7], count[6], count[7],
+    ]);
 }
 
 // Writes one set to the eight bytes from `at` on.
@@ -42,17 +39,22 @@ pub fn put_set(set: u64, at: usize, out: &mut [u8])
     requires { at + set_length ≤ length out.old }
     ensures { out.new ≡ take at out.old ++ bytes_of set_length set ++ drop (at + set_length) out.old }
 {
-    out[at] = (set / 72057594037927936 % 256) as u8;
-    out[at + 1] = (set / 281474976710656 % 256) as u8;
-    out[at + 2] = (set / 1099511627776 % 256) as u8;
-    out[at + 3] = (set / 4294967296 % 256) as u8;
-    out[at + 4] = (set / 16777216 % 256) as u8;
-    out[at + 5] = (set / 65536 % 256) as u8;
-    out[at + 6] = (set / 256 % 256) as u8;
-    out[at + 7] = (set % 256) as u8;
+    out[at..at + job::SET].copy_from_slice(&set.to_be_bytes());
+}
+
+// The same byte by byte. They become one store only after loops are vectorized: a loop that only writes sets takes more than twice the time by
+// `to_be_bytes`, since two sets are then swapped at once, without an instruction for it.
+fn put_set_by_bytes(set: u64, at: usize, out: &mut [u8])
+    requires { at + set_length ≤ length out.old }
+    ensures { out.new ≡ take at out.old ++ bytes_of set_length set ++ drop (at + set_length) out.old }
+{
+    for k in 0..job::SET {
+        out[at + k] = ((set >> (56 - 8 * k)) % 256) as u8;
+    }
 }
 
 // Writes the quantity after the set of the line at `at`, where the version has quantities.
+#[tactic(auto, using(job::proofs::Lines::line_two))]
 pub fn put_quantity(version: u64, quantity: u8, at: usize, out: &mut [u8])
     requires { at + line_length version ≤ length out.old }
     ensures { out.new ≡ cond (counted version) (set out.old (at + set_length) quantity) out.old }
@@ -70,12 +72,10 @@ fn put_lines(version: u64, quantities: &[u8], sets: &[u64], out: &mut [u8])
     ensures { out.new ≡ take header_length out.old
         ++ bytes_of_lines version (paired sets.now quantities.now) }
 {
-    let mut i = 0;
-    while i < sets.len() {
+    for i in 0..sets.len() {
         let at = job::file_length(version, i);
         put_quantity(version, quantities[i], at, out);
-        put_set(sets[i], at, out);
-        i += 1;
+        put_set_by_bytes(sets[i], at, out);
     }
 }
 

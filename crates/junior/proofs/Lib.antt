@@ -1,4 +1,5 @@
 pub mod Sides
+pub mod Choice
 pub mod Search
 pub mod Passed
 pub mod Laid

@@ -4,20 +4,21 @@ use native.Mathlib.Omega.{arith}
 use native.Mathlib.Nat.{le_refl}
 use native.Mathlib.Numerals.{add-one}
 use mathlib.Core.Path.{◌≡◌, refl, sym, ap, ◌∙◌}
+use mathlib.Core.Logic.{⊎_elim}
+use Rattle.std.specs.Prelude.{Option, None}
 use mathlib.Core.Bool.{Bool, true, false, cond}
 use mathlib.Core.List.{List, [], ◌∷◌}
 use lib.Arith.{digits_lt, digits_div, digits_mod}
-use lib.Dec.{leb, le→leb}
 use lib.ListN.{take}
 use Rattle.model.specs.Count.{largest, lowest_at}
-use Rattle.model.specs.Plan.{pairs}
-use Rattle.model.proofs.Tests.{true_T}
+use Rattle.model.proofs.Tests.{le_or_lt}
 use Rattle.model.proofs.Largest.{largest-more, lowest-stays, lowest_moves, lowest_attains, lowest-largest}
 use Rattle.placements.specs.Repeated.{repeated, total, weighted}
-use Rattle.holders.specs.Holders.{gathered, to_first, score, chosen, first_tip, second_tip}
+use Rattle.holders.specs.Holders.{score, chosen, first_tip, second_tip}
 use Rattle.holders.proofs.Counts.{score-below}
 use Rattle.junior.specs.declared.Tips.{Tips}
-use Rattle.junior.specs.Found.{tips_of}
+use Rattle.junior.specs.Found.{tips_on, score_is, tips_of}
+use Rattle.junior.proofs.Choice.{score_on, none_scored}
 
 -- the sum of some of the first quantities is at most the total
 pub part_le : (f : ℕ → Bool) (qs xs : List ℕ) (i : ℕ) → weighted f (take i qs) (take i xs) ≤ total qs
@@ -32,69 +33,85 @@ part_le f (q ∷ qs) (x ∷ xs) (suc i) = omega (arith, part (f x), part_le f qs
     part true = le_refl q
     part false = omega arith
 
-pub record Sought (m : ℕ) (qs sets : List ℕ) (k : ℕ) (best : Tips) : Type 0 where
-  pub most : best.score ≡ largest (score m (repeated qs sets)) k
-  pub at : best.u * m + best.v ≡ lowest_at (score m (repeated qs sets)) k
-  pub below : best.v < m
-  pub side : best.first ≡ to_first (repeated qs sets) best.u best.v
+-- of the numbers of tips below k, the choice with the largest score, and of these the lowest number
+pub record Sought (m : ℕ) (qs sets : List ℕ) (k : ℕ) (best : Option Tips) : Type 0 where
+  pub most : score_is best ≡ largest (score m (repeated qs sets)) k
+  pub is : let j = lowest_at (score m (repeated qs sets)) k in 0 < k → best ≡ tips_on (repeated qs sets) (j / m) (j % m)
 
-module _ {m : ℕ} {qs sets : List ℕ} where
-  pub sought_none : 0 < m → Sought m qs sets 0 (record { score = 0; u = 0; v = 0; first = true })
-  unfolding largest lowest_at to_first
-  sought_none some =
-      let p = pairs (gathered (repeated qs sets) 0 0) in
-      record { most = refl; at = omega arith; below = some; side = sym (true_T (leb p p) (le→leb p p (le_refl p))) }
+module _ (m : ℕ) (qs sets : List ℕ) where
+  pub sought_none : Sought m qs sets 0 None
+  unfolding largest score_is
+  sought_none = record { most = refl; is = λ l. absurd (omega arith) }
+
+  abbrev pub f : ℕ → ℕ
+  f = score m (repeated qs sets)
+
+  -- the score of number k is that of its tips
+  score_at : (k : ℕ) → 0 < m → score_is (tips_on (repeated qs sets) (k / m) (k % m)) ≡ f k
+  score_at k some =
+      let e : k / m * m + k % m ≡ k = omega arith in
+      rw e at (score_on (repeated qs sets) (k / m) (k % m) {m = m} (omega arith))
 
   -- a number whose score is no larger
-  pub sought_stays : {k : ℕ} {best : Tips} → Sought m qs sets k best → score m (repeated qs sets) k ≤ best.score → Sought m qs sets (k + 1) best
-  sought_stays {k} h l =
-      let f = score m (repeated qs sets) in
-      record {
-        most = omega (arith, h.most, largest-more f k);
-        at = h.at ∙ sym (rw add-one (lowest-stays f k (omega (arith, h.most, lowest_attains f k))));
-        below = h.below;
-        side = h.side;
-      }
+  pub sought_stays : {k : ℕ} {best : Option Tips} → 0 < m → Sought m qs sets k best → f k ≤ score_is best → Sought m qs sets (k + 1) best
+  unfolding largest lowest_at
+  sought_stays {k} {best} some h l = record {
+    most = omega (arith, h.most, largest-more f k);
+    is = λ _. at k h l;
+  }
+    where
+      at : (k : ℕ) → Sought m qs sets k best → f k ≤ score_is best
+          → let j = lowest_at f (k + 1) in best ≡ tips_on (repeated qs sets) (j / m) (j % m)
+      at zero h l =
+          let z : score_is best ≡ 0 = h.most in
+          let first : lowest_at f (0 + 1) ≡ 0 = lowest-stays f zero (le_refl _) in
+          rw first (none_scored best z ∙ sym (none_scored (tips_on (repeated qs sets) (0 / m) (0 % m)) (omega (arith, score_at 0 some))))
+      at (suc k) h l =
+          rw (add-one, lowest-stays f (suc k) (omega (arith, h.most, lowest_attains f (suc k)))) (h.is (omega arith))
 
   -- the number of u and v, whose score is larger
-  pub sought_moves : {best : Tips} (u v : ℕ) {s : ℕ} {first : Bool} → Sought m qs sets (u * m + v) best → v < m
-      → s ≡ score m (repeated qs sets) (u * m + v) → best.score < s → first ≡ to_first (repeated qs sets) u v
-      → Sought m qs sets (u * m + v + 1) (record { score = s; u = u; v = v; first = first })
+  pub sought_moves : {best next : Option Tips} (u v : ℕ) → v < m → Sought m qs sets (u * m + v) best → next ≡ tips_on (repeated qs sets) u v
+      → score_is best < score_is next → Sought m qs sets (u * m + v + 1) next
   unfolding lowest_at
-  sought_moves {best} u v {s} h b e l side =
-      let f = score m (repeated qs sets) in
+  sought_moves {best} {next} u v b h e l =
+      let s : score_is next ≡ f (u * m + v) = ap score_is e ∙ score_on (repeated qs sets) u v b in
+      let j : lowest_at f (u * m + v + 1) ≡ u * m + v = rw add-one (moves (u * m + v) (omega (arith, h.most))) in
       record {
         most = omega (arith, h.most, largest-more f (u * m + v));
-        at = rw add-one (sym (moves (u * m + v) (omega (arith, h.most))));
-        below = b;
-        side = side;
+        is = λ _. rw (j, digits_div u b, digits_mod u b) e;
       }
     where
       -- below the first number there is none, and it is the lowest whatever its score
-      moves : (k : ℕ) → largest (score m (repeated qs sets)) k < score m (repeated qs sets) k → lowest_at (score m (repeated qs sets)) (suc k) ≡ k
-      moves zero l = lowest-stays (score m (repeated qs sets)) zero (le_refl _)
-      moves (suc k) l =
-          let f = score m (repeated qs sets) in
-          lowest_moves f (suc k) (omega (arith, lowest-largest f (suc k) (omega arith)))
+      moves : (k : ℕ) → largest f k < f k → lowest_at f (suc k) ≡ k
+      moves zero l = lowest-stays f zero (le_refl _)
+      moves (suc k) l = lowest_moves f (suc k) (omega (arith, lowest-largest f (suc k) (omega arith)))
+
+  -- the number of u and v, which are no choice
+  pub sought_same : {best : Option Tips} (u v : ℕ) → v < m → Sought m qs sets (u * m + v) best → None ≡ tips_on (repeated qs sets) u v
+      → Sought m qs sets (u * m + v + 1) best
+  unfolding score_is
+  sought_same u v b h e = sought_stays (omega arith) h (omega (arith, ap score_is e, score_on (repeated qs sets) u v b))
+
+  -- the number of u and v, if its choice is better
+  pub sought_next : {best next new : Option Tips} (u v : ℕ) → v < m → Sought m qs sets (u * m + v) best → next ≡ tips_on (repeated qs sets) u v
+      → (score_is next ≤ score_is best → new ≡ best) → (score_is best < score_is next → new ≡ next) → Sought m qs sets (u * m + v + 1) new
+  sought_next {best} {next} u v b h e stays moves =
+      ⊎_elim
+      (λ l. rw (stays l) (sought_stays (omega arith) h (omega (arith, ap score_is e, score_on (repeated qs sets) u v b))))
+      (λ l. rw (moves l) (sought_moves u v b h e l))
+      (le_or_lt (score_is next) (score_is best))
 
   -- the numbers of u and a lower tip after it are passed over
-  pub sought_skip : {best : Tips} (u j : ℕ) → u < m → j ≤ u → Sought m qs sets (u * m) best → Sought m qs sets (u * m + j) best
+  pub sought_skip : {best : Option Tips} (u j : ℕ) → u < m → j ≤ u → Sought m qs sets (u * m) best → Sought m qs sets (u * m + j) best
   sought_skip {best} u zero l b h =
       let e : u * m + 0 ≡ u * m = omega arith in
       rw e h
   sought_skip {best} u (suc j) l b h =
       let e : u * m + suc j ≡ u * m + j + 1 = omega arith in
-      rw e (sought_stays (sought_skip u j l (omega arith) h) (omega (arith, score-below {m = m} (repeated qs sets) u j (omega arith) (omega arith))))
+      rw e (sought_stays (omega arith) (sought_skip u j l (omega arith) h)
+      (omega (arith, score-below {m = m} (repeated qs sets) u j (omega arith) (omega arith))))
 
   -- after the last number
-  pub sought_all : {best : Tips} → 0 < m → Sought m qs sets (m * m) best → best ≡ tips_of m qs sets
+  pub sought_all : {best : Option Tips} → 0 < m → Sought m qs sets (m * m) best → best ≡ tips_of m qs sets
   unfolding tips_of first_tip second_tip chosen
-  sought_all {best} some h =
-      let f = score m (repeated qs sets) in
-      let u : best.u ≡ chosen m (repeated qs sets) / m = sym (digits_div best.u h.below) ∙ ap (λ k. k / m) h.at in
-      let v : best.v ≡ chosen m (repeated qs sets) % m = sym (digits_mod best.u h.below) ∙ ap (λ k. k % m) h.at in
-      let s : best.score ≡ f (chosen m (repeated qs sets)) = h.most ∙ sym (lowest-largest f (m * m) (omega (arith, digits_lt some some))) in
-      same best (tips_of m qs sets) s u v (h.side ∙ rw (u, v))
-    where
-      same : (a b : Tips) → a.score ≡ b.score → a.u ≡ b.u → a.v ≡ b.v → a.first ≡ b.first → a ≡ b
-      same a b p q r t = rw (p, q, r, t)
+  sought_all some h = h.is (omega (arith, digits_lt some some))

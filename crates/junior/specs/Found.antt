@@ -1,29 +1,31 @@
 -- What the search for the Junior's tips finds, and what it leaves in the plan.
-use Rattle.std.specs.Prelude.{ℕ, cond, List}
+use Rattle.std.specs.Prelude.{ℕ, ◌+◌, cond, List, Option, Some, None}
 use Rattle.model.specs.Plan.{pairs}
 use Rattle.placements.specs.Repeated.{repeated}
-use Rattle.holders.specs.Holders.{to_first, score, chosen, is_served, first_tip, second_tip, junior_plan}
+use Rattle.holders.specs.Holders.{to_first, two_plan, is_choice, is_served, first_tip, second_tip, junior_plan}
 use Rattle.junior.specs.declared.Tips.{Tips}
 use Rattle.junior.specs.declared.Found.{Found}
 
--- the chosen tips with their score, and the side for the lines that have both
-unfoldable pub tips_of : ℕ → List ℕ → List ℕ → Tips
-tips_of m qs sets =
-    let lines = repeated qs sets in
-    let u = first_tip m qs sets in
-    let v = second_tip m qs sets in
-    record { score = score m lines (chosen m lines); u = u; v = v; first = to_first lines u v }
+-- the tips u and v with the pairs of their plan and the side for the lines that have both, where they are a choice
+unfoldable pub tips_on : List ℕ → ℕ → ℕ → Option Tips
+tips_on lines u v =
+    cond (is_choice lines u v) (Some (record { pairs = pairs (two_plan lines u v); u = u; v = v; first = to_first lines u v })) None
 
--- the pairs of the plan and its tips; 0 where no tips serve every line
-unfoldable pub found_of : ℕ → List ℕ → List ℕ → Found
+-- one more than the pairs; 0 where there is no choice
+unfoldable pub score_is : Option Tips → ℕ
+score_is None = 0
+score_is (Some tips) = 1 + tips.pairs
+
+-- the chosen tips, where some tips serve every line
+unfoldable pub tips_of : ℕ → List ℕ → List ℕ → Option Tips
+tips_of m qs sets = tips_on (repeated qs sets) (first_tip m qs sets) (second_tip m qs sets)
+
+-- the pairs of the plan and its tips, where some tips serve every line
+unfoldable pub found_of : ℕ → List ℕ → List ℕ → Option Found
 found_of m qs sets =
-    let served = is_served m (repeated qs sets) in
-    record {
-      served = served;
-      pairs = cond served (pairs (repeated qs (junior_plan m qs sets))) 0;
-      u = cond served (first_tip m qs sets) 0;
-      v = cond served (second_tip m qs sets) 0;
-    }
+    cond (is_served m (repeated qs sets))
+    (Some (record { pairs = pairs (repeated qs (junior_plan m qs sets)); u = first_tip m qs sets; v = second_tip m qs sets }))
+    None
 
 -- the plan, or what was there
 unfoldable pub plan_of : ℕ → List ℕ → List ℕ → List ℕ → List ℕ

@@ -1,11 +1,10 @@
 -- The tip found by the sums and the table is the tip by the definition.
 use Prim.Native.Nat.{ℕ, zero, suc, ◌+◌, ◌*◌, ◌-◌, ◌<◌, ◌≤◌}
-use mathlib.Core.Path.{◌≡◌, ap, sym, ◌∙◌}
+use mathlib.Core.Path.{◌≡◌, sym, ◌∙◌}
 use mathlib.Core.Logic.{⊎_elim}
 use mathlib.Core.List.{List}
 use native.Mathlib.Omega.{arith}
 use native.Mathlib.Nat.{mul-le-mul_right, suc-mul}
-use lib.ListN.{length, get_or}
 use borrow.Author.Tests.{ne_eqb}
 use Rattle.model.specs.Limits.{most_placements}
 use Rattle.model.specs.Count.{largest, lowest_at}
@@ -17,20 +16,17 @@ use Rattle.model.proofs.AllTips.{inside-length}
 use Rattle.model.proofs.Largest.{largest_ge, largest_cong, lowest_lt, lowest_attains, lowest-first}
 use Rattle.model.proofs.Table.{table_at, length-table}
 use Rattle.model.proofs.Choice.{choice_lt, choice-tied, choice_else, choice_cong, from_in, from_out}
+use Rattle.model.proofs.Limits.{C_few}
 use Rattle.model.proofs.Best.{C_zero, C-split, pick-any}
 use Rattle.spans.specs.Spans.{inside_by}
-use Rattle.spans.proofs.Below.{inside_by-inside}
-use Rattle.layout.specs.Picks.{most_by, split_by, lowest_by, pick_by, Ready}
+use Rattle.spans.proofs.Below.{summed, inside_by-inside}
+use Rattle.layout.specs.Picks.{most_by, split_by, lowest_by, pick_by, Ready, Searchable}
 
 -- the table has a place for each interval
 pub most-room : (m a w : ℕ) → a + w ≤ m → 0 < w → a * m + (a + w - 1) < m * m
 most-room m a w h p =
     let row : suc a ≤ m = omega arith in
     omega (arith, mul-le-mul_right m row, suc-mul a m)
-
-pub most-place : (m : ℕ) (cs : List ℕ) (a w : ℕ) → 0 < w → most_by m cs a w ≡ get_or cs (a * m + (a + w - 1)) 0
-unfolding most_by
-most-place m cs a w p = rw (ne_eqb w 0 (λ z. omega arith))
 
 -- the split from its parts
 pub split_parts : (m : ℕ) (xs cs : List ℕ) (a w i : ℕ) {k p b d : ℕ} → k ≡ inside_by m xs a w (a + i) → p ≡ choose2 k → b ≡ most_by m cs a i
@@ -52,44 +48,57 @@ module _ {m : ℕ} {lines xs cs : List ℕ} (r : Ready m lines xs cs) where
       let g = r.good in
       rw r.summed (inside_by-inside m lines a w (a + i) h (omega arith) (omega arith) g.most g.domains r.runs)
 
-  pub inside_by_few : (a w i : ℕ) → a + w ≤ m → i < w → inside_by m xs a w (a + i) ≤ most_placements
-  inside_by_few a w i h l = omega (arith, inside_is a w i h l, inside-length lines a w (a + i), r.good.few)
+  inside-few : (a w i : ℕ) → a + w ≤ m → i < w → inside_by m xs a w (a + i) ≤ most_placements
+  inside-few a w i h l = omega (arith, inside_is a w i h l, inside-length lines a w (a + i), r.good.few)
 
   split_is : (a w i : ℕ) → a + w ≤ m → i < w → split_by m xs cs a w i ≡ split (C lines) lines a w i
   unfolding split_by
   split_is a w i h l = rw (inside_is a w i h l, most_is a i (omega arith), most_is (a + i + 1) (w - (i + 1)) (omega arith))
 
+  pub pick_is : (mounted : Mounted) (a w : ℕ) → a + w ≤ m → pick_by mounted m xs cs a w ≡ pick_of mounted any lines a w
+  unfolding pick_by
+  pick_is mounted a w h = choice_cong (from a mounted) _ _ w (λ i l. split_is a w i h l) ∙ sym (pick-any lines mounted a w)
+
   -- the most pairs of the interval are its largest split
-  pub most-largest : (a w : ℕ) → a + w ≤ m → most_by m cs a w ≡ largest (split_by m xs cs a w) w
+  most-largest : (a w : ℕ) → a + w ≤ m → most_by m cs a w ≡ largest (split_by m xs cs a w) w
   most-largest a w h = most_is a w h ∙ C-split lines a w ∙ largest_cong _ _ w (λ i l. sym (split_is a w i h l))
 
-  -- so no split is more than a number of the table
-  pub split_le : (a w i : ℕ) → a + w ≤ m → i < w → split_by m xs cs a w i ≤ get_or cs (a * m + (a + w - 1)) 0
-  split_le a w i h l =
-      omega (arith, largest_ge (split_by m xs cs a w) w i l, most-largest a w h, most-place m cs a w (omega arith))
+  -- WHAT THE SEARCH TAKES from the sums and the table of the lines
+  pub searchable : Searchable m xs cs
+  searchable = record {
+    some = r.good.some;
+    rack = r.good.most;
+    size = rw r.filled (length-table m lines);
+    summed = λ a w c h l g. rw r.summed (summed m lines a w c h l g r.good.few);
+    few = inside-few;
+    most = most-largest;
+    small = λ a w i h l.
+        let top = largest_ge (split_by m xs cs a w) w i l in
+        omega (arith, top, most-largest a w h, most_is a w h, C_few lines r.good.few a w (omega (arith, r.good.most)));
+  }
 
-  pub table_size : length cs ≡ m * m
-  table_size = rw r.filled (length-table m lines)
-
-  -- THE SEARCH for the tip goes on below it, where the split is less than the most pairs, and ends at it
-  module _ (a w i : ℕ) (h : a + w ≤ m) (l : i ≤ lowest_by m xs cs a w) where
-    pub goes_on : split_by m xs cs a w i < most_by m cs a w → i < lowest_by m xs cs a w
+module _ {m : ℕ} {xs cs : List ℕ} (r : Searchable m xs cs) where
+  -- THE SEARCH for the tip ends at the first whose split is the most pairs
+  module _ (a w : ℕ) (h : a + w ≤ m) (p : 0 < w) where
+    pub found : (i : ℕ) → i < w → most_by m cs a w ≤ split_by m xs cs a w i
+        → ((k : ℕ) → k < i → split_by m xs cs a w k < most_by m cs a w) → i ≡ lowest_by m xs cs a w
     unfolding lowest_by
-    goes_on g =
+    found i l g before =
         let f = split_by m xs cs a w in
         ⊎_elim
-        (λ p. let e : lowest_at f w ≡ i = omega arith in absurd (omega (arith, most-largest a w h, lowest_attains f w, ap f e)))
-        (λ p. p)
-        (le_or_lt (lowest_at f w) i)
-
-    pub ends : 0 < w → most_by m cs a w ≤ split_by m xs cs a w i → i ≡ lowest_by m xs cs a w
-    unfolding lowest_by
-    ends p g =
-        let f = split_by m xs cs a w in
+        (λ q.
         ⊎_elim
-        (λ q. omega arith)
-        (λ q. absurd (omega (arith, most-largest a w h, lowest-first f w i q, largest_ge f w (lowest_at f w) (lowest_lt f w p))))
-        (le_or_lt (lowest_at f w) i)
+        (λ u. omega arith)
+        (λ u. absurd (omega (arith, r.most a w h, lowest-first f w i u, largest_ge f w (lowest_at f w) (lowest_lt f w p))))
+        (le_or_lt (lowest_at f w) i))
+        (λ q. absurd (omega (arith, r.most a w h, lowest_attains f w, before (lowest_at f w) q)))
+        (le_or_lt i (lowest_at f w))
+
+    -- and there is one
+    pub some_found : ((k : ℕ) → k < w → split_by m xs cs a w k < most_by m cs a w) → ⊥
+    some_found none =
+        let f = split_by m xs cs a w in
+        omega (arith, r.most a w h, lowest_attains f w, none (lowest_at f w) (lowest_lt f w p))
 
   -- the mounted tip wins exactly where its split is the most pairs
   module _ (t a w : ℕ) (h : a + w ≤ m) where
@@ -97,7 +106,7 @@ module _ {m : ℕ} {lines xs cs : List ℕ} (r : Ready m lines xs cs) where
     unfolding pick_by
     wins p l g =
         let f = split_by m xs cs a w in
-        rw (from_in a t p) (sym (choice-tied f (t - a) w l (omega (arith, most-largest a w h, largest_ge f w (t - a) l))))
+        rw (from_in a t p) (sym (choice-tied f (t - a) w l (omega (arith, r.most a w h, largest_ge f w (t - a) l))))
 
     pub loses : {r : ℕ} → r ≡ lowest_by m xs cs a w → (a ≤ t → t - a < w → split_by m xs cs a w (t - a) < most_by m cs a w)
         → r ≡ pick_by (tip t) m xs cs a w
@@ -105,13 +114,9 @@ module _ {m : ℕ} {lines xs cs : List ℕ} (r : Ready m lines xs cs) where
     loses e g =
         let f = split_by m xs cs a w in
         e ∙ ⊎_elim
-        (λ p. rw (from_in a t p) (sym (choice_else f (t - a) w (λ l e. omega (arith, g p l, most-largest a w h)))))
+        (λ p. rw (from_in a t p) (sym (choice_else f (t - a) w (λ l e. omega (arith, g p l, r.most a w h)))))
         (λ p. rw (from_out a t p))
         (le_or_lt a t)
-
-  pub pick_is : (mounted : Mounted) (a w : ℕ) → a + w ≤ m → pick_by mounted m xs cs a w ≡ pick_of mounted any lines a w
-  unfolding pick_by
-  pick_is mounted a w h = choice_cong (from a mounted) _ _ w (λ i l. split_is a w i h l) ∙ sym (pick-any lines mounted a w)
 
 pub lowest-by_lt : (m : ℕ) (xs cs : List ℕ) (a w : ℕ) → 0 < w → lowest_by m xs cs a w < w
 unfolding lowest_by

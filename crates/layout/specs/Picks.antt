@@ -1,12 +1,12 @@
 -- The tip of an interval, found by the sums of the lines and the table of the intervals.
 -- For proofs and leaf contracts: no call's contract speaks of these.
-use Rattle.std.specs.Prelude.{ℕ, ◌+◌, ◌*◌, ◌-◌, ◌≤◌, ◌≡◌, cond, List, T, eqb, length, get_or}
-use Rattle.model.specs.Count.{All, lowest_at}
+use Rattle.std.specs.Prelude.{ℕ, ◌+◌, ◌*◌, ◌-◌, ◌≤◌, ◌<◌, ◌≡◌, cond, List, T, eqb, length, get_or}
+use Rattle.model.specs.Count.{All, largest, lowest_at}
 use Rattle.model.specs.Plan.{choose2}
-use Rattle.model.specs.Limits.{GoodPlacements}
+use Rattle.model.specs.Limits.{most_tips, most_placements, most_pairs, GoodPlacements}
 use Rattle.model.specs.Choice.{Mounted, choice, from}
 use Rattle.model.specs.Interval.{is_run, table as table_of}
-use Rattle.spans.specs.Spans.{sums as sums_of, inside_by}
+use Rattle.spans.specs.Spans.{sums as sums_of, inside_by, Summed}
 
 -- the most pairs of an interval, from the table of m columns; 0 for an interval of no width
 unfoldable pub most_by : ℕ → List ℕ → ℕ → ℕ → ℕ
@@ -35,8 +35,12 @@ pub record Ready (m : ℕ) (lines sums table : List ℕ) : Type 0 where
 abbrev pub Filled : ℕ → List ℕ → List ℕ → Type 0
 Filled m sums table = (lines : List ℕ) × Ready m lines sums table
 
--- an interval of their rack, and a place for each owner
-pub record Layable (m : ℕ) (sums table : List ℕ) (a w : ℕ) (owner : List ℕ) : Type 0 where
-  pub filled : Filled m sums table
-  pub inside : a + w ≤ m
-  pub places : m * m ≤ length owner
+-- what the search for an interval's tip takes from them, whatever the lines are
+pub record Searchable (m : ℕ) (sums table : List ℕ) : Type 0 where
+  pub some : 0 < m
+  pub rack : m ≤ most_tips
+  pub size : length table ≡ m * m
+  pub summed : (a w c : ℕ) → a + w ≤ m → a ≤ c → c < a + w → Summed m sums a w c
+  pub few : (a w i : ℕ) → a + w ≤ m → i < w → inside_by m sums a w (a + i) ≤ most_placements
+  pub most : (a w : ℕ) → a + w ≤ m → most_by m table a w ≡ largest (split_by m sums table a w) w
+  pub small : (a w i : ℕ) → a + w ≤ m → i < w → split_by m sums table a w i ≤ most_tips * most_pairs

@@ -1,211 +1,132 @@
 // The plan of best sharing: each interval's tip is found once, then each line's tip is looked up once.
 #![tactic(auto)]
 
-ghost use Rattle.std.specs.Prelude.{◌≡◌, ℕ, ◌+◌, ◌*◌, ◌≤◌, ◌<◌, List, map, T, length, replicate};
+ghost use Rattle.std.specs.Prelude.{◌≡◌, ℕ, ◌+◌, ◌*◌, ◌≤◌, ◌<◌, List, map, T, length};
 ghost use Rattle.model.specs.Limits.{most_tips};
 ghost use Rattle.model.specs.Count.{All};
 ghost use Rattle.model.specs.Plan.{Domain};
-ghost use Rattle.model.specs.Choice.{tip};
 ghost use Rattle.model.specs.Interval.{any, is_run, plan_for};
 ghost use Rattle.head.specs.OnHead.{on_head};
 ghost use Rattle.pair_count.specs.PairTable.{PairTable};
-ghost use Rattle.layout.specs.Picks.{most_by, split_by, lowest_by, pick_by, Ready, Filled, Layable};
+ghost use Rattle.layout.specs.Picks.{most_by, split_by, lowest_by, pick_by, Ready, Filled, Searchable};
 ghost use Rattle.layout.specs.Owners.{owner_of, owned, laid};
 
-use head::Mounted;
-
-// The most pairs of the interval of first tip a and width w, from the table; 0 for one of no width.
-fn most_at(m: usize, table: &[u32], a: usize, w: usize) -> u32
-    requires { (a + w ≤ m) × (length table.now ≡ m * m) }
-    ensures { result ≡ most_by m table.now a w }
-{
-    if w == 0 {
-        return 0;
-    }
-    table[a * m + (a + w - 1)]
-}
-
-// The pairs of the interval if tip a + i takes its lines.
-fn split_at(
+// The lines of a rack of m tips, counted: their sums, the most pairs of each interval of tips, and the tip that is mounted.
+#[derive(Clone, Copy)]
+struct Counted<'a> {
     m: usize,
-    pairs: &[u32],
-    sums: &[u32],
-    table: &[u32],
-    a: usize,
-    w: usize,
-    i: usize,
-) -> u32
-    requires { Filled m sums.now table.now × (a + w ≤ m) × (i < w) × PairTable pairs.now }
-    ensures { result ≡ split_by m sums.now table.now a w i }
-{
-    let here = pair_count::pairs_among(pairs, spans::inside_at(m, sums, a, w, a + i));
-    let before = most_at(m, table, a, i);
-    let after = most_at(m, table, a + i + 1, w - (i + 1));
-    here + (before + after)
+    mounted: Option<usize>,
+    pairs: &'a [u32],
+    sums: &'a [u32],
+    table: &'a [u32],
+    ghost searchable: { Searchable m sums.now table.now },
+    ghost numbered: { PairTable pairs.now },
 }
 
-// The lowest tip of the interval, less a, that attains the most pairs.
-fn find_lowest(m: usize, pairs: &[u32], sums: &[u32], table: &[u32], a: usize, w: usize) -> usize
-    requires { Filled m sums.now table.now × (a + w ≤ m) × (0 < w) × PairTable pairs.now }
-    ensures { result ≡ lowest_by m sums.now table.now a w }
-{
-    let most = most_at(m, table, a, w);
-    let mut i = 0;
-    while split_at(m, pairs, sums, table, a, w, i) < most {
-        i += 1;
+impl Counted<'_> {
+    // The most pairs of the interval of first tip a and width w, from the table; 0 for one of no width.
+    #[tactic(auto, unfolding(crate::specs::Picks::most_by))]
+    fn most(&self, a: usize, w: usize) -> u32
+        requires { a + w ≤ self.now.m }
+        ensures { result ≡ most_by self.now.m self.now.table.now a w }
+    {
+        if w == 0 {
+            return 0;
+        }
+        self.table[a * self.m + (a + w - 1)]
     }
-    i
-}
 
-// The mounted tip, less a, if it is in the interval and attains the most pairs; else the lowest that does.
-fn find_mounted(
-    m: usize,
-    on: usize,
-    pairs: &[u32],
-    sums: &[u32],
-    table: &[u32],
-    a: usize,
-    w: usize,
-) -> usize
-    requires { Filled m sums.now table.now × (a + w ≤ m) × (0 < w) × PairTable pairs.now }
-    ensures { result ≡ pick_by (tip on) m sums.now table.now a w }
-{
-    if on < a {
-        return find_lowest(m, pairs, sums, table, a, w);
+    // The pairs of the interval if tip a + i takes its lines.
+    fn split(&self, a: usize, w: usize, i: usize) -> u32
+        requires inside { a + w ≤ self.now.m }
+        requires own { i < w }
+        ensures { result ≡ split_by self.now.m self.now.sums.now self.now.table.now a w i }
+    {
+        let inside = spans::inside_at(self.m, self.sums, a, w, a + i);
+        let here = pair_count::pairs_among(self.pairs, inside);
+        here + (self.most(a, i) + self.most(a + i + 1, w - (i + 1)))
     }
-    let i = on - a;
-    if w <= i {
-        return find_lowest(m, pairs, sums, table, a, w);
-    }
-    if split_at(m, pairs, sums, table, a, w, i) < most_at(m, table, a, w) {
-        return find_lowest(m, pairs, sums, table, a, w);
-    }
-    i
-}
 
-// The interval's tip, less a: of those that attain the most pairs the mounted one, else the lowest.
-fn find_tip(
-    m: usize,
-    mounted: Mounted,
-    pairs: &[u32],
-    sums: &[u32],
-    table: &[u32],
-    a: usize,
-    w: usize,
-) -> usize
-    requires { Filled m sums.now table.now × (a + w ≤ m) × (0 < w) × PairTable pairs.now }
-    ensures { result ≡ pick_by (on_head mounted) m sums.now table.now a w }
-{
-    match mounted {
-        Mounted::Nothing => find_lowest(m, pairs, sums, table, a, w),
-        Mounted::Tip(on) => find_mounted(m, on, pairs, sums, table, a, w),
+    // The lowest tip of the interval, less a, that attains the most pairs.
+    fn lowest(&self, a: usize, w: usize) -> usize
+        requires inside { a + w ≤ self.now.m }
+        requires wide { 0 < w }
+        ensures { result ≡ lowest_by self.now.m self.now.sums.now self.now.table.now a w }
+    {
+        let most = self.most(a, w);
+        (0..w).find(|i| most <= self.split(a, w, *i)).unwrap()
     }
-}
 
-// Each byte of the part becomes the tip.
-fn fill(part: &mut [u8], tip: u8)
-    ensures { part.new ≡ replicate (length part.old) tip }
-{
-    let mut i = 0;
-    while i < part.len() {
-        part[i] = tip;
-        i += 1;
+    // The interval's tip, less a: of those that attain the most pairs the mounted one, else the lowest.
+    fn tip(&self, a: usize, w: usize) -> usize
+        requires inside { a + w ≤ self.now.m }
+        requires wide { 0 < w }
+        ensures inside { result < w }
+        ensures is { result ≡ pick_by (on_head self.now.mounted) self.now.m self.now.sums.now self.now.table.now a w }
+    {
+        match self.mounted {
+            Some(t) if a <= t && t - a < w && self.most(a, w) <= self.split(a, w, t - a) => t - a,
+            _ => self.lowest(a, w),
+        }
+    }
+
+    // An interval, which RULES calls a stretch, is laid by its tip: it takes its runs, and the two intervals beside it are laid.
+    fn lay(&self, a: usize, w: usize, owner: &mut [u8])
+        requires inside { a + w ≤ self.now.m }
+        requires places { self.now.m * self.now.m ≤ length owner.old }
+        ensures { owner.new ≡ laid self.now.m (pick_by (on_head self.now.mounted) self.now.m self.now.sums.now self.now.table.now) a w owner.old }
+    {
+        if 0 < w {
+            let i = self.tip(a, w);
+            own_runs(self.m, a, w, i, owner);
+            self.lay(a, i, owner);
+            self.lay(a + i + 1, w - (i + 1), owner);
+        }
     }
 }
 
 // Tip a + i owns the runs of the interval that have it: they begin at a tip from a to a + i, and end at one from a + i to the last.
 fn own_runs(m: usize, a: usize, w: usize, i: usize, owner: &mut [u8])
-    requires { (i < w) × (a + w ≤ m) × (m ≤ most_tips) × (m * m ≤ length owner.old) }
+    requires own { i < w }
+    requires inside { a + w ≤ m }
+    requires rack { m ≤ most_tips }
+    requires places { m * m ≤ length owner.old }
     ensures { owner.new ≡ owned m a w (a + i) owner.old }
 {
     let tip = a + i;
-    let mut lo = a;
-    while lo <= tip {
-        let start = lo * m + tip;
-        let end = lo * m + (a + w);
-        fill(&mut owner[start..end], tip as u8);
-        lo += 1;
+    for lo in a..tip + 1 {
+        owner[lo * m + tip..lo * m + (a + w)].fill(tip as u8);
     }
 }
 
 // The owner of a line that is a run.
 fn owner_of(m: usize, owner: &[u8], line: u64) -> u8
-    requires { (m ≤ most_tips) × Domain m line × (m * m ≤ length owner.now) }
+    requires rack { m ≤ most_tips }
+    requires domain { Domain m line }
+    requires places { m * m ≤ length owner.now }
     ensures { result ≡ owner_of m owner.now line }
 {
-    let place = tips::lowest(line) * m + tips::highest(line);
-    owner[place]
+    owner[tips::lowest(line) * m + tips::highest(line)]
 }
 
 // Each line is planned on its owner.
 fn plan_owners(m: usize, lines: &[u64], owner: &[u8], plan: &mut [u8])
-    requires { (m ≤ most_tips) × All (Domain m) lines.now × (m * m ≤ length owner.now) × (length plan.old ≡ length lines.now) }
+    requires rack { m ≤ most_tips }
+    requires domains { All (Domain m) lines.now }
+    requires places { m * m ≤ length owner.now }
+    requires size { length plan.old ≡ length lines.now }
     ensures { plan.new ≡ map (owner_of m owner.now) lines.now }
 {
-    let mut i = 0;
-    while i < lines.len() {
-        plan[i] = owner_of(m, owner, lines[i]);
-        i += 1;
+    for (i, line) in lines.iter().enumerate() {
+        plan[i] = owner_of(m, owner, *line);
     }
-}
-
-// An interval, which RULES calls a stretch, is laid by its tip.
-#[cycle(lay_interval_lay_tip)]
-fn lay_interval(
-    m: usize,
-    mounted: Mounted,
-    pairs: &[u32],
-    sums: &[u32],
-    table: &[u32],
-    a: usize,
-    w: usize,
-    owner: &mut [u8],
-)
-    requires { Layable m sums.now table.now a w owner.old × PairTable pairs.now }
-    ensures { owner.new ≡ laid m (pick_by (on_head mounted) m sums.now table.now) a w owner.old }
-{
-    if 0 < w {
-        let i = find_tip(m, mounted, pairs, sums, table, a, w);
-        lay_tip(m, mounted, pairs, sums, table, a, w, i, owner);
-    }
-}
-
-// The tip takes its runs, and lays the two intervals beside it.
-#[cycle(lay_interval_lay_tip)]
-fn lay_tip(
-    m: usize,
-    mounted: Mounted,
-    pairs: &[u32],
-    sums: &[u32],
-    table: &[u32],
-    a: usize,
-    w: usize,
-    i: usize,
-    owner: &mut [u8],
-)
-    requires { Layable m sums.now table.now a w owner.old × (i < w) × (i ≡ pick_by (on_head mounted) m sums.now table.now a w)
-        × PairTable pairs.now }
-    ensures { owner.new ≡ laid m (pick_by (on_head mounted) m sums.now table.now) a w owner.old }
-{
-    own_runs(m, a, w, i, owner);
-    lay_interval(m, mounted, pairs, sums, table, a, i, owner);
-    lay_interval(
-        m,
-        mounted,
-        pairs,
-        sums,
-        table,
-        a + i + 1,
-        w - (i + 1),
-        owner,
-    );
 }
 
 // The plan of sets that are unbroken runs, from the sums and the table of the lines counted, where any tip may be chosen.
 // The owner of each run is kept in a place that is lent, at its lowest tip * m + its highest.
 pub fn plan_lines(
     m: usize,
-    mounted: Mounted,
+    mounted: Option<usize>,
     sets: &[u64],
     pairs: &[u32],
     sums: &[u32],
@@ -213,11 +134,22 @@ pub fn plan_lines(
     owner: &mut [u8],
     plan: &mut [u8],
 )
-    requires { Filled m sums.now table.now × All (Domain m) sets.now × All (λ s. T (is_run s)) sets.now × PairTable pairs.now
-        × (m * m ≤ length owner.old) × (length plan.old ≡ length sets.now) }
+    requires filled { Filled m sums.now table.now }
+    requires domains { All (Domain m) sets.now }
+    requires runs { All (λ s. T (is_run s)) sets.now }
+    requires numbered { PairTable pairs.now }
+    requires places { m * m ≤ length owner.old }
+    requires size { length plan.old ≡ length sets.now }
     ensures { (lines : List ℕ) → Ready m lines sums.now table.now
         → plan.new ≡ plan_for (on_head mounted) any m lines sets.now }
 {
-    lay_interval(m, mounted, pairs, sums, table, 0, m, owner);
+    let counted = Counted {
+        m,
+        mounted,
+        pairs,
+        sums,
+        table,
+    };
+    counted.lay(0, m, owner);
     plan_owners(m, sets, owner, plan);
 }

@@ -12,7 +12,7 @@ use Rattle.model.proofs.Table.{length-table}
 use Rattle.placements.specs.Repeated.{repeated}
 use Rattle.placements.specs.Good.{GoodLines}
 use Rattle.placements.specs.Plans.{best_plan_q}
-use Rattle.refusal.specs.declared.Refusal.{Refusal}
+use Rattle.refusal.specs.Told.{Refusal}
 use Rattle.refusal.specs.Refusal.{none}
 use Rattle.refusal.proofs.Laws.{or_first, or_next, or_none, lent_accepted}
 use Rattle.call_refusals.specs.Calls.{best_refusal}

@@ -9,8 +9,8 @@ use Rattle.placements.specs.Repeated.{total, repeated}
 use Rattle.placements.specs.Good.{GoodLines}
 use Rattle.placements.proofs.Repeated.{all-repeated}
 use Rattle.placements.proofs.CommonTip.{least_off-placements}
-use Rattle.refusal.specs.declared.Refusal.{Refusal}
-use Rattle.line_calls.specs.declared.CommonAnswer.{CommonAnswer}
+use Rattle.refusal.specs.Told.{Refusal}
+use Rattle.line_calls.specs.Answers.{CommonAnswer}
 use Rattle.line_calls.specs.Lines.{common_of}
 use Rattle.line_calls.specs.Rules.{CommonRule}
 

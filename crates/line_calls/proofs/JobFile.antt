@@ -3,11 +3,11 @@ use Prim.Native.Nat.{ℕ}
 use mathlib.Core.Path.{◌≡◌, refl}
 use mathlib.Core.List.{List, ◌++◌}
 use lib.ListN.{length, drop}
-use Rattle.refusal.specs.declared.Refusal.{Refusal}
+use Rattle.refusal.specs.Told.{Refusal}
 use Rattle.refusal.proofs.Laws.{or_first, refused, accepted, lent_refused, lent_accepted}
 use Rattle.call_refusals.specs.Calls.{write_refusal}
 use Rattle.job.specs.Job.{file_length, version_for, written_of}
-use Rattle.line_calls.specs.declared.FileAnswer.{FileAnswer}
+use Rattle.line_calls.specs.Answers.{FileAnswer}
 use Rattle.line_calls.specs.Lines.{write_of, write_buffer}
 
 module _ (earlier : Refusal) (m : ℕ) (qs lines old : List ℕ) where

@@ -2,19 +2,20 @@
 use Prim.Native.Nat.{ℕ}
 use mathlib.Core.Path.{◌≡◌, refl, ap, ◌∙◌}
 use mathlib.Core.Logic.{◌↔◌}
-use mathlib.Core.Bool.{Bool, true, false, not}
+use mathlib.Core.Bool.{Bool, true, false, cond, not}
 use mathlib.Core.List.{List, ◌++◌}
 use native.Mathlib.Omega.{arith}
 use borrow.Author.Tests.{eqb-true, eqb-false}
 use lib.ListN.{length, take, drop, take-append-drop}
 use lib.Seq.{take_at}
+use Rattle.std.specs.Prelude.{Option, Some, None}
 use Rattle.model.specs.Plan.{pairs}
 use Rattle.model.proofs.Tests.{T_true}
 use Rattle.model.proofs.Valid.{valid_length}
 use Rattle.placements.specs.Repeated.{repeated}
 use Rattle.placements.specs.Good.{GoodLines}
-use Rattle.refusal.specs.declared.Refusal.{Refusal}
-use Rattle.refusal.specs.Refusal.{accepts, when}
+use Rattle.refusal.specs.Told.{Refusal}
+use Rattle.refusal.specs.Refusal.{none, refuse, accepts, when}
 use Rattle.refusal.proofs.Laws.{or_first, or_next, or_same, refused, accepted, lent_refused, lent_accepted}
 use Rattle.call_refusals.specs.Junior
 use Rattle.call_refusals.proofs.Junior.{junior_none}
@@ -22,7 +23,7 @@ use Rattle.holders.specs.Holders.{is_served, first_tip, second_tip, junior_plan,
 use Rattle.holders.proofs.Junior.{junior, unserved}
 use Rattle.junior.specs.declared.Found.{Found}
 use Rattle.junior.specs.Found.{found_of, plan_of}
-use Rattle.line_calls.specs.declared.JuniorAnswer.{JuniorAnswer}
+use Rattle.line_calls.specs.Answers.{JuniorAnswer}
 use Rattle.line_calls.specs.Junior.{junior_refusal, junior_of, junior_buffer, JuniorRule}
 use Rattle.line_calls.proofs.Plans.{handed_out}
 
@@ -95,24 +96,41 @@ module _ (earlier : Refusal) (m : ℕ) (qs lines old : List ℕ) where
     exact : {r : Refusal} → r ≡ when (not served) 31 → (r.number ≡ 31) ↔ NoneOnTips lines
     exact e = rw e (told_31 served refl)
 
-    module _ {r : Refusal} {found : Found} {out : List ℕ} {n : ℕ} (size : n ≡ length lines) (told : r ≡ when (not served) 31)
-        (is : found ≡ found_of m qs lines) (plan : out ≡ plan_of m qs lines (take n old)) where
-      abbrev Told : Type 0
-      Told = Clauses (record { refusal = r; pairs = found.pairs; u = found.u; v = found.v }) (out ++ drop n old)
+    -- the tips that are found, with the plan's pairs
+    found_is : {found : Found} → Some found ≡ found_of m qs lines
+        → (served ≡ true) × (found ≡ record { pairs = pairs (repeated qs laid); u = first_tip m qs lines; v = second_tip m qs lines })
+    unfolding found_of
+    found_is {found} = by served refl
+      where
+        best : Found
+        best = record { pairs = pairs (repeated qs laid); u = first_tip m qs lines; v = second_tip m qs lines }
 
-      some : served ≡ true → Told
-      unfolding found_of plan_of junior_buffer
-      some t =
-          let z : r.number ≡ 0 = rw told (rw t refl) in
+        by : (b : Bool) → served ≡ b → Some found ≡ cond b (Some best) None → (served ≡ true) × (found ≡ best)
+        by true t e = (t, cc)
+        by false t e = absurd (cc)
+
+    found_none : None ≡ found_of m qs lines → served ≡ false
+    unfolding found_of
+    found_none = by served refl _
+      where
+        by : (b : Bool) → served ≡ b → (best : Found) → None ≡ cond b (Some best) None → served ≡ false
+        by true t best e = absurd (cc)
+        by false t best e = t
+
+    module _ {out : List ℕ} {n : ℕ} (size : n ≡ length lines) (plan : out ≡ plan_of m qs lines (take n old)) where
+      pub junior_found : {found : Found} → Some found ≡ found_of m qs lines
+          → Clauses (record { refusal = none; pairs = found.pairs; u = found.u; v = found.v }) (out ++ drop n old)
+      unfolding plan_of junior_buffer
+      junior_found {found} is =
+          let (t, f) = found_is is in
+          let told : none ≡ when (not served) 31 = rw t refl in
           let j = junior good (T_true t) in
-          let counted = pairs (repeated qs laid) in
-          let f : found ≡ record { served = true; pairs = counted; u = first_tip m qs lines; v = second_tip m qs lines } = is ∙ rw t refl in
           let p : out ≡ laid = plan ∙ rw t refl in
           let front = take_at laid (drop n old) (length lines) (valid_length j.own) in
           rw (f, p) (
-            answer_accepted (sought told) z,
+            answer_accepted (sought told) refl,
             (
-              rw size (lent_accepted (sought told) (length lines) laid old z refl),
+              rw size (lent_accepted (sought told) (length lines) laid old refl refl),
               record {
                 plan = λ _. handed_out qs n size old (pairs (repeated qs laid)) j.own refl;
                 tips = λ _. rw front j.tips;
@@ -123,14 +141,15 @@ module _ (earlier : Refusal) (m : ℕ) (qs lines old : List ℕ) where
             ),
           )
 
-      nothing : served ≡ false → Told
-      unfolding found_of plan_of junior_buffer
-      nothing t =
-          let n31 : r.number ≡ 0 → ⊥ = λ z. omega (arith, ap (λ x. x.number) told, ap (λ b. (when (not b) 31).number) t) in
-          let f : found ≡ record { served = false; pairs = 0; u = 0; v = 0 } = is ∙ rw t refl in
+      pub junior_missed : None ≡ found_of m qs lines → Clauses (record { refusal = refuse 31; pairs = 0; u = 0; v = 0 }) (out ++ drop n old)
+      unfolding plan_of junior_buffer
+      junior_missed is =
+          let t = found_none is in
+          let told : refuse 31 ≡ when (not served) 31 = rw t refl in
+          let n31 : 31 ≡ 0 → ⊥ = λ z. omega (arith, z) in
           let same : out ≡ take n old = plan ∙ rw t refl in
           let p : out ++ drop n old ≡ old = ap (λ x. x ++ drop n old) same ∙ take-append-drop n old in
-          rw (f, p) (
+          rw p (
             answer-refused (sought told) n31,
             (
               lent_refused (sought told) (length lines) laid old n31,
@@ -144,13 +163,6 @@ module _ (earlier : Refusal) (m : ℕ) (qs lines old : List ℕ) where
             ),
           )
 
-      pub junior_found : Told
-      junior_found = by served refl
-        where
-          by : (b : Bool) → served ≡ b → Told
-          by true e = some e
-          by false e = nothing e
-
   -- THE RULE of what is answered and left, for good lines
   abbrev pub RuleOf : Type 0
   RuleOf =
@@ -158,15 +170,18 @@ module _ (earlier : Refusal) (m : ℕ) (qs lines old : List ℕ) where
       JuniorRule asked.number qs lines (junior_buffer earlier m qs lines old) r.refusal.number r.pairs r.u r.v
 
   pub junior_rule : (earlier.number ≡ 0 → GoodLines m qs lines) → RuleOf
-  unfolding found_of
   junior_rule good = by (accepts asked) refl
     where
       of : {r : JuniorAnswer} {last : List ℕ} → Clauses r last → RuleOf
       of (answer, (buffer, rule)) = rw (answer, buffer) at rule
 
+      by_found : asked.number ≡ 0 → GoodLines m qs lines → (found : Option Found) → found ≡ found_of m qs lines → RuleOf
+      by_found z lines_good (Some found) e = of (junior_found z lines_good {n = length lines} refl refl e)
+      by_found z lines_good None e = of (junior_missed z lines_good {n = length lines} refl refl e)
+
       by : (b : Bool) → accepts asked ≡ b → RuleOf
       by true e =
           let z = eqb-true asked.number 0 e in
           let lines_good = good (junior_none earlier m (length lines) (length old) z).0 in
-          of (junior_found z lines_good {found = found_of m qs lines} {n = length lines} refl refl refl refl)
+          by_found z lines_good (found_of m qs lines) refl
       by false e = of (junior_refused {d = asked} refl (eqb-false asked.number 0 e))

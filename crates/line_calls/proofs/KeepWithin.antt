@@ -3,7 +3,8 @@ use Prim.Native.Nat.{ℕ, ◌+◌, ◌^◌, ◌≤◌, ◌<◌}
 use mathlib.Core.Path.{◌≡◌, refl, sym, ap, ◌∙◌}
 use mathlib.Core.Logic.{◌↔◌, ⊎_elim}
 use mathlib.Core.Bool.{Bool, true, false, cond, true≢false}
-use mathlib.Core.List.{List, ◌++◌}
+use mathlib.Core.List.{List, ◌++◌, append-nil}
+use lib.Seq.{take-length, drop-length}
 use native.Mathlib.Omega.{arith}
 use lib.IntN.{ℤ, pos, negsuc}
 use lib.ListN.{length, take, drop, take-append-drop}
@@ -24,12 +25,12 @@ use Rattle.placements.proofs.Exact.{prune_exact_placements}
 use Rattle.common_tip.specs.Common.{kept_lines}
 use Rattle.common_tip.proofs.Laws.{margin_small}
 use Rattle.common_tip.proofs.Signed.{zero_fits}
-use Rattle.refusal.specs.declared.Refusal.{Refusal}
-use Rattle.refusal.specs.Refusal.{accepts, or_else, when, lent_by}
+use Rattle.refusal.specs.Told.{Refusal}
+use Rattle.refusal.specs.Refusal.{none, accepts, or_else, lent_by}
 use Rattle.refusal.proofs.Laws.{when_taken}
 use Rattle.call_refusals.specs.Calls.{is_negative, keep_refusal}
 use Rattle.call_refusals.proofs.Calls.{keep-none}
-use Rattle.line_calls.specs.declared.KeepAnswer.{KeepAnswer}
+use Rattle.line_calls.specs.Answers.{KeepAnswer}
 use Rattle.line_calls.specs.Lines.{keep_of, sets_kept}
 use Rattle.line_calls.specs.Rules.{NoneWithin}
 
@@ -133,3 +134,13 @@ module _ (earlier : Refusal) {m : ℕ} {qs lines : List ℕ} (k : ℕ) (good : e
       by : (t : Bool) → accepts earlier ≡ t → SFits w32 (cond t (margin m (repeated qs lines) k) (pos 0))
       by true e = let g = good (eqb-true earlier.number 0 e) in margin_small m k (record { same = g.same; few = g.few }) h
       by false e = zero_fits
+
+-- the same for the lines alone, where nothing is refused before
+module _ (m : ℕ) (qs lines : List ℕ) (k : ℕ) where
+  pub keep-all : {y z : ℤ} {d : Refusal} {kept : List ℕ} → y ≡ margin m (repeated qs lines) k → d ≡ keep_refusal none y → z ≡ y
+      → kept ≡ kept_lines m qs lines k → Keeps none m qs lines k lines (record { refusal = d; margin = z }) kept
+  keep-all {y} {z} {d} {kept} e f g h =
+      let whole : take (length lines) lines ≡ lines = take-length lines in
+      let through = keep-through none m qs lines k lines refl {n = length lines} refl whole e f h in
+      let last : kept ++ drop (length lines) lines ≡ kept = ap (λ l. kept ++ l) (drop-length lines) ∙ append-nil kept in
+      (rw g through.0, sym last ∙ through.1)

@@ -3,7 +3,8 @@ use Prim.Native.Nat.{ℕ}
 use mathlib.Core.Path.{◌≡◌, refl, sym, ap, ◌∙◌}
 use mathlib.Core.Logic.{◌↔◌}
 use mathlib.Core.Bool.{Bool, true, false}
-use mathlib.Core.List.{List, ◌++◌}
+use mathlib.Core.List.{List, ◌++◌, append-nil}
+use lib.Seq.{take-length, drop-length}
 use native.Mathlib.Omega.{arith}
 use lib.Dec.{T}
 use lib.ListN.{length, take, drop, take-append-drop}
@@ -13,8 +14,8 @@ use Rattle.model.specs.Interval.{named, is_run_of}
 use Rattle.model.proofs.Lists.{all_map, all_both}
 use Rattle.model.proofs.Run.{run_misses}
 use Rattle.placements.specs.Good.{GoodLines}
-use Rattle.refusal.specs.declared.Refusal.{Refusal}
-use Rattle.refusal.specs.Refusal.{accepts, or_else, lent_by}
+use Rattle.refusal.specs.Told.{Refusal}
+use Rattle.refusal.specs.Refusal.{none, accepts, or_else, lent_by}
 use Rattle.refusal.proofs.Laws.{or_first, or_next, or_none, scan-none, lent_refused, lent_accepted}
 use Rattle.call_refusals.specs.Calls.{run_refusal}
 use Rattle.goals.specs.Goal.{strike, Struck}
@@ -125,3 +126,13 @@ module _ (earlier : Refusal) {m : ℕ} {qs lines : List ℕ} (K : ℕ) (good : e
     exact = goal_exact;
     refuses = goal-refuses;
   }
+
+-- the same for sets that are as many as the lines, where nothing is refused before
+module _ (m : ℕ) (qs lines : List ℕ) (K : ℕ) (sets : List ℕ) (size : length sets ≡ length lines) where
+  pub goal-all : none ≡ goal_asked none lines → {r : Refusal} {last : List ℕ}
+      → r ≡ goal_refusal m qs lines K → last ≡ struck_by m qs lines K sets → Strikes none m qs lines K sets r last
+  goal-all e {r} {last} f g =
+      let whole : take (length sets) sets ≡ sets = take-length sets in
+      let (answer, left) = goal-through none m qs lines K sets e refl {n = length sets} size f (rw whole g) in
+      let same : last ++ drop (length sets) sets ≡ last = ap (λ l. last ++ l) (drop-length sets) ∙ append-nil last in
+      (answer, sym same ∙ left)

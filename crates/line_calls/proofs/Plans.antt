@@ -16,11 +16,11 @@ use Rattle.placements.specs.Repeated.{repeated}
 use Rattle.placements.specs.Good.{GoodLines}
 use Rattle.placements.specs.Plans.{quick_plan_q, best_plan_q}
 use Rattle.placements.proofs.Plans.{quick_valid_lines, quick_half_placements, best_valid_lines, best-pairs-placements, best-placements}
-use Rattle.refusal.specs.declared.Refusal.{Refusal}
+use Rattle.refusal.specs.Told.{Refusal}
 use Rattle.refusal.proofs.Laws.{number_of, or_same, refused, accepted, lent_refused, lent_accepted}
 use Rattle.call_refusals.specs.Calls.{plan_refusal, best_refusal}
 use Rattle.call_refusals.proofs.Calls.{best_none}
-use Rattle.line_calls.specs.declared.PlanAnswer.{PlanAnswer}
+use Rattle.line_calls.specs.Answers.{PlanAnswer}
 use Rattle.line_calls.specs.Lines.{plan_answer, quick_of, quick_buffer, best_of, best_buffer, best_table}
 use Rattle.line_calls.specs.Rules.{HandedOut, HalfRule, BestRule}
 

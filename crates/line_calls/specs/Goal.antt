@@ -4,7 +4,7 @@ use Rattle.model.specs.Count.{All}
 use Rattle.model.specs.Plan.{Valid, pairs}
 use Rattle.model.specs.Interval.{Misses}
 use Rattle.placements.specs.Repeated.{repeated}
-use Rattle.refusal.specs.declared.Refusal.{Refusal}
+use Rattle.refusal.specs.Told.{Refusal}
 use Rattle.refusal.specs.Refusal.{or_else, lent_by}
 use Rattle.call_refusals.specs.Calls.{run_refusal}
 use Rattle.goals.specs.Goal.{strike, Struck}

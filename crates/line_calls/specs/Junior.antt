@@ -2,11 +2,11 @@
 use Rattle.std.specs.Prelude.{ℕ, ◌≤◌, ◌<◌, ◌≡◌, ◌↔◌, ◌⊎◌, not, List, length, take}
 use Rattle.model.specs.Plan.{Valid, pairs}
 use Rattle.placements.specs.Repeated.{repeated}
-use Rattle.refusal.specs.declared.Refusal.{Refusal}
+use Rattle.refusal.specs.Told.{Refusal}
 use Rattle.refusal.specs.Refusal.{or_else, when, told, lent_by}
 use Rattle.call_refusals.specs.Junior
 use Rattle.holders.specs.Holders.{is_served, first_tip, second_tip, junior_plan, OnTips, NoneOnTips}
-use Rattle.line_calls.specs.declared.JuniorAnswer.{JuniorAnswer}
+use Rattle.line_calls.specs.Answers.{JuniorAnswer}
 use Rattle.line_calls.specs.Rules.{HandedOut}
 
 -- what is asked of the lines, the rack and the plan buffer of room bytes, then that some tips serve every line

@@ -7,15 +7,15 @@ use Rattle.model.specs.Interval.{C, table}
 use Rattle.placements.specs.Repeated.{total, repeated}
 use Rattle.placements.specs.Plans.{quick_plan_q, best_plan_q}
 use Rattle.placements.specs.Keep.{prune_q}
-use Rattle.refusal.specs.declared.Refusal.{Refusal}
+use Rattle.refusal.specs.Told.{Refusal}
 use Rattle.refusal.specs.Refusal.{accepts, or_else, told, lent_by}
 use Rattle.call_refusals.specs.Calls.{keep_refusal, plan_refusal, best_refusal, write_refusal}
 use Rattle.checking.specs.Checking.{check_refusal}
 use Rattle.job.specs.Job.{file_length, version_for, written_of}
-use Rattle.line_calls.specs.declared.CommonAnswer.{CommonAnswer}
-use Rattle.line_calls.specs.declared.KeepAnswer.{KeepAnswer}
-use Rattle.line_calls.specs.declared.PlanAnswer.{PlanAnswer}
-use Rattle.line_calls.specs.declared.FileAnswer.{FileAnswer}
+use Rattle.line_calls.specs.Answers.{CommonAnswer}
+use Rattle.line_calls.specs.Answers.{KeepAnswer}
+use Rattle.line_calls.specs.Answers.{PlanAnswer}
+use Rattle.line_calls.specs.Answers.{FileAnswer}
 
 -- common tip: top, the least number of placements off the common tip, and W; after a refusal 0 and no tip
 unfoldable pub common_of : Refusal → ℕ → List ℕ → List ℕ → CommonAnswer

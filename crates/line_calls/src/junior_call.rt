@@ -1,49 +1,36 @@
 // The Junior with two holders on lines.
-ghost use Rattle.std.specs.Prelude.{◌≡◌, length, take};
-ghost use Rattle.line_calls.specs.Junior.{junior_of, junior_buffer, JuniorRule};
+ghost use Rattle.std.specs.Prelude.{◌≡◌, length};
+ghost use Rattle.placements.specs.Good.{GoodLines};
+ghost use Rattle.refusal.specs.Refusal.{none};
+ghost use Rattle.refusal.specs.Reasons.{refusal_of};
 ghost use Rattle.call_refusals.specs.Junior.{junior_refusal};
-ghost use Rattle.refusal.specs.Refusal.{Given};
+ghost use Rattle.line_calls.specs.Answers.{junior_told};
+ghost use Rattle.line_calls.specs.Junior.{junior_of, junior_buffer, JuniorRule};
 
-use crate::JuniorAnswer;
-use refusal::Refusal;
+use junior::Found;
+use refusal::{Reason, Refused};
 
-pub fn junior<'a>(
-    earlier: Refusal,
+// The plan's pairs, and the tips u and v that it is on.
+pub fn junior(
     rack: usize,
-    count: usize,
-    sets: &'a [u64],
-    quantities: &'a [u8],
+    lines: &[u64],
+    quantities: &[u8],
     plan: &mut [u8],
-) -> JuniorAnswer
-    requires { Given earlier rack count quantities.now sets.now }
-    ensures answer { result ≡ junior_of earlier rack (take count quantities.now) (take count sets.now)
-        (length plan.old) }
-    ensures plan { plan.new
-        ≡ junior_buffer earlier rack (take count quantities.now) (take count sets.now) plan.old }
+) -> Result<Found, Refused>
+    requires { GoodLines rack quantities.now lines.now }
+    ensures answer { junior_told result
+        ≡ junior_of none rack quantities.now lines.now (length plan.old) }
+    ensures plan { plan.new ≡ junior_buffer none rack quantities.now lines.now plan.old }
     ensures rule { JuniorRule
-        (junior_refusal earlier rack (length (take count sets.now)) (length plan.old)).number
-        (take count quantities.now) (take count sets.now)
-        plan.new result.refusal.number result.pairs result.u result.v }
+        (junior_refusal none rack (length lines.now) (length plan.old)).number
+        quantities.now lines.now
+        plan.new (refusal_of result).number
+        (junior_told result).pairs (junior_told result).u (junior_told result).v }
 {
-    let asked = call_refusals::junior_refusal(earlier, rack, count, plan.len());
-    if asked.number != 0 {
-        return JuniorAnswer {
-            refusal: asked,
-            pairs: 0,
-            u: 0,
-            v: 0,
-        };
-    }
-    let found = junior::plan_lines(
-        rack,
-        &sets[..count],
-        &quantities[..count],
-        &mut plan[..count],
-    );
-    JuniorAnswer {
-        refusal: refusal::refuse_when(!found.served, 31),
-        pairs: found.pairs,
-        u: found.u,
-        v: found.v,
+    let count = lines.len();
+    call_refusals::junior_refusal(rack, count, plan.len())?;
+    match junior::plan_lines(rack, lines, quantities, &mut plan[..count]) {
+        Some(found) => Ok(found),
+        None => Err(Reason::NoTwoTips.at(0)),
     }
 }

@@ -9,23 +9,25 @@ use lib.ListN.{length, take, drop}
 use lib.Seq.{take_at}
 use borrow.Author.Tests.{lt-ltb, le-ltb, ne_eqb}
 use Rattle.text.specs.Buffer.{Printed}
-use Rattle.refusal.specs.declared.Refusal.{Refusal}
+use Rattle.refusal.specs.Told.{Refusal}
 use Rattle.refusal.specs.Refusal.{none, refuse}
 use Rattle.refusal.proofs.Laws.{or_first, or_next, lent_refused, lent_accepted}
 use Rattle.job.specs.Job.{Bytes, start_number, read_refusal}
 use Rattle.mending.specs.Mending.{mended_file, mended_report, mend_refusal}
 use Rattle.mending.proofs.Files.{accepted_same}
 use Rattle.mending.proofs.Rule.{mend_rule}
-use Rattle.mend.specs.declared.Mended.{Mended}
+use Rattle.mend.specs.Answers.{Mended}
 use Rattle.mend.specs.Call.{refused_by, mend_of, out_after, report_after, MendRuleOf}
 
 -- the contract of the call: its answer, both buffers, and the rule
-abbrev pub Called : (file out report : List ℕ) → Mended → (out' report' : List ℕ) → Type 0
-Called file out report r out' report' =
-    (r ≡ mend_of file (length out) (length report))
-    × ((out' ≡ out_after file out (length report))
-    × ((report' ≡ report_after file (length out) report)
-    × MendRuleOf file out' report' r.refusal.number r.bytes r.report_bytes))
+abbrev pub Called : (file before space : List ℕ) → Mended → (after told : List ℕ) → Type 0
+Called file before space r after told =
+    record {
+      answer : r ≡ mend_of file (length before) (length space);
+      out : after ≡ out_after file before (length space);
+      report : told ≡ report_after file (length before) space;
+      rule : MendRuleOf file after told r.refusal.number r.bytes r.report_bytes;
+    }
 
 module _ (file out report : List ℕ) where
   abbrev decided : Refusal
@@ -49,13 +51,12 @@ module _ (file out report : List ℕ) where
   -- a call that is refused by n
   pub call_refused : (r : Mended) (n : ℕ) → r ≡ refused_by n → refuse n ≡ decided → (n ≡ 0 → ⊥) → Called file out report r out report
   unfolding mend_of out_after report_after
-  call_refused r n e d z = (
-    e ∙ rw (← d, ne_eqb n 0 z) refl,
-    (
-      lent_refused d (length (mended_file file)) (mended_file file) out z,
-      (lent_refused d (length (mended_report file)) (mended_report file) report z, rw e (λ h. absurd (z h))),
-    ),
-  )
+  call_refused r n e d z = record {
+    answer = e ∙ rw (← d, ne_eqb n 0 z) refl;
+    out = lent_refused d (length (mended_file file)) (mended_file file) out z;
+    report = lent_refused d (length (mended_report file)) (mended_report file) report z;
+    rule = rw e (λ h. absurd (z h));
+  }
 
   -- a call that is not refused
   pub call_done : (bytes report_bytes : ℕ) (out' report' : List ℕ) → Bytes file → start_number file ≡ 0
@@ -69,13 +70,12 @@ module _ (file out report : List ℕ) where
       let d = none-refused s (omega arith) (omega arith) in
       let written : take bytes out' ≡ mended_file file = ap (take bytes) p ∙ take_at (mended_file file) _ bytes (sym e) in
       let told : take report_bytes report' ≡ mended_report file = ap (take report_bytes) q ∙ take_at (mended_report file) _ report_bytes (sym f) in
-      rw z (
-        rw (← d) (ap₂ (λ x y. record { refusal = none; bytes = x; report_bytes = y }) e f),
-        (
-          p ∙ lent_accepted d (length (mended_file file)) (mended_file file) out refl refl,
-          (q ∙ lent_accepted d (length (mended_report file)) (mended_report file) report refl refl, λ _. rw (written, told) (mend_rule file b s)),
-        ),
-      )
+      rw z record {
+        answer = rw (← d) (ap₂ (λ x y. record { refusal = none; bytes = x; report_bytes = y }) e f);
+        out = p ∙ lent_accepted d (length (mended_file file)) (mended_file file) out refl refl;
+        report = q ∙ lent_accepted d (length (mended_report file)) (mended_report file) report refl refl;
+        rule = λ _. rw (written, told) (mend_rule file b s);
+      }
 
   -- a call on a file that reading accepts: it stays as it is, and nothing is told
   pub call_same : (bytes : ℕ) (out' : List ℕ) → Bytes file → start_number file ≡ 0 → (read_refusal file).number ≡ 0 → length file ≤ length out

@@ -18,10 +18,10 @@ length-noted true x xs = omega arith
 length-noted false x xs = omega arith
 
 -- as many codes as tests pass
-pub codes-count : (m t : ℕ) (l : JobLine)
+pub codes_count : (m t : ℕ) (l : JobLine)
     → length (codes m t l) ≡ cond (is_cleared m t l.tips) 1 0 + cond (is_emptied m t l) 1 0 + cond (is_raised m t l) 1 0 + cond (is_dropped m t l) 1 0
 unfolding codes
-codes-count m t l =
+codes_count m t l =
     let d : List ℕ = noted (is_dropped m t l) 4 [] in
     let r : List ℕ = noted (is_raised m t l) 3 d in
     let e : List ℕ = noted (is_emptied m t l) 2 r in

@@ -1,7 +1,7 @@
 -- A pass over the lines read: what is known before line i, and one line more.
 use Prim.Native.Nat.{ℕ, ◌+◌, ◌≤◌, ◌<◌}
 use native.Mathlib.Omega.{arith}
-use mathlib.Core.Path.{◌≡◌, refl, sym, ap, ap₂, ◌∙◌}
+use mathlib.Core.Path.{◌≡◌, sym, ap, ap₂, ◌∙◌}
 use mathlib.Core.Bool.{cond}
 use mathlib.Core.List.{List, [], ◌++◌}
 use lib.ListN.{length, take, get_or, length-append, length-map}
@@ -13,7 +13,7 @@ use Rattle.mending.proofs.Lengths.{length_report}
 use Rattle.mending.specs.Rules.{no_line}
 use Rattle.mending.proofs.Lines.{line_at}
 use Rattle.mending.proofs.Files.{length-read_lines}
-use Rattle.mend.specs.Mend.{line_with, most_running}
+use Rattle.mend.specs.Mend.{line_with}
 
 -- what is known before line i of a file: the rack, the number of lines read, and the running total
 pub record Passed (file : List ℕ) (rack count i total : ℕ) : Type 0 where
@@ -21,7 +21,6 @@ pub record Passed (file : List ℕ) (rack count i total : ℕ) : Type 0 where
   pub count_is : count ≡ read_count file
   pub within : i ≤ count
   pub sum : total ≡ running (rack_in file) 0 (take i (read_lines file))
-  pub low : total ≤ most_running
 
 -- the lines kept of the first i, and the changes made to them
 abbrev pub kept_to : List ℕ → ℕ → List JobLine
@@ -31,9 +30,10 @@ abbrev pub changes_to : List ℕ → ℕ → List (ℕ × ℕ)
 changes_to file i = changes (rack_in file) 0 0 (take i (read_lines file))
 
 -- before the first line
-pub pass_start : (file : List ℕ) (rack count : ℕ) → rack ≡ rack_in file → count ≡ read_count file → Passed file rack count 0 0
+pub pass_start : (file : List ℕ) (rack count total : ℕ) → rack ≡ rack_in file → count ≡ read_count file → total ≡ 0
+    → Passed file rack count 0 total
 unfolding running
-pass_start file rack count r n = record { rack_is = r; count_is = n; within = omega arith; sum = refl; low = omega arith }
+pass_start file rack count total r n t = record { rack_is = r; count_is = n; within = omega arith; sum = t }
 
 -- after the last line
 pub pass_end : (file : List ℕ) (rack count i total : ℕ) → Passed file rack count i total → count ≤ i → take i (read_lines file) ≡ read_lines file
@@ -56,13 +56,13 @@ module _ (file : List ℕ) (rack count i total set quantity : ℕ) (p : Passed f
       ap₂ (λ a b. f a b (line_with set quantity)) p.rack_is p.sum
       ∙ ap (f m (running m 0 (take i lines))) (ap₂ line_with s q ∙ sym (line_at file (read_count file) i (omega arith)))
 
-  pub pass_next : (next : ℕ) → next ≡ after rack total (line_with set quantity) → next ≤ most_running → Passed file rack count (i + 1) next
-  pass_next next e l = record {
-    rack_is = p.rack_is;
+  pub pass_next : (rack_next next : ℕ) → rack_next ≡ rack → next ≡ after rack total (line_with set quantity)
+      → Passed file rack_next count (i + 1) next
+  pass_next rack_next next r e = record {
+    rack_is = r ∙ p.rack_is;
     count_is = p.count_is;
     within = omega arith;
     sum = e ∙ same after ∙ sym (running_more m lines i short);
-    low = l;
   }
 
   pub kept_next : length (kept_to file (i + 1)) ≡ length (kept_to file i) + cond (stays rack total (line_with set quantity)) 1 0

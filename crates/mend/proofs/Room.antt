@@ -42,9 +42,9 @@ module _ (file : List ℕ) (k : ℕ) where
 
 module _ (file : List ℕ) where
   -- the report has three bytes for each change of a line, and for each of the file
-  pub report-length : length (mended_report file) ≡ 3 * (length (line_changes file) + cond (recounted file) 1 0 + cond (has_more_bytes file) 1 0)
+  pub report_length : length (mended_report file) ≡ 3 * (length (line_changes file) + cond (recounted file) 1 0 + cond (has_more_bytes file) 1 0)
   unfolding changes_in
-  report-length =
+  report_length =
       let last : List (ℕ × ℕ) = noted (has_more_bytes file) (whole_file, 6) [] in
       let both : List (ℕ × ℕ) = noted (recounted file) (whole_file, 5) last in
       let e : length (changes_in file) ≡ length (line_changes file) + length both = length-append (line_changes file) both in

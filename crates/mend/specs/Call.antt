@@ -3,7 +3,7 @@ use Rattle.std.specs.Prelude.{ℕ, ◌≡◌, List, length, take}
 use Rattle.refusal.specs.Refusal.{refuse, told, lent_by}
 use Rattle.mending.specs.Mending.{mended_file, mended_report, mend_refusal}
 use Rattle.mending.specs.Rules.{MendRule}
-use Rattle.mend.specs.declared.Mended.{Mended}
+use Rattle.mend.specs.Answers.{Mended}
 
 -- the answer of a call that is refused by n
 abbrev pub refused_by : ℕ → Mended

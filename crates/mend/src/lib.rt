@@ -1,72 +1,55 @@
 // Mending a job file over slices: a first pass counts what is kept and what is reported, a second writes both. A good file is copied.
 #![tactic(auto)]
 
+mod change;
 mod line;
 mod measure;
 mod read;
 mod report;
+mod running;
 mod write;
 
 ghost use Rattle.std.specs.Prelude.{◌≡◌, length};
-ghost use Rattle.mend.specs.Call.{refused_by, mend_of, out_after, report_after, MendRuleOf};
+ghost use Rattle.refusal.specs.Reasons.{refusal_of};
+ghost use Rattle.mend.specs.Answers.{mended_told};
+ghost use Rattle.mend.specs.Call.{mend_of, out_after, report_after, MendRuleOf};
 
-use refusal::Refusal;
+use read::Started;
+use refusal::{Reason, Refused};
 
-// The refusal, and the bytes written of the mended file and of the report.
-#[derive(Clone, Copy)]
-pub struct Mended {
-    pub refusal: Refusal,
+// The bytes written of the mended file and of the report.
+#[derive(Clone, Copy, Debug, PartialEq, Eq)]
+pub struct Sizes {
     pub bytes: usize,
     pub report_bytes: usize,
 }
 
-fn refused(number: u32) -> Mended
-    ensures { result ≡ refused_by number }
-{
-    Mended {
-        refusal: refusal::refuse(number),
-        bytes: 0,
-        report_bytes: 0,
-    }
-}
-
 // Mends the file: writes the mended file to `out` and the report of changes to `report`. A file that reading accepts stays as it is.
-pub fn mend(file: &[u8], out: &mut [u8], report: &mut [u8]) -> Mended
-    ensures answer { result ≡ mend_of file.now (length out.old) (length report.old) }
+pub fn mend(file: &[u8], out: &mut [u8], report: &mut [u8]) -> Result<Sizes, Refused>
+    ensures answer { mended_told result ≡ mend_of file.now (length out.old) (length report.old) }
     ensures out { out.new ≡ out_after file.now out.old (length report.old) }
     ensures report { report.new ≡ report_after file.now (length out.old) report.old }
     ensures rule { MendRuleOf file.now out.new report.new
-        result.refusal.number result.bytes result.report_bytes }
+        (refusal_of result).number (mended_told result).bytes (mended_told result).report_bytes }
 {
-    let number = job::start_number(file);
-    if number != 0 {
-        return refused(number);
-    }
+    job::check_start(file)?;
     if read::is_accepted(file) {
-        if out.len() < file.len() {
-            return refused(11);
-        }
-        return Mended {
-            refusal: refusal::refuse(0),
+        refusal::refuse_when(out.len() < file.len(), Reason::ShortOutput)?;
+        return Ok(Sizes {
             bytes: text::put_word(out, 0, file),
             report_bytes: 0,
-        };
+        });
     }
-    let sizes = measure::count_lines(file);
-    let kept = sizes.kept;
-    let bytes = measure::mended_length(file, kept);
-    let report_bytes = measure::report_length(file, kept, sizes.changes);
-    if out.len() < bytes {
-        return refused(11);
+    let measured = measure::measure(Started::new(file));
+    let bytes = measured.mended_length();
+    let report_bytes = measured.report_length();
+    if out.len() < bytes || report.len() < report_bytes {
+        return Err(Reason::ShortOutput.at(0));
     }
-    if report.len() < report_bytes {
-        return refused(11);
-    }
-    write::write_file(file, kept, out);
-    report::write_report(file, kept, report);
-    Mended {
-        refusal: refusal::refuse(0),
+    write::write_file(measured, out);
+    report::write_report(measured, report);
+    Ok(Sizes {
         bytes,
         report_bytes,
-    }
+    })
 }

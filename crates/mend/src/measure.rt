@@ -1,72 +1,76 @@
 // The first pass: how many lines are kept, and how many changes are reported.
 ghost use Rattle.std.specs.Prelude.{◌≡◌, ◌*◌, ◌≤◌, length};
 ghost use Rattle.model.specs.Limits.{most_lines};
-ghost use Rattle.job.specs.Job.{start_number};
-ghost use Rattle.mending.specs.Mending.{lines_kept_in, recounted, has_more_bytes, mended_file, mended_report};
+ghost use Rattle.mending.specs.Mending.{lines_kept_in, recounted, mended_file, mended_report};
 ghost use Rattle.mend.specs.Mend.{line_changes};
 
-use crate::{line, read};
+use crate::read::Started;
+use crate::running::Running;
 
-// The lines kept, and the changes of the lines.
+// A file, the number of its lines that are kept, and that of the changes of its lines.
 #[derive(Clone, Copy)]
-pub struct Sizes {
+pub struct Measured<'a> {
+    pub file: Started<'a>,
     pub kept: usize,
     pub changes: usize,
+    ghost kept_is: { kept ≡ length (lines_kept_in file.bytes.now) },
+    ghost kept_few: { kept ≤ most_lines },
+    ghost changes_are: { changes ≡ length (line_changes file.bytes.now) },
+    ghost changes_few: { changes ≤ 4 * most_lines },
 }
 
-pub fn count_lines(file: &[u8]) -> Sizes
-    requires { start_number file.now ≡ 0 }
-    ensures kept { (result.kept ≡ length (lines_kept_in file.now)) × (result.kept ≤ most_lines) }
-    ensures changes { (result.changes ≡ length (line_changes file.now)) × (result.changes ≤ 4 * most_lines) }
+impl<'a> Measured<'a> {
+    fn new(file: Started<'a>, kept: usize, changes: usize) -> Measured<'a>
+        requires kept_is { kept ≡ length (lines_kept_in file.bytes.now) }
+        requires kept_few { kept ≤ most_lines }
+        requires changes_are { changes ≡ length (line_changes file.bytes.now) }
+        requires changes_few { changes ≤ 4 * most_lines }
+        ensures { result.file.bytes.now ≡ file.entry.bytes.now }
+    {
+        Measured {
+            file,
+            kept,
+            changes,
+        }
+    }
+
+    // The count written differs from the count found, by the number of lines kept.
+    #[tactic(auto, using(crate::proofs::There::start_long))]
+    pub fn is_recounted(self) -> bool
+        ensures { result ≡ recounted self.entry.file.bytes.now }
+    {
+        self.kept != job::count_in(self.file.bytes)
+    }
+
+    // The bytes of the report.
+    #[tactic(auto, using(crate::proofs::Room::report_length))]
+    pub fn report_length(self) -> usize
+        ensures { result ≡ length (mended_report self.entry.file.bytes.now) }
+    {
+        let whole = usize::from(self.is_recounted()) + usize::from(self.file.has_more());
+        3 * (self.changes + whole)
+    }
+
+    // The bytes of the mended file.
+    #[tactic(auto, using(job::proofs::Lines::file_few, mending::proofs::Lengths::length_mended))]
+    pub fn mended_length(self) -> usize
+        ensures { result ≡ length (mended_file self.entry.file.bytes.now) }
+    {
+        job::file_length(self.file.version, self.kept)
+    }
+}
+
+pub fn measure<'a>(file: Started<'a>) -> Measured<'a>
+    ensures { result.file.bytes.now ≡ file.entry.bytes.now }
 {
-    let version = job::version_in(file);
-    let rack = job::rack_in(file);
-    let count = read::read_count(file);
-    let mut total = 0;
+    let mut running = Running::new(file.rack);
     let mut kept = 0;
     let mut changes = 0;
-    let mut i = 0;
-    while i < count {
-        let set = read::set_in(file, version, i);
-        let quantity = read::quantity_in(file, version, i);
-        let step = line::mend_line(rack, total, set, quantity);
+    for i in 0..file.count {
+        let step = running.step(file.line(i));
         kept += step.kept;
         changes += step.changes;
-        total = step.total;
-        i += 1;
+        running = step.next;
     }
-    Sizes { kept, changes }
-}
-
-// The count written differs from the count found, by the number of lines kept.
-pub fn is_recounted(file: &[u8], kept: usize) -> bool
-    requires { (start_number file.now ≡ 0) × (kept ≡ length (lines_kept_in file.now)) }
-    ensures { result ≡ recounted file.now }
-{
-    kept != job::count_in(file)
-}
-
-// Bytes follow the last line read.
-pub fn has_more(file: &[u8]) -> bool
-    requires { start_number file.now ≡ 0 }
-    ensures { result ≡ has_more_bytes file.now }
-{
-    job::file_length(job::version_in(file), read::read_count(file)) < file.len()
-}
-
-// The bytes of the report.
-pub fn report_length(file: &[u8], kept: usize, changes: usize) -> usize
-    requires file_value { (start_number file.now ≡ 0) × (kept ≡ length (lines_kept_in file.now)) }
-    requires changes_value { (changes ≡ length (line_changes file.now)) × (changes ≤ 4 * most_lines) }
-    ensures { result ≡ length (mended_report file.now) }
-{
-    3 * (changes + line::one_if(is_recounted(file, kept)) + line::one_if(has_more(file)))
-}
-
-// The bytes of the mended file.
-pub fn mended_length(file: &[u8], kept: usize) -> usize
-    requires { (start_number file.now ≡ 0) × (kept ≡ length (lines_kept_in file.now)) }
-    ensures { result ≡ length (mended_file file.now) }
-{
-    job::file_length(job::version_in(file), kept)
+    Measured::new(file, kept, changes)
 }

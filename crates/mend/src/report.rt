@@ -1,24 +1,27 @@
 // The second pass, second part: the report. Each `put_` function tells the place after what it wrote.
 ghost use Rattle.std.specs.Prelude.{◌≡◌, ◌++◌, ◌≤◌, length, drop};
 ghost use Rattle.text.specs.Buffer.{Room, Put};
-ghost use Rattle.job.specs.Job.{start_number};
-ghost use Rattle.mending.specs.Mending.{codes, lines_kept_in, bytes_of_changes, mended_report};
-ghost use Rattle.mend.specs.Mend.{line_with, most_running, line_changes, line_report, change};
+ghost use Rattle.mending.specs.Mending.{codes, bytes_of_changes, mended_report};
+ghost use Rattle.mend.specs.Mend.{line_changes, line_report, change};
+ghost use Rattle.mend.specs.Parts.{read_as, code_of};
 
-use crate::{line, measure, read};
+use crate::change::Change;
+use crate::line::Line;
+use crate::measure::Measured;
+use crate::read::Started;
+use crate::running::Running;
 
 // The line number that stands for the whole file.
 const WHOLE: usize = 65535;
 
-// Writes one change from `at` on, where its test passes.
-fn put_change(test: bool, index: usize, code: usize, at: usize, report: &mut [u8]) -> usize
-    requires { Room report.old at (change test index code) }
-    ensures { Put report.old at (change test index code) result report.new }
+// Writes one change from `at` on, where it was made.
+fn put_change(made: bool, index: usize, kind: Change, at: usize, report: &mut [u8]) -> usize
+    requires { Room report.old at (change made index (code_of kind)) }
+    ensures { Put report.old at (change made index (code_of kind)) result report.new }
 {
-    if test {
-        report[at] = (index / 256 % 256) as u8;
-        report[at + 1] = (index % 256) as u8;
-        report[at + 2] = (code % 256) as u8;
+    if made {
+        let line = index.to_be_bytes();
+        report[at..at + 3].copy_from_slice(&[line[6], line[7], kind.code()]);
         return at + 3;
     }
     at
@@ -27,65 +30,51 @@ fn put_change(test: bool, index: usize, code: usize, at: usize, report: &mut [u8
 // Writes the changes of one line from `at` on; most lines have none.
 fn put_codes(
     index: usize,
-    rack: usize,
-    total: usize,
-    set: u64,
-    quantity: u8,
+    running: Running,
+    line: Line,
     changes: usize,
     at: usize,
     report: &mut [u8],
 ) -> usize
-    requires total_le_most_running { total ≤ most_running }
-    requires changes_value { changes ≡ length (codes rack total (line_with set quantity)) }
-    requires room { Room report.old at (line_report index rack total (line_with set quantity)) }
-    ensures { Put report.old at (line_report index rack total (line_with set quantity)) result report.new }
+    requires changes_are { changes ≡ length (codes running.rack running.total (read_as line)) }
+    requires room { Room report.old at (line_report index running.rack running.total (read_as line)) }
+    ensures { Put report.old at (line_report index running.rack running.total (read_as line)) result report.new }
 {
     if changes == 0 {
         return at;
     }
-    let cleared = line::is_cleared(rack, total, set);
-    let emptied = line::is_emptied(rack, total, set, quantity);
-    let raised = line::is_raised(rack, total, set, quantity);
-    let dropped = line::is_dropped(rack, total, set, quantity);
-    let at = put_change(cleared, index, 1, at, report);
-    let at = put_change(emptied, index, 2, at, report);
-    let at = put_change(raised, index, 3, at, report);
-    put_change(dropped, index, 4, at, report)
+    let changed = running.changed(line);
+    let at = put_change(changed.cleared, index, Change::Cleared, at, report);
+    let at = put_change(changed.emptied, index, Change::Emptied, at, report);
+    let at = put_change(changed.raised, index, Change::Raised, at, report);
+    put_change(changed.dropped, index, Change::Dropped, at, report)
 }
 
 // Writes the changes of the lines to the front of the report.
-fn put_changes(file: &[u8], report: &mut [u8]) -> usize
-    requires file_value { start_number file.now ≡ 0 }
-    requires room { Room report.old 0 (bytes_of_changes (line_changes file.now)) }
-    ensures { Put report.old 0 (bytes_of_changes (line_changes file.now)) result report.new }
+fn put_changes(file: Started<'_>, report: &mut [u8]) -> usize
+    requires { Room report.old 0 (bytes_of_changes (line_changes file.bytes.now)) }
+    ensures { Put report.old 0 (bytes_of_changes (line_changes file.entry.bytes.now)) result report.new }
 {
-    let version = job::version_in(file);
-    let rack = job::rack_in(file);
-    let count = read::read_count(file);
-    let mut total = 0;
+    let mut running = Running::new(file.rack);
     let mut at = 0;
-    let mut i = 0;
-    while i < count {
-        let set = read::set_in(file, version, i);
-        let quantity = read::quantity_in(file, version, i);
-        let step = line::mend_line(rack, total, set, quantity);
-        at = put_codes(i, rack, total, set, quantity, step.changes, at, report);
-        total = step.total;
-        i += 1;
+    for i in 0..file.count {
+        let line = file.line(i);
+        let step = running.step(line);
+        at = put_codes(i, running, line, step.changes, at, report);
+        running = step.next;
     }
     at
 }
 
 // Writes the report to the front of its buffer.
-pub fn write_report(file: &[u8], kept: usize, report: &mut [u8])
-    requires file_value { (start_number file.now ≡ 0) × (kept ≡ length (lines_kept_in file.now)) }
-    requires file_in_bounds { length (mended_report file.now) ≤ length report.old }
-    ensures { report.new ≡ mended_report file.now
-        ++ drop (length (mended_report file.now)) report.old }
+pub fn write_report(measured: Measured<'_>, report: &mut [u8])
+    requires { length (mended_report measured.file.bytes.now) ≤ length report.old }
+    ensures { report.new ≡ mended_report measured.entry.file.bytes.now
+        ++ drop (length (mended_report measured.entry.file.bytes.now)) report.old }
 {
-    let recounted = measure::is_recounted(file, kept);
-    let more = measure::has_more(file);
-    let at = put_changes(file, report);
-    let at = put_change(recounted, WHOLE, 5, at, report);
-    put_change(more, WHOLE, 6, at, report);
+    let recounted = measured.is_recounted();
+    let more = measured.file.has_more();
+    let at = put_changes(measured.file, report);
+    let at = put_change(recounted, WHOLE, Change::Recounted, at, report);
+    put_change(more, WHOLE, Change::MoreBytes, at, report);
 }

@@ -1,77 +1,61 @@
-// The second pass, first part: the mended file. Each `put_` function tells the place after what it wrote.
+// The second pass, first part: the mended file. Each `put_` function tells the place after what it wrote; the place and the buffer are
+// parameters, as of the functions of `text`, whose words `Room` and `Put` the contracts take.
 ghost use Rattle.std.specs.Prelude.{◌≡◌, ◌++◌, ◌+◌, ◌≤◌, length, drop};
 ghost use Rattle.text.specs.Buffer.{Room, Put};
-ghost use Rattle.job.specs.Job.{header_length, line_of, start_number};
-ghost use Rattle.mending.specs.Mending.{lines_kept_in, mended_file};
-ghost use Rattle.mend.specs.Mend.{line_with, most_running, kept_bytes, kept_lines};
+ghost use Rattle.job.specs.Job.{header_length, line_of};
+ghost use Rattle.mending.specs.Mending.{mended_file};
+ghost use Rattle.mend.specs.Mend.{kept_bytes, kept_lines};
+ghost use Rattle.mend.specs.Parts.{read_as};
 
-use crate::{line, read};
+use crate::line::Line;
+use crate::measure::Measured;
+use crate::read::Started;
+use crate::running::Running;
 
 // Writes one line from `at` on.
-fn put_line(version: u64, set: u64, quantity: u8, at: usize, out: &mut [u8]) -> usize
-    requires { Room out.old at (line_of version (line_with set quantity)) }
-    ensures { Put out.old at (line_of version (line_with set quantity)) result out.new }
+fn put_line(version: u64, line: Line, at: usize, out: &mut [u8]) -> usize
+    requires { Room out.old at (line_of version (read_as line)) }
+    ensures { Put out.old at (line_of version (read_as line)) result out.new }
 {
-    job_write::put_quantity(version, quantity, at, out);
-    job_write::put_set(set, at, out);
+    job_write::put_quantity(version, line.quantity, at, out);
+    job_write::put_set(line.set, at, out);
     at + job::line_length(version)
 }
 
 // Writes the mended line from `at` on, where it stays.
-fn put_kept(
-    version: u64,
-    rack: usize,
-    total: usize,
-    set: u64,
-    quantity: u8,
-    at: usize,
-    out: &mut [u8],
-) -> usize
-    requires total_le_most_running { total ≤ most_running }
-    requires room { Room out.old at (kept_bytes version rack total (line_with set quantity)) }
-    ensures { Put out.old at (kept_bytes version rack total (line_with set quantity)) result out.new }
+fn put_kept(version: u64, running: Running, line: Line, at: usize, out: &mut [u8]) -> usize
+    requires { Room out.old at (kept_bytes version running.rack running.total (read_as line)) }
+    ensures { Put out.old at (kept_bytes version running.rack running.total (read_as line)) result out.new }
 {
-    if line::line_stays(rack, total, set, quantity) {
-        return put_line(
-            version,
-            line::mended_set(rack, set),
-            line::mended_quantity(quantity),
-            at,
-            out,
-        );
+    if running.keeps(line) {
+        put_line(version, line.mended(running.rack), at, out)
+    } else {
+        at
     }
-    at
 }
 
 // Writes the lines kept after the header.
-fn put_lines(file: &[u8], out: &mut [u8]) -> usize
-    requires file_value { start_number file.now ≡ 0 }
-    requires room { Room out.old header_length (kept_lines file.now) }
-    ensures { Put out.old header_length (kept_lines file.now) result out.new }
+fn put_lines(file: Started<'_>, out: &mut [u8]) -> usize
+    requires { Room out.old header_length (kept_lines file.bytes.now) }
+    ensures { Put out.old header_length (kept_lines file.entry.bytes.now) result out.new }
 {
-    let version = job::version_in(file);
-    let rack = job::rack_in(file);
-    let count = read::read_count(file);
-    let mut total = 0;
+    let mut running = Running::new(file.rack);
     let mut at = job::HEADER;
-    let mut i = 0;
-    while i < count {
-        let set = read::set_in(file, version, i);
-        let quantity = read::quantity_in(file, version, i);
-        at = put_kept(version, rack, total, set, quantity, at, out);
-        total = line::after_line(rack, total, set, quantity);
-        i += 1;
+    for i in 0..file.count {
+        let line = file.line(i);
+        at = put_kept(file.version, running, line, at, out);
+        running = running.after(line);
     }
     at
 }
 
 // Writes the mended file to the front of the output.
-pub fn write_file(file: &[u8], kept: usize, out: &mut [u8])
-    requires file_value { (start_number file.now ≡ 0) × (kept ≡ length (lines_kept_in file.now)) }
-    requires file_in_bounds { length (mended_file file.now) ≤ length out.old }
-    ensures { out.new ≡ mended_file file.now
-        ++ drop (length (mended_file file.now)) out.old }
+pub fn write_file(measured: Measured<'_>, out: &mut [u8])
+    requires { length (mended_file measured.file.bytes.now) ≤ length out.old }
+    ensures { out.new ≡ mended_file measured.entry.file.bytes.now
+        ++ drop (length (mended_file measured.entry.file.bytes.now)) out.old }
 {
-    job_write::put_header(job::version_in(file), job::rack_in(file), kept, out);
+    let file = measured.file;
+    job_write::put_header(file.version, file.rack, measured.kept, out);
     put_lines(file, out);
 }

@@ -3,7 +3,7 @@ use Rattle.std.specs.Prelude.{ℕ, suc, ◌+◌, ◌-◌, ◌/◌, ◌%◌, ◌^
 use Rattle.model.specs.Count.{list_of}
 use Rattle.model.specs.Plan.{is_empty, in_rack}
 use Rattle.model.specs.Limits.{most_lines, most_placements}
-use Rattle.refusal.specs.declared.Refusal.{Refusal}
+use Rattle.refusal.specs.Told.{Refusal}
 use Rattle.refusal.specs.Refusal.{refuse, or_else, when}
 use Rattle.job.specs.Job.{bytes_of, header_length, line_length, file_length, JobLine, paired, file_of, version_in, rack_in, count_in}
 use Rattle.job.specs.Job.{set_in, quantity_in, start_number}

@@ -7,7 +7,9 @@ use mathlib.Core.Bool.{Bool, true, false, not, cond}
 use mathlib.Core.List.{List, [], ◌∷◌}
 use lib.ListN.{length, drop, get_or, drop_of_length-le}
 use lib.Dec.{T}
-use Rattle.model.specs.Count.{All, none, more, first_fail}
+use Rattle.std.specs.Prelude.{Some, None}
+use borrow.Author.Tests.{lt-ltb, le-ltb}
+use Rattle.model.specs.Count.{All, none, more, first_fail, place_in}
 use Rattle.model.proofs.Tests.{test, true_T, false_T, cond_case}
 use Rattle.model.proofs.Loops.{fail_rest}
 
@@ -71,3 +73,10 @@ module _ (f : ℕ → Bool) where
   pub fails_end : (xs : List ℕ) (i : ℕ) → length xs ≤ i → first_fail f xs ≡ i + first_fail f (drop i xs) → first_fail f xs ≡ i
   unfolding first_fail
   fails_end xs i h inv = omega (arith, inv, ap (first_fail f) (drop_of_length-le xs h))
+
+-- a place that is found, and none
+pub found_place : {i j n : ℕ} → i < n → i ≡ j → Some i ≡ place_in j n
+found_place {i} {j} {n} h e = rw (← e, lt-ltb i n h) refl
+
+pub no_place : {i j n : ℕ} → i ≡ j → n ≤ i → None ≡ place_in j n
+no_place {i} {j} {n} e h = rw (← e, le-ltb i n h) refl

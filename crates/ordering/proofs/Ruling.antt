@@ -11,7 +11,7 @@ use lib.Seq.{take_at}
 use borrow.Author.Tests.{eqb-true}
 use Rattle.model.specs.Count.{each, first_fail}
 use Rattle.model.proofs.Tests.{cond_case, T_true}
-use Rattle.refusal.specs.declared.Refusal.{Refusal}
+use Rattle.refusal.specs.Told.{Refusal}
 use Rattle.refusal.specs.Refusal as R
 use Rattle.refusal.proofs.Laws.{or_none, or_next, when-none, when_taken, at_none}
 use Rattle.ordering.specs.declared.Part.{Part}

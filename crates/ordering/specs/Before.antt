@@ -1,7 +1,7 @@
 -- The placing order as it was before height decided: each flag counts alone, a tall part's fine flag too.
 use Rattle.std.specs.Prelude.{ℕ, Bool, not, ◌&&◌, ◌||◌, List, length}
 use Rattle.std.proofs.Math.Option.{Option}
-use Rattle.refusal.specs.declared.Refusal.{Refusal}
+use Rattle.refusal.specs.Told.{Refusal}
 use Rattle.refusal.specs.Refusal.{when, or_else, lent_by}
 use Rattle.ordering.specs.declared.Part.{Part}
 use Rattle.ordering.specs.declared.Rule.{Rule}

@@ -11,15 +11,15 @@ use Rattle.model.specs.Plan.{pairs}
 use Rattle.model.proofs.Loops.{part-rest}
 use Rattle.placements.specs.Repeated.{repeated}
 use Rattle.placements.proofs.Plans.{length_quick}
-use Rattle.refusal.specs.declared.Refusal.{Refusal}
+use Rattle.refusal.specs.Told.{Refusal}
 use Rattle.refusal.specs.Refusal.{none, or_else, Given}
 use Rattle.refusal.proofs.Laws.{number_of, or_first, or_same, refused, accepted, lent_refused, lent_accepted}
 use Rattle.call_refusals.specs.Calls.{plan_refusal}
 use Rattle.call_refusals.proofs.Calls.{plan_none}
-use Rattle.line_calls.specs.declared.PlanAnswer.{PlanAnswer}
+use Rattle.line_calls.specs.Answers.{PlanAnswer}
 use Rattle.line_calls.specs.Lines.{quick_of, quick_buffer}
 use Rattle.line_calls.specs.Rules.{HalfRule}
-use Rattle.panel.specs.declared.AloneAnswer.{AloneAnswer}
+use Rattle.panel.specs.Answers.{AloneAnswer}
 use Rattle.panel.specs.Panel.{alone_refusal, alone_plan, alone_of, alone_buffer}
 use Rattle.panel.specs.Rules.{AloneRule}
 
@@ -55,7 +55,7 @@ plan_free d z n room h = rw (eq-eqb d.number 0 z, le-ltb room n h) refl
 -- quick sharing of lines, without a mounted tip, where nothing is refused
 module _ (d : Refusal) (z : d.number ≡ 0) (m : ℕ) (qs lines : List ℕ) where
   module _ (room : ℕ) (h : length lines ≤ room) {a : PlanAnswer} (e : a ≡ quick_of d m bare qs lines room) where
-    quick_number : a.refusal.number ≡ 0
+    pub quick_number : a.refusal.number ≡ 0
     unfolding quick_of
     quick_number = ap (λ x. x.refusal.number) e ∙ ap (λ r. r.number) (plan_free d z (length lines) room h)
 

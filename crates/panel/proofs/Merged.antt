@@ -12,7 +12,7 @@ use Rattle.model.proofs.Loops.{part-rest}
 use Rattle.model.specs.Limits.{most_lines, most_placements}
 use Rattle.placements.specs.Repeated.{total}
 use Rattle.placements.specs.Good.{GoodLines}
-use Rattle.refusal.specs.declared.Refusal.{Refusal}
+use Rattle.refusal.specs.Told.{Refusal}
 use Rattle.refusal.specs.Refusal.{none, refuse, or_else, when, Given}
 use Rattle.refusal.proofs.Laws.{number_of, or_same, or_none, when-none, accepted, lent_refused}
 use Rattle.panel.specs.Panel.{Counted, merge_refusal, merge_of, merged_by}
@@ -154,3 +154,9 @@ module _ (earlier : Refusal) {m n o p : ℕ} {qs sets rs others : List ℕ} (g :
     );
     good = λ z. rw (merged-lines z, merged_quantities z) (merged-rule earlier g h (number_of told_is z)).good;
   }
+
+-- where nothing is refused before, the decision by the quantities is that by the lines, which are as many
+pub good_counts : {m o : ℕ} {qs sets rs others : List ℕ} → GoodLines m qs sets → GoodLines o rs others → {d : Refusal}
+    → d ≡ merge_refusal none m o (length qs + length rs) (total qs + total rs) → d ≡ merge_of none m qs sets o rs others
+unfolding merge_of
+good_counts a b e = rw (a.same, b.same) at e

@@ -1,2 +1,3 @@
+pub mod Answers
 pub mod Panel
 pub mod Rules

@@ -5,10 +5,10 @@ use Rattle.model.specs.Choice.{bare}
 use Rattle.model.specs.Limits.{most_lines, most_placements}
 use Rattle.placements.specs.Repeated.{total, repeated}
 use Rattle.placements.specs.Plans.{quick_plan_q}
-use Rattle.refusal.specs.declared.Refusal.{Refusal}
+use Rattle.refusal.specs.Told.{Refusal}
 use Rattle.refusal.specs.Refusal.{or_else, when, told, lent_by}
 use Rattle.call_refusals.specs.Calls.{plan_refusal}
-use Rattle.panel.specs.declared.AloneAnswer.{AloneAnswer}
+use Rattle.panel.specs.Answers.{AloneAnswer}
 
 -- the refusal of the first board, else that of the second
 abbrev pub first_of : Refusal → Refusal → Refusal

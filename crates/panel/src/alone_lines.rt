@@ -1,77 +1,50 @@
 // Each of two boards planned alone by the quick rule, without a mounted tip: the second plan stands behind the first.
-ghost use Rattle.std.specs.Prelude.{◌≡◌, length, take};
-ghost use Rattle.refusal.specs.Refusal.{Given};
+ghost use Rattle.std.specs.Prelude.{◌≡◌, length};
+ghost use Rattle.placements.specs.Good.{GoodLines};
+ghost use Rattle.refusal.specs.Refusal.{none};
+ghost use Rattle.refusal.specs.Reasons.{refusal_of};
+ghost use Rattle.panel.specs.Answers.{alone_told};
 ghost use Rattle.panel.specs.Panel.{alone_of, alone_buffer};
 ghost use Rattle.panel.specs.Rules.{AloneRule};
 
-use crate::AloneAnswer;
-use head::Mounted;
-use refusal::Refusal;
+use crate::AlonePairs;
+use refusal::Refused;
 
-// The sets are the caller's working copies: quick sharing uses up those of the lines.
+// The sets are the caller's working copies, which are used up.
 pub fn alone(
-    earlier: Refusal,
     rack: usize,
-    count: usize,
-    sets: &mut [u64],
+    lines: &mut [u64],
     quantities: &[u8],
     other_rack: usize,
-    other_count: usize,
-    other_sets: &mut [u64],
+    other_lines: &mut [u64],
     other_quantities: &[u8],
     plan: &mut [u8],
-) -> AloneAnswer
-    requires given { Given earlier rack count quantities.now sets.old }
-    requires given_2 { Given earlier other_rack other_count other_quantities.now other_sets.old }
-    ensures answer { result ≡ alone_of earlier
-        rack (take count quantities.now) (take count sets.old)
-        other_rack (take other_count other_quantities.now) (take other_count other_sets.old)
+) -> Result<AlonePairs, Refused>
+    requires good { GoodLines rack quantities.now lines.old }
+    requires other_good { GoodLines other_rack other_quantities.now other_lines.old }
+    ensures answer { alone_told result ≡ alone_of none
+        rack quantities.now lines.old
+        other_rack other_quantities.now other_lines.old
         (length plan.old) }
-    ensures plan { plan.new ≡ alone_buffer earlier
-        rack (take count quantities.now) (take count sets.old)
-        other_rack (take other_count other_quantities.now) (take other_count other_sets.old)
+    ensures plan { plan.new ≡ alone_buffer none
+        rack quantities.now lines.old
+        other_rack other_quantities.now other_lines.old
         plan.old }
     ensures rule { AloneRule
-        (take count quantities.now) (take count sets.old)
-        (take other_count other_quantities.now) (take other_count other_sets.old)
-        plan.new result.refusal.number result.first_pairs result.second_pairs }
+        quantities.now lines.old
+        other_quantities.now other_lines.old
+        plan.new (refusal_of result).number
+        (alone_told result).first_pairs (alone_told result).second_pairs }
 {
-    if earlier.number != 0 {
-        return AloneAnswer {
-            refusal: earlier,
-            first_pairs: 0,
-            second_pairs: 0,
-        };
-    }
-    let refusal = call_refusals::plan_refusal(earlier, count + other_count, plan.len());
-    if refusal.number != 0 {
-        return AloneAnswer {
-            refusal,
-            first_pairs: 0,
-            second_pairs: 0,
-        };
-    }
-    let first = line_calls::quick(
-        refusal,
-        rack,
-        Mounted::Nothing,
-        count,
-        sets,
-        quantities,
-        plan,
-    );
+    let count = lines.len();
+    call_refusals::plan_refusal(count + other_lines.len(), plan.len())?;
+    let first = line_calls::quick(rack, None, lines, quantities, plan)?;
     let second = line_calls::quick(
-        refusal,
         other_rack,
-        Mounted::Nothing,
-        other_count,
-        other_sets,
+        None,
+        other_lines,
         other_quantities,
         &mut plan[count..],
-    );
-    AloneAnswer {
-        refusal,
-        first_pairs: first.pairs,
-        second_pairs: second.pairs,
-    }
+    )?;
+    Ok(AlonePairs { first, second })
 }

@@ -8,7 +8,7 @@ ghost use Rattle.placements.specs.Repeated.{total};
 pub fn wide(quantity: u8) -> usize
     ensures { result ≡ quantity }
 {
-    quantity as usize
+    usize::from(quantity)
 }
 
 // The number of placements, summed in 16 bits, which hold it: the compiler adds eight at once, and of wider numbers fewer.
@@ -17,10 +17,8 @@ pub fn total(quantities: &[u8]) -> usize
     ensures { result ≡ total quantities.now }
 {
     let mut sum = 0;
-    let mut i = 0;
-    while i < quantities.len() {
-        sum += quantities[i] as u16;
-        i += 1;
+    for quantity in quantities {
+        sum += u16::from(*quantity);
     }
-    sum as usize
+    usize::from(sum)
 }

@@ -1,30 +1,25 @@
 -- Laws of sets by a test, of the rows by the flags, and of the first place that fails a test.
 use Prim.Native.Nat.{ℕ, zero, suc, ◌+◌, ◌≤◌, ◌<◌}
 use native.Mathlib.Omega.{arith}
-use mathlib.Core.Path.{◌≡◌, refl, ap, ap₂, sym, ◌∙◌}
+use mathlib.Core.Path.{◌≡◌, refl, ap, ap₂, ◌∙◌}
 use mathlib.Core.Logic.{⊎_elim}
 use mathlib.Core.Bool.{Bool, true, false, not, cond, ◌&&◌, ◌||◌, and_comm}
-use mathlib.Core.List.{List, [], ◌∷◌, map}
+use mathlib.Core.List.{List, [], ◌∷◌}
 use lib.Dec.{T, ltb, eqb, not_T, T_not, ltb→lt, eqb→eq, eqb_refl}
-use lib.ListN.{length, get_or, set, length-set, length-map, length-replicate}
-use lib.Seq.{get_or-set_same, get_or-set_other}
+use lib.ListN.{length, get_or, set, replicate, length-set, length-replicate}
 use borrow.Author.Tests.{lt-ltb, le-ltb}
 use Rattle.model.specs.Count.{first_fail}
 use Rattle.model.proofs.Tests.{le_or_lt, test, true_T, false_T}
 use Rattle.ordering.specs.declared.Part.{Part}
-use Rattle.ordering.specs.Parts.{no_part, part_at, fine_pitch, by_flags, window_ok}
-use Rattle.flat_order.specs.declared.PartSet.{PartSet}
-use Rattle.placing.specs.declared.Parts.{Parts}
-use Rattle.placing.specs.declared.Rows.{Rows}
+use Rattle.ordering.specs.Parts.{part_at, fine_pitch, by_flags}
+use Rattle.flat_order.specs.declared.sets.PartSet.{PartSet}
+use Rattle.placing.specs.declared.flags.Kinds.{Kinds}
 use Rattle.flat_order.specs.Sets.{has_part, no_parts, single, joined}
 use Rattle.flat_order.specs.Flat.{row_at}
-use Rattle.placing.specs.Rows.{no_rows, with_row}
-use Rattle.placing.specs.Given.{parts_of, no_positions, flag_row}
-use Rattle.ordering.specs.Call.{first_bad}
+use Rattle.placing.specs.Given.{flag_row, KindsOf}
 use Rattle.flat_order.proofs.Members.{has-single, has-joined}
 use Rattle.flat_order.proofs.Lasts.{first-none}
 use Rattle.flat_order.proofs.Below.{row-set}
-use Rattle.placing.proofs.Listed.{listed, listed_at}
 
 -- ---- sets by a test
 
@@ -83,38 +78,27 @@ flag-row_is x y fine short a f s =
     (ap₂ ◌||◌ (and_comm (not (fine_pitch y)) (fine_pitch x)) (and_comm y.tall (not x.tall)))
 
 -- the rows of the first b parts are those by the flags
-pub record Rowed (p : Parts) (n b : ℕ) (rows : Rows) : Type 0 where
-  pub parts : rows.parts ≡ p.count
-  pub good : rows.good ≡ true
-  pub lows : length rows.low ≡ 128
-  pub highs : length rows.high ≡ 128
-  pub flags : (a c : ℕ) → a < n → c < b → has_part (row_at rows.low rows.high c) a ≡ by_flags (part_at p.parts a) (part_at p.parts c)
+pub record Rowed (parts : List Part) (b : ℕ) (rows : List PartSet) : Type 0 where
+  pub size : length rows ≡ 128
+  pub flags : (a c : ℕ) → a < length parts → c < b → has_part (row_at rows c) a ≡ by_flags (part_at parts a) (part_at parts c)
 
-pub rowed_none : (p : Parts) (n : ℕ) → Rowed p n 0 (no_rows p.count)
-unfolding no_rows
-rowed_none p n = record {
-  parts = refl;
-  good = refl;
-  lows = length-replicate {A = ℕ} 128 0;
-  highs = length-replicate {A = ℕ} 128 0;
+pub rowed_none : (parts : List Part) → Rowed parts 0 (replicate 128 no_parts)
+rowed_none parts = record {
+  size = length-replicate {A = PartSet} 128 no_parts;
   flags = λ a c k l. absurd (omega arith);
 }
 
-pub rowed_more : (p : Parts) (n b : ℕ) (rows : Rows) (fine short : PartSet) → b < 128 → Rowed p n b rows
-    → ((a : ℕ) → a < n → has_part fine a ≡ fine_pitch (part_at p.parts a)) → ((a : ℕ) → a < n → has_part short a ≡ not (part_at p.parts a).tall)
-    → Rowed p n (b + 1) (with_row rows b (flag_row (part_at p.parts b) fine short))
-unfolding with_row
-rowed_more p n b rows fine short l r f s =
-    let row = flag_row (part_at p.parts b) fine short in
+pub rowed_more : (parts : List Part) (b : ℕ) (rows : List PartSet) (kinds : Kinds) → b < 128 → Rowed parts b rows
+    → KindsOf parts (length parts) kinds → Rowed parts (b + 1) (set rows b (flag_row (part_at parts b) kinds.fine kinds.short))
+rowed_more parts b rows kinds l r k =
+    let row = flag_row (part_at parts b) kinds.fine kinds.short in
     record {
-      parts = r.parts;
-      good = r.good;
-      lows = length-set rows.low b row.low ∙ r.lows;
-      highs = length-set rows.high b row.high ∙ r.highs;
-      flags = λ a c k h. rw (row-set rows.low rows.high b c row (omega (arith, r.lows)) (omega (arith, r.highs))) (⊎_elim
+      size = length-set rows b row ∙ r.size;
+      flags = λ a c m h. rw (row-set rows b c row (omega (arith, r.size))) (⊎_elim
           (λ u. let e = eqb→eq b c u in rw (true_T (eqb b c) u, ← e)
-          (flag-row_is (part_at p.parts a) (part_at p.parts b) fine short a (f a k) (s a k)))
-          (λ u. rw (false_T (eqb b c) u) (r.flags a c k (less c h u)))
+          (flag-row_is (part_at parts a) (part_at parts b) kinds.fine kinds.short a
+          (k.fine a ∙ rw (lt-ltb a (length parts) m)) (k.short a ∙ rw (lt-ltb a (length parts) m))))
+          (λ u. rw (false_T (eqb b c) u) (r.flags a c m (less c h u)))
           (test (eqb b c)));
     }
   where
@@ -130,32 +114,3 @@ fail_is f d [] r l p q = omega arith
 fail_is f d (x ∷ xs) zero l p q = rw (false_T (f x) (q (omega arith)))
 fail_is f d (x ∷ xs) (suc r) l p q =
     rw (true_T (f x) (p 0 (omega arith))) (ap suc (fail_is f d xs r (omega arith) (λ i k. p (suc i) (omega arith)) (λ k. q (omega arith))))
-
--- one place more is filled
-pub filled_at : (f : ℕ → ℕ) (xs : List ℕ) (i v : ℕ) → i < length xs → ((k : ℕ) → k < i → get_or xs k 0 ≡ f k) → v ≡ f i
-    → (k : ℕ) → k < i + 1 → get_or (set xs i v) k 0 ≡ f k
-filled_at f xs i v l h e k m =
-    ⊎_elim
-    (λ (u : i ≤ k). let z : k ≡ i = omega arith in rw z (get_or-set_same xs i v 0 l ∙ e))
-    (λ (u : k < i). get_or-set_other xs i k v 0 (λ z. omega arith) ∙ h k u)
-    (le_or_lt i k)
-
-pub positions_size : length no_positions ≡ 128
-unfolding no_positions
-positions_size = length-replicate {A = ℕ} 128 0
-
--- the first bad window
-pub window_is : (p : Parts) (r : ℕ) → r ≤ p.count
-    → ((i : ℕ) → i < r → T (window_ok p.count (part_at p.parts i))) → (r < p.count → window_ok p.count (part_at p.parts r) ≡ false)
-    → r ≡ first_bad (parts_of p)
-window_is p r l f g =
-    let n = p.count in
-    let e = listed (part_at p.parts) n in
-    fail_is (window_ok n) no_part (parts_of p) r (omega arith)
-    (λ i k. rw (listed_at (part_at p.parts) n i no_part (omega arith)) (f i k))
-    (λ k. let z : r < n = omega arith in rw (listed_at (part_at p.parts) n r no_part z, g z) tt)
-    ∙ ap (λ k. first_fail (window_ok k) (parts_of p)) (sym e)
-
--- what owning an array says of its length
-pub full : {A B : Type 0} (f : A → B) (xs : List A) → length (map f xs) ≡ 128 → length xs ≡ 128
-full f xs e = sym (length-map xs f) ∙ e

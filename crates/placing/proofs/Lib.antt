@@ -1,9 +1,6 @@
-pub mod Walk
-pub mod Rules
 pub mod Listed
 pub mod Flagged
-pub mod Added
-pub mod Copied
-pub mod Answered
-pub mod Judged
+pub mod Marks
+pub mod Windows
 pub mod Numbered
+pub mod Answers

@@ -1,11 +1,10 @@
 -- Parts and rules as plain numbers, for a caller who has no records: four numbers a part, two a rule.
-use Rattle.std.specs.Prelude.{ℕ, ◌+◌, ◌*◌, ◌/◌, ◌%◌, ◌≡◌, Bool, not, cond, ◌&&◌, List, eqb, length, get_or, replicate}
+use Rattle.std.specs.Prelude.{ℕ, ◌+◌, ◌*◌, ◌/◌, ◌%◌, ◌≡◌, Bool, not, cond, ◌&&◌, List, eqb, length, get_or}
 use Rattle.model.specs.Count.{list_of}
-use Rattle.refusal.specs.declared.Refusal.{Refusal}
+use Rattle.refusal.specs.Told.{Refusal}
 use Rattle.refusal.specs.Refusal.{accepts, when, or_else}
 use Rattle.ordering.specs.declared.Part.{Part}
 use Rattle.ordering.specs.declared.Rule.{Rule}
-use Rattle.ordering.specs.Parts.{no_part}
 use Rattle.ordering.specs.Call.{order_refusal, order_after, PlacingRule}
 
 -- a flag is set by every number but 0
@@ -47,7 +46,3 @@ order_after_in parts rules buffer = cond (accepts (numbers_refusal parts rules))
 abbrev pub PlacingRuleIn : List ℕ → List ℕ → ℕ → List ℕ → Refusal → Type 0
 PlacingRuleIn parts rules room buffer r =
     (numbers_refusal parts rules).number ≡ 0 → PlacingRule (parts_in parts) (rules_in rules) room buffer r
-
--- an array of 128 places without a part
-unfoldable pub empty_parts : List Part
-empty_parts = replicate 128 no_part

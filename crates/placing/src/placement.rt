@@ -1,91 +1,81 @@
 // The refusals in their order, the search, and the order handed over.
-ghost use Rattle.std.specs.Prelude.{◌≡◌, true, cond, List, ◌++◌, ◌≤◌, length, drop};
+ghost use Rattle.std.specs.Prelude.{◌≡◌, ℕ, List, ◌≤◌, ◌<◌, length, take, IfSome, IfNone, not, position};
 ghost use Rattle.std.proofs.Math.Option.{some, none};
+ghost use Rattle.refusal.specs.Reasons.{refusal_of};
 ghost use Rattle.ordering.specs.declared.Rule.{Rule};
-ghost use Rattle.ordering.specs.Parts.{placing_order};
-ghost use Rattle.placing.specs.Given.{parts_of, no_bytes, RowsFor};
-ghost use Rattle.ordering.specs.Call.{first_bad, order_refusal, order_after};
+ghost use Rattle.ordering.specs.Parts.{window_ok, placing_order};
+ghost use Rattle.ordering.specs.Call.{first_bad};
+ghost use Rattle.placing.specs.Rows.{GivesRules, RowsFor, Placed};
 
-use crate::windows::{first_bad_window, firsts_of, lasts_of};
-use crate::{Parts, Rows};
+use crate::flags::start_rows;
+use crate::marking::add_rules;
 use flat_order::least_order;
-use refusal::Refusal;
+use flat_order::sets::PartSet;
+use ordering::{Part, Rule};
+use refusal::{Reason, Refused};
 
-fn no_bytes() -> [u8; 128]
-    ensures { result ≡ no_bytes }
+#[tactic(auto, unfolding(ordering::specs::Parts::window_ok))]
+fn is_window_ok(n: usize, part: Part) -> bool
+    ensures { result ≡ window_ok n part }
 {
-    [0; 128]
+    part.first <= part.last && part.last < n
 }
 
-fn copy_order(order: &[u8], buffer: &mut [u8])
-    requires { length order.now ≤ length buffer.old }
-    ensures { buffer.new ≡ order.now ++ drop (length order.now) buffer.old }
+// The place of the first part with a bad window.
+fn first_bad_window(parts: &[Part]) -> Option<usize>
+    ensures { result ≡ position (λ x. not (window_ok (length parts.now) x)) parts.now }
 {
-    let n = order.len();
-    let mut i = 0;
-    while i < n {
-        buffer[i] = order[i];
-        i += 1;
+    let n = parts.len();
+    parts.iter().position(|part| !is_window_ok(n, *part))
+}
+
+// The least order that obeys, in the first places; none where none obeys.
+fn search(parts: &[Part], rows: &[PartSet]) -> Option<[u8; 128]>
+    requires few { length parts.now ≤ 128 }
+    requires rows { length parts.now ≤ length rows.now }
+    requires windows { length parts.now ≤ first_bad parts.now }
+    ensures some { IfSome result (λ order. (rules : List Rule) → RowsFor parts.now rules rows.now
+        → some (take (length parts.now) order) ≡ placing_order parts.now rules) }
+    ensures none { IfNone result ((rules : List Rule) → RowsFor parts.now rules rows.now
+        → none ≡ placing_order parts.now rules) }
+{
+    let mut firsts = [0; 128];
+    let mut lasts = [0; 128];
+    for (i, part) in parts.iter().enumerate() {
+        firsts[i] = part.first;
+        lasts[i] = part.last;
     }
-}
-
-// The least order that obeys; false where none obeys.
-fn search(parts: Parts, rows: Rows, order: &mut [u8]) -> bool
-    requires { (parts.count ≤ 128) × (length order.old ≡ parts.count)
-        × (parts.count ≤ first_bad (parts_of parts)) }
-    ensures { (rules : List Rule) → RowsFor (parts_of parts) rules rows → rows.good ≡ true
-        → cond result (some order.new) none ≡ placing_order (parts_of parts) rules }
-{
-    let n = parts.count;
-    let firsts = firsts_of(parts, n);
-    let mut lasts = lasts_of(parts, n);
-    let low = rows.low;
-    let high = rows.high;
-    least_order(&firsts, &mut lasts[..n], &low, &high, &mut *order)
+    least_order(&firsts, &mut lasts[..parts.len()], rows)
 }
 
 // The refusals in their order, and the order handed over.
-pub fn place(parts: Parts, rows: Rows, order: &mut [u8]) -> Refusal
-    ensures { (rules : List Rule) → (parts.count ≤ 128 → RowsFor (parts_of parts) rules rows)
-        → (result ≡ order_refusal (parts_of parts) rules (length order.old))
-        × (order.new ≡ order_after (parts_of parts) rules order.old) }
+pub fn place<F: Fn(usize) -> Rule>(
+    parts: &[Part],
+    count: usize,
+    rule_at: F,
+    order: &mut [u8],
+) -> Result<(), Refused>
+    requires { (i : ℕ) → i < count → F.pre rule_at i }
+    ensures { (rules : List Rule) → GivesRules (F.post rule_at) count rules
+        → Placed parts.now rules order.old order.new (refusal_of result) }
 {
-    let n = parts.count;
+    let n = parts.len();
     if 128 < n {
-        return Refusal {
-            number: 12,
-            place: 0,
-        };
+        return Err(Reason::BadWindow.at(0));
     }
-    let w = first_bad_window(parts);
-    if w < n {
-        return Refusal {
-            number: 12,
-            place: w,
-        };
+    if let Some(place) = first_bad_window(parts) {
+        return Err(Reason::BadWindow.at(place));
     }
-    if !rows.good {
-        return Refusal {
-            number: 13,
-            place: rows.bad,
-        };
+    let mut rows = start_rows(parts);
+    if let Err(place) = add_rules(n, &mut rows, count, rule_at) {
+        return Err(Reason::BadRule.at(place));
     }
     if order.len() < n {
-        return Refusal {
-            number: 14,
-            place: 0,
-        };
+        return Err(Reason::ShortOrder.at(0));
     }
-    let mut found = no_bytes();
-    if !search(parts, rows, &mut found[..n]) {
-        return Refusal {
-            number: 29,
-            place: 0,
-        };
-    }
-    copy_order(&found[..n], &mut *order);
-    Refusal {
-        number: 0,
-        place: 0,
-    }
+    let Some(found) = search(parts, &rows) else {
+        return Err(Reason::NoOrder.at(0));
+    };
+    order[..n].copy_from_slice(&found[..n]);
+    Ok(())
 }

@@ -1,12 +1,13 @@
 -- One tip more in the lists, and lines renumbered by the list of ranks.
 use Prim.Native.Nat.{ℕ, ◌+◌, ◌^◌, ◌<◌, ◌≤◌}
 use native.Mathlib.Omega.{arith}
-use mathlib.Core.Path.{◌≡◌, sym, ◌∙◌}
+use mathlib.Core.Path.{◌≡◌, refl, ap, sym, ◌∙◌}
 use mathlib.Core.Logic.{⊎_elim}
-use mathlib.Core.Bool.{Bool, true}
+use mathlib.Core.Bool.{Bool, true, false, cond}
 use mathlib.Core.List.{List, map}
+use mir.Val.{bool_byte}
 use lib.Dec.{T}
-use lib.ListN.{length, get_or, set, length-set}
+use lib.ListN.{get_or, set, length-set}
 use lib.Pow.{pow_mono}
 use lib.Seq.{get_or-set_same, get_or-set_other}
 use native.Mathlib.Nat.{lt_of_lt_of_le}
@@ -24,14 +25,15 @@ use Rattle.model.proofs.Renumber.{ranks_domain, low-ranks, high-ranks, run-ranks
 use Rattle.tips.proofs.Bits.{run_is}
 use Rattle.ranks.specs.Listed.{Ranks, Named, run_by, Ranked, RanksOf}
 
--- ---- the lists, from no tip on
+-- the rank of the next tip: one more where the test passes, as usize::from counts it
+pub rank_next : (ok : ℕ → Bool) (t : ℕ) {b : Bool} {r n : ℕ} → r ≡ rank ok t → b ≡ ok t → n ≡ bool_byte b → r + n ≡ rank ok (t + 1)
+rank_next ok t {b} {r} {n} e f g = rw (e, g, f, rank-more ok t) (ap (λ k. rank ok t + k) (byte_is (ok t)))
+  where
+    byte_is : (b : Bool) → bool_byte b ≡ cond b 1 0
+    byte_is true = refl
+    byte_is false = refl
 
-pub ranks-none : (ok : ℕ → Bool) (list : List ℕ) → length list ≡ most_tips → Ranks ok 0 list
-ranks-none ok list e = record { size = e; places = λ t l. absurd (omega arith) }
-
-pub named_none : (ok : ℕ → Bool) (list : List ℕ) → length list ≡ most_tips → Named ok 0 list
-unfolding rank
-named_none ok list e = record { size = e; places = λ j l. absurd (omega arith) }
+-- ---- the lists with one tip more
 
 module _ {ok : ℕ → Bool} {t : ℕ} {list : List ℕ} (h : t < most_tips) where
   -- its rank stored at tip t

@@ -6,7 +6,7 @@ use mathlib.Core.List.{List, ◌++◌}
 use lib.ListN.{length, take, drop, length-append}
 use lib.Seq.{take_at}
 use Rattle.placements.specs.Good.{GoodLines}
-use Rattle.refusal.specs.declared.Refusal.{Refusal}
+use Rattle.refusal.specs.Told.{Refusal}
 use Rattle.refusal.specs.Refusal.{Given}
 use Rattle.job.specs.Job.{count_in, sets_in, quantities_in, read_refusal}
 use Rattle.job.proofs.Reading.{length-sets_in, length-quantities_in, read_good}

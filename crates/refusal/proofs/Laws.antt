@@ -2,14 +2,23 @@
 use Prim.Native.Nat.{ℕ, ◌≤◌, ◌<◌}
 use mathlib.Core.Path.{◌≡◌, refl, ap, sym, ◌∙◌}
 use mathlib.Core.Bool.{Bool, true, false, not, cond}
-use mathlib.Core.List.{List, ◌++◌}
+use mathlib.Core.List.{List, [], ◌++◌, append-nil}
 use native.Mathlib.Omega.{arith}
 use lib.Dec.{T, ltb}
-use lib.ListN.{length, drop}
+use lib.ListN.{length, take, drop, length-take, drop_of_length-le, take-append-drop}
 use borrow.Author.Tests.{eq-eqb, ne_eqb, eqb-true, eqb-false, ltb-false, lt-ltb, le-ltb}
-use Rattle.model.specs.Count.{All, first_fail}
+use Rattle.model.specs.Count.{All, first_fail, place_in}
 use Rattle.model.proofs.Fails.{fails_none, none_fails}
-use Rattle.refusal.specs.declared.Refusal.{Refusal}
+use Rattle.refusal.specs.Told.{Refusal}
+use Rattle.std.specs.Prelude.{Some, None}
+use Rattle.refusal.specs.declared.Reason.{Reason}
+use Rattle.refusal.specs.declared.Reason.TheVariants.{RackSize, EmptyLine, TipOutside, ShortPlan, ShortTable, ShortFile, WrongMark, WrongVersion}
+use Rattle.refusal.specs.declared.Reason.TheVariants.{FileLines, FileLength, ShortOutput, BadWindow, BadRule, ShortOrder, ZeroQuantity}
+use Rattle.refusal.specs.declared.Reason.TheVariants.{MountedOutside, RacksDiffer, ForeignTip, WrongClaim, UnsoundBoard, BoardClosed, BoardOpen}
+use Rattle.refusal.specs.declared.Reason.TheVariants.{TooManyLines, NoRun, NoPlan, UnsoundLine, HeldBehind, NoOrder, TooManyPlacements, NoTwoTips}
+use Rattle.refusal.specs.declared.Reason.TheVariants.{WrongTable, GoalMissed, BrokenRecord}
+use Rattle.refusal.specs.declared.Refused.{Refused}
+use Rattle.refusal.specs.Reasons.{reason_number, told_of, refused_at}
 use Rattle.refusal.specs.Refusal.{none, refuse, accepts, or_else, when, refuse_at, scan, told, lent_by, Given}
 
 -- a refusal known by an equation has its number
@@ -104,3 +113,65 @@ by_number r number x y e = by (accepts r) refl
 -- lines given after one refusal are given after a later one
 pub later : {r d : Refusal} {m n : ℕ} {qs sets : List ℕ} → (d.number ≡ 0 → r.number ≡ 0) → Given r m n qs sets → Given d m n qs sets
 later f g = record { room = λ z. g.room (f z); quantity_room = λ z. g.quantity_room (f z); good = λ z. g.good (f z) }
+
+-- a place among n places refuses as its number does
+pub refused_place : (number i n : ℕ) → refused_at (place_in i n) number ≡ refuse_at number i n
+refused_place number i n = by (ltb i n)
+  where
+    by : (b : Bool) → refused_at (cond b (Some i) None) number ≡ cond b (record { number = number; place = i }) none
+    by true = refl
+    by false = refl
+
+-- no reason has the number 0
+pub reason_not_0 : (reason : Reason) → reason_number reason ≡ 0 → ⊥
+reason_not_0 RackSize h = cc
+reason_not_0 EmptyLine h = cc
+reason_not_0 TipOutside h = cc
+reason_not_0 ShortPlan h = cc
+reason_not_0 ShortTable h = cc
+reason_not_0 ShortFile h = cc
+reason_not_0 WrongMark h = cc
+reason_not_0 WrongVersion h = cc
+reason_not_0 FileLines h = cc
+reason_not_0 FileLength h = cc
+reason_not_0 ShortOutput h = cc
+reason_not_0 BadWindow h = cc
+reason_not_0 BadRule h = cc
+reason_not_0 ShortOrder h = cc
+reason_not_0 ZeroQuantity h = cc
+reason_not_0 MountedOutside h = cc
+reason_not_0 RacksDiffer h = cc
+reason_not_0 ForeignTip h = cc
+reason_not_0 WrongClaim h = cc
+reason_not_0 UnsoundBoard h = cc
+reason_not_0 BoardClosed h = cc
+reason_not_0 BoardOpen h = cc
+reason_not_0 TooManyLines h = cc
+reason_not_0 NoRun h = cc
+reason_not_0 NoPlan h = cc
+reason_not_0 UnsoundLine h = cc
+reason_not_0 HeldBehind h = cc
+reason_not_0 NoOrder h = cc
+reason_not_0 TooManyPlacements h = cc
+reason_not_0 NoTwoTips h = cc
+reason_not_0 WrongTable h = cc
+reason_not_0 GoalMissed h = cc
+reason_not_0 BrokenRecord h = cc
+
+-- the first refuses with an error; or it does not, and the next one decides
+pub or_err : {first : Refusal} (next : Refusal) (e : Refused) → told_of e ≡ first → told_of e ≡ or_else first next
+or_err next e h = or_first h next (reason_not_0 e.reason)
+
+pub or_ok : {first : Refusal} (next : Refusal) {x : Refusal} → none ≡ first → x ≡ next → x ≡ or_else first next
+or_ok next h k = or_next h next refl k
+
+-- a buffer whose first part is lent, and the rest behind it
+pub lent_front : (r : Refusal) (n : ℕ) (new old : List ℕ) → n ≤ length old → lent_by r n new (take n old) ++ drop n old ≡ lent_by r n new old
+lent_front r n new old h = by (accepts r)
+  where
+    nothing : drop n (take n old) ≡ []
+    nothing = drop_of_length-le (take n old) (omega (arith, length-take n old))
+
+    by : (b : Bool) → cond b (new ++ drop n (take n old)) (take n old) ++ drop n old ≡ cond b (new ++ drop n old) old
+    by true = ap (λ l. (new ++ l) ++ drop n old) nothing ∙ ap (λ l. l ++ drop n old) (append-nil new)
+    by false = take-append-drop n old

@@ -1,1 +1,3 @@
+pub mod Told
 pub mod Refusal
+pub mod Reasons

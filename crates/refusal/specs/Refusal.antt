@@ -2,7 +2,7 @@
 use Rattle.std.specs.Prelude.{ℕ, ◌≤◌, ◌≡◌, Bool, cond, List, ◌++◌, eqb, ltb, length, take, drop}
 use Rattle.model.specs.Count.{first_fail}
 use Rattle.placements.specs.Good.{GoodLines}
-use Rattle.refusal.specs.declared.Refusal.{Refusal}
+use Rattle.refusal.specs.Told.{Refusal}
 
 -- nothing is refused: number 0 and place 0
 abbrev pub none : Refusal

@@ -3,8 +3,8 @@ use Rattle.std.specs.Prelude.{ℕ, ◌≡◌, List, [], ◌∷◌, ◌++◌, len
 use Rattle.model.specs.Choice.{bare}
 use Rattle.call_refusals.specs.declared.Stage.TheVariants.{Open, Closed}
 use Rattle.board.specs.declared.Board.{Board}
-use Rattle.board.specs.declared.Merged.{Merged}
-use Rattle.board.specs.declared.Alone.{Alone}
+use Rattle.board.specs.Answers.{Merged}
+use Rattle.board.specs.Answers.{Alone}
 use Rattle.board.specs.Board.{empty_board}
 use Rattle.board.specs.Common.{common_of}
 use Rattle.board.specs.Sharing.{best_of}

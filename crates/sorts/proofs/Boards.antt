@@ -23,7 +23,7 @@ use Rattle.placements.specs.Plans.{quick_plan_q, best_plan_q}
 use Rattle.placements.specs.Keep.{kept_q, prune_q}
 use Rattle.placements.proofs.Repeated.{length-repeated, length-zip, zip-at}
 use Rattle.placements.proofs.Plans.{quick_repeated}
-use Rattle.refusal.specs.declared.Refusal.{Refusal}
+use Rattle.refusal.specs.Told.{Refusal}
 use Rattle.refusal.specs.Refusal.{none, accepts, told, when, lent_by}
 use Rattle.refusal.proofs.Laws.{number_of}
 use Rattle.call_refusals.specs.declared.Stage.TheVariants.{Closed}

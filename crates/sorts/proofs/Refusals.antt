@@ -11,7 +11,7 @@ use Rattle.model.specs.Count.{each, first_fail}
 use Rattle.model.proofs.Tests.{le_or_lt, true_T, false_not}
 use Rattle.model.proofs.Lists.{each_iff}
 use Rattle.model.proofs.Fails.{fails_none, none_fails}
-use Rattle.refusal.specs.declared.Refusal.{Refusal}
+use Rattle.refusal.specs.Told.{Refusal}
 use Rattle.refusal.specs.Refusal.{accepts, or_else, scan, lent_by}
 use Rattle.refusal.proofs.Laws.{accepted, scan_passes, scan-at}
 

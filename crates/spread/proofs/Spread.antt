@@ -7,6 +7,7 @@ use mathlib.Core.Path.{◌≡◌, refl, ap, sym, ◌∙◌}
 use mathlib.Core.Logic.{⊎_elim}
 use mathlib.Core.Bool.{Bool, false, cond}
 use mathlib.Core.List.{List}
+use mir.Val.{bool_byte}
 use lib.Arith.{digits_lt}
 use lib.ListN.{length, get_or, set, length-set}
 use lib.Seq.{get_or-set_same, get_or-set_other}
@@ -16,6 +17,7 @@ use Rattle.model.specs.Renumber.{rank}
 use Rattle.model.proofs.Tests.{le_or_lt}
 use Rattle.model.proofs.ListOf.{list_is}
 use Rattle.model.proofs.Rank.{rank_le, rank-more}
+use Rattle.ranks.proofs.Listed.{rank_next}
 use Rattle.spread.specs.Spread.{cell_at, cell_of, spread, RowDone, RowCopied, RowsDone}
 
 -- THE PLACE READ for the tips a and e is not behind their place
@@ -38,11 +40,12 @@ read_room ok m a b inside some within l =
     let h = read_place ok m a (b - 1) in
     omega (arith, place m a b inside some within, (rw e at h) l)
 
--- the rank of a tip from that of the next
-pub rank_back : (ok : ℕ → Bool) (b : ℕ) → 0 < b → rank ok b ≡ rank ok (b - 1) + cond (ok (b - 1)) 1 0
-rank_back ok b some =
-    let e : b - 1 + 1 ≡ b = omega arith in
-    rw e at (rank-more ok (b - 1))
+-- the rank of a tip from that of the next: one less where the test passes, as usize::from counts it
+pub rank_back : (ok : ℕ → Bool) (b : ℕ) → 0 < b → {t : Bool} {r n : ℕ} → r ≡ rank ok b → t ≡ ok (b - 1) → n ≡ bool_byte t
+    → r ≡ rank ok (b - 1) + n
+rank_back ok b some {t} {r} {n} e f g =
+    let h : b - 1 + 1 ≡ b = omega arith in
+    e ∙ sym (rw h at (rank_next ok (b - 1) refl f g))
 
 -- two tables that agree there have the same number
 pub cell_same : (ok : ℕ → Bool) (m r : ℕ) → r ≡ rank ok m → (xs ys : List ℕ) (a e : ℕ)
@@ -56,9 +59,6 @@ cell_same ok m r q xs ys a e h =
 
 -- a row
 module _ (s m r a : ℕ) (q : r ≡ rank (has s) m) (old : List ℕ) where
-  pub row-none : RowDone s m r a m old old
-  row-none = record { size = refl; done = λ e p l. absurd (omega arith); early = λ k l. refl; late = λ k l. refl }
-
   module _ (b : ℕ) (some : 0 < b) (within : b ≤ m) {table : List ℕ} (d : RowDone s m r a b old table) where
     -- what is read is what stood there
     pub row_read : cell_at r table (rank (has s) a) (rank (has s) b) ≡ cell_of (has s) r old a (b - 1)
@@ -85,42 +85,12 @@ module _ (s m r a : ℕ) (q : r ≡ rank (has s) m) (old : List ℕ) where
         room : a * m + (b - 1) < length table
         room = omega (arith, place m a b inside some within, d.size, size)
 
--- a table has few places
-pub square_few : {m : ℕ} → m ≤ 64 → m * m ≤ 4096
-square_few {m} h = mul-le-mul {n₁ = m} {m₁ = m} {n₂ = 64} {m₂ = 64} h h
-
 -- where the next row begins
 next_row : (m a : ℕ) → (a + 1) * m ≡ a * m + m
 next_row m a = ap (λ x. x * m) (add-one a) ∙ suc-mul a m
 
--- and each of its places is in the table
-pub next_place : (m a b : ℕ) → a + 1 < m → b < m → a * m + m + b < m * m
-next_place m a b inside within = omega (arith, next_row m a, digits_lt {q = a + 1} {m = m} {r = b} {c = m} inside within)
-
--- a copy of a row
-module _ (m a : ℕ) (old : List ℕ) where
-  pub copied_none : RowCopied m a 0 old old
-  copied_none = record { size = refl; done = λ e l. absurd (omega arith); early = λ k l. refl; late = λ k l. refl }
-
-  pub copied_more : (b : ℕ) → b < m → {table : List ℕ} → RowCopied m a b old table → a * m + m ≤ length old
-      → RowCopied m a (b + 1) old (set table (a * m + b) (get_or table (a * m + m + b) 0))
-  copied_more b within {table} d room = record {
-    size = length-set table (a * m + b) _ ∙ d.size;
-    done = λ e l.
-        ⊎_elim
-        (λ x. let z : e ≡ b = omega arith in
-        rw z (get_or-set_same table (a * m + b) _ 0 (omega (arith, d.size)) ∙ d.late (a * m + m + b) (omega arith)))
-        (λ x. get_or-set_other table (a * m + b) (a * m + e) _ 0 (λ z. omega arith) ∙ d.done e x)
-        (le_or_lt b e);
-    early = λ k l. get_or-set_other table (a * m + b) k _ 0 (λ z. omega arith) ∙ d.early k l;
-    late = λ k l. get_or-set_other table (a * m + b) k _ 0 (λ z. omega arith) ∙ d.late k (omega arith);
-  }
-
 -- all rows
 module _ (s m r : ℕ) (q : r ≡ rank (has s) m) (old : List ℕ) where
-  pub rows_none : RowsDone s m r m old old
-  rows_none = record { size = refl; done = λ d e p l x. absurd (omega arith); early = λ k l. refl }
-
   module _ (a : ℕ) {table table' : List ℕ} (d : RowsDone s m r (a + 1) old table) where
     -- one row more is spread
     pub rows_more : RowDone s m r a 0 table table' → RowsDone s m r a old table'

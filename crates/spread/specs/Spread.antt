@@ -1,7 +1,6 @@
 -- The table of a board from the table of the board renumbered.
 -- For proofs and leaf contracts: no call's contract speaks of these.
 use Rattle.std.specs.Prelude.{ℕ, ◌+◌, ◌-◌, ◌*◌, ◌/◌, ◌%◌, ◌≤◌, ◌<◌, ◌≡◌, Bool, cond, List, ltb, length, get_or}
-use Rattle.model.specs.Limits.{most_tips}
 use Rattle.model.specs.Count.{list_of}
 use Rattle.model.specs.Plan.{has}
 use Rattle.model.specs.Renumber.{rank}
@@ -17,14 +16,6 @@ cell_of ok r table a b = cell_at r table (rank ok a) (rank ok (b + 1))
 -- this number at a * m + b for all tips a and b below m
 unfoldable pub spread : (ℕ → Bool) → ℕ → ℕ → List ℕ → List ℕ
 spread ok m r table = list_of (λ k. cell_of ok r table (k / m) (k % m)) (m * m)
-
--- row a of a table of m rows and columns is to be spread; r tips are named, and first of them are below a
-pub record Row (set m r a first : ℕ) (table : List ℕ) : Type 0 where
-  pub rack : m ≤ most_tips
-  pub inside : a < m
-  pub named : r ≡ rank (has set) m
-  pub below : first ≡ rank (has set) a
-  pub size : length table ≡ m * m
 
 -- row a is spread from place b on; all other places are as they were
 pub record RowDone (set m r a b : ℕ) (old table : List ℕ) : Type 0 where

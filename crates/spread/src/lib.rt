@@ -6,73 +6,82 @@ ghost use Rattle.model.specs.Count.{All};
 ghost use Rattle.model.specs.Limits.{most_tips};
 ghost use Rattle.model.specs.Plan.{has};
 ghost use Rattle.model.specs.Renumber.{rank};
-ghost use Rattle.spread.specs.Spread.{cell_at, spread, Row, RowDone, RowCopied, RowsDone};
+ghost use Rattle.spread.specs.Spread.{cell_at, spread, RowDone, RowCopied, RowsDone};
+
+// The tips of a set that are below m, and how many they are: a table by their ranks has so many columns.
+#[derive(Clone, Copy)]
+pub struct Ranking {
+    pub set: u64,
+    pub m: usize,
+    pub count: usize,
+    ghost rack: { m ≤ most_tips },
+    ghost counted: { count ≡ rank (has set) m },
+}
 
 // The number of the table of r columns for the ranks from first to before end; 0 where there is none.
+#[tactic(auto, using(std::proofs::lemmas::Bool::cond_below, std::proofs::lemmas::Bool::cond_above), unfolding(crate::specs::Spread::cell_at))]
 fn cell_at(r: usize, table: &[u32], first: usize, end: usize) -> u32
     requires { first < end → first * r + (end - 1) < length table.now }
     ensures { result ≡ cell_at r table.now first end }
 {
-    if end <= first {
-        return 0;
+    if first < end {
+        table[first * r + (end - 1)]
+    } else {
+        0
     }
-    table[first * r + (end - 1)]
 }
 
-// Row a of the table of m columns, from its last place backwards: what is read stands at the place that is written, or before it.
-fn spread_row(set: u64, m: usize, r: usize, a: usize, first: usize, table: &mut [u32])
-    requires { Row set m r a first table.old }
-    ensures { RowDone set m r a 0 table.old table.new }
+// Row a of the table, from its last place backwards: what is read stands at the place that is written, or before it.
+fn spread_row(ranking: &Ranking, a: usize, first: usize, table: &mut [u32])
+    requires inside { a < ranking.now.m }
+    requires below { first ≡ rank (has ranking.now.set) a }
+    requires size { length table.old ≡ ranking.now.m * ranking.now.m }
+    ensures { RowDone ranking.now.set ranking.now.m ranking.now.count a 0 table.old table.new }
 {
-    let row = a * m;
-    let mut end = r;
-    let mut b = m;
-    while 0 < b {
-        b -= 1;
-        table[row + b] = cell_at(r, table, first, end);
-        end -= ranks::one(tips::has_tip(set, b));
+    let row = a * ranking.m;
+    let mut end = ranking.count;
+    for b in (0..ranking.m).rev() {
+        table[row + b] = cell_at(ranking.count, table, first, end);
+        end -= usize::from(tips::has_tip(ranking.set, b));
     }
 }
 
-// Row a becomes as the row after it, which is quicker: a compiler copies several places at once.
+// Row a becomes as the row after it, which is quicker: several places are copied at once.
 fn copy_row(m: usize, a: usize, table: &mut [u32])
-    requires { (m ≤ most_tips) × (a + 1 < m) × (length table.old ≡ m * m) }
+    requires rack { m ≤ most_tips }
+    requires inside { a + 1 < m }
+    requires size { length table.old ≡ m * m }
     ensures { RowCopied m a m table.old table.new }
 {
     let row = a * m;
     let next = row + m;
-    let mut b = 0;
-    while b < m {
-        table[row + b] = table[next + b];
-        b += 1;
-    }
+    table.copy_within(next..next + m, row);
 }
 
 // Row a, where the rows after it are spread: a tip that is not named has the row of the next tip.
-fn spread_next(set: u64, m: usize, r: usize, a: usize, first: usize, table: &mut [u32])
-    requires { Row set m r a first table.old }
-    ensures { (old : List ℕ) → RowsDone set m r (a + 1) old table.old → RowsDone set m r a old table.new }
+fn spread_next(ranking: &Ranking, a: usize, first: usize, table: &mut [u32])
+    requires inside { a < ranking.now.m }
+    requires below { first ≡ rank (has ranking.now.set) a }
+    requires size { length table.old ≡ ranking.now.m * ranking.now.m }
+    ensures { (old : List ℕ) → RowsDone ranking.now.set ranking.now.m ranking.now.count (a + 1) old table.old
+        → RowsDone ranking.now.set ranking.now.m ranking.now.count a old table.new }
 {
-    if a + 1 < m {
-        if !tips::has_tip(set, a) {
-            copy_row(m, a, table);
-            return;
-        }
+    if a + 1 < ranking.m && !tips::has_tip(ranking.set, a) {
+        copy_row(ranking.m, a, table);
+    } else {
+        spread_row(ranking, a, first, table);
     }
-    spread_row(set, m, r, a, first, table);
 }
 
 // The table of the board renumbered, at the front, becomes that of all tips, from its last row backwards.
-pub fn spread_table(set: u64, m: usize, r: usize, table: &mut [u32])
-    requires { (m ≤ most_tips) × (r ≡ rank (has set) m) × (length table.old ≡ m * m) }
-    ensures { table.new ≡ spread (has set) m r table.old }
+pub fn spread_table(ranking: &Ranking, table: &mut [u32])
+    requires { length table.old ≡ ranking.now.m * ranking.now.m }
+    ensures { table.new ≡ spread (has ranking.now.set) ranking.now.m ranking.now.count table.old }
 {
-    let mut first = r;
-    let mut a = m;
-    while 0 < a {
-        a -= 1;
-        first -= ranks::one(tips::has_tip(set, a));
-        spread_next(set, m, r, a, first, table);
+    let mut first = ranking.count;
+    for a in (0..ranking.m).rev() {
+        first -= usize::from(tips::has_tip(ranking.set, a));
+        spread_next(ranking, a, first, table);
     }
 }
 
@@ -81,9 +90,7 @@ pub fn name_tips(list: &[u8], plan: &mut [u8])
     requires { All (λ t. t < length list.now) plan.old }
     ensures { plan.new ≡ map (λ t. get_or list.now t 0) plan.old }
 {
-    let mut i = 0;
-    while i < plan.len() {
-        plan[i] = list[plan[i] as usize];
-        i += 1;
+    for tip in plan.iter_mut() {
+        *tip = list[usize::from(*tip)];
     }
 }

@@ -82,17 +82,6 @@ module _ {names m : ℕ} {lines xs : List ℕ} (k : RunSums names m 0 lines xs) 
         (le_or_lt a c);
   }
 
--- a whole row: all intervals of a width one more come next
-pub inside_next : {m : ℕ} {lines tab : List ℕ} {w a : ℕ} → m < a + w → Inside m lines tab w a → Inside m lines tab (w + 1) 0
-inside_next {m} {w} h i = record {
-  room = i.room;
-  narrower = λ c x l g. ⊎_elim
-      (λ y. let z : w ≡ x = omega arith in rw (← z) (i.row c (omega arith) (omega arith)))
-      (λ y. i.narrower c x y g)
-      (le_or_lt w x);
-  row = λ c l g. absurd (omega arith);
-}
-
 -- at first: an interval of no tip has no pairs
 pub inside-first : {m : ℕ} (lines tab : List ℕ) → m * m ≤ length tab → Inside m lines tab 1 0
 unfolding entry

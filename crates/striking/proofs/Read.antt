@@ -1,11 +1,13 @@
 -- What is read from the sums of the other lines: the pairs on a tip, with placements more.
-use Prim.Native.Nat.{ℕ, ◌+◌, ◌≤◌, ◌<◌, zero-le}
+use Prim.Native.Nat.{ℕ, ◌+◌, ◌*◌, ◌≤◌, ◌<◌, zero-le}
 use native.Mathlib.Omega.{arith}
 use mathlib.Core.Path.{◌≡◌, ap}
 use mathlib.Core.Logic.{⊎_elim}
 use mathlib.Core.Bool.{Bool, true, false, cond, ◌&&◌}
 use mathlib.Core.List.{List, [], ◌∷◌}
+use lib.Arith.{digits_lt}
 use lib.Dec.{T, T_not}
+use lib.ListN.{length}
 use Rattle.model.specs.Count.{count}
 use Rattle.model.specs.Plan.{has, choose2, Domain}
 use Rattle.model.specs.Interval.{low, high, lies, inside}
@@ -16,7 +18,7 @@ use Rattle.spans.specs.Spans.{inside_by, below, sums}
 use Rattle.spans.proofs.Below.{under, under-out, under_in, below_le, below_mono, length-sums, sums_at, summed}
 use Rattle.checking.proofs.Bounds.{inside_le}
 use Rattle.checking.proofs.Filled.{inside_by_ok}
-use Rattle.striking.specs.Striking.{Ready, Counted, RunSums, meeting_by, pairs_by}
+use Rattle.striking.specs.Striking.{Ready, Meeting, Counted, RunSums, meeting_by, pairs_by}
 
 -- more lines begin below a higher tip
 below_more : (lines : List ℕ) (x y e : ℕ) → x ≤ y → below lines x e ≤ below lines y e
@@ -60,10 +62,6 @@ meeting_ge m lines l h a w c e f g p q r = omega (
   below_more lines (c + 1) (h + 1) (a + w) (omega arith),
   before_le lines a l (c + 1) c (omega arith) (omega arith) p,
 )
-
--- with none more they are few too
-pub ready_none : {m q : ℕ} {xs : List ℕ} → Ready m q xs → Ready m 0 xs
-ready_none r = record { rack = r.rack; summed = r.summed; few = λ a w c e f g. omega (arith, r.few a w c e f g) }
 
 module _ {names m q : ℕ} {lines xs : List ℕ} (k : RunSums names m q lines xs) where
   pub ready : Ready m q xs
@@ -117,3 +115,18 @@ module _ {names m q : ℕ} {lines xs : List ℕ} (k : RunSums names m q lines xs
             (all_map (λ s l h. T_not (has names c) t (l.fits c (and_right (lies a w s) (has s c) h))) k.runs),
       ))
       (test (has names c)))
+
+-- THE FOUR PLACES of the interval are of the sums
+pub record InSums (m : ℕ) (xs : List ℕ) (l h a w : ℕ) : Type 0 where
+  pub last : (h + 1) * (m + 1) + (a + w) < length xs
+  pub left : a * (m + 1) + l < length xs
+  pub first : a * (m + 1) + (a + w) < length xs
+  pub next : l * (m + 1) + l < length xs
+
+pub in_sums : {m : ℕ} {xs : List ℕ} {l h a w : ℕ} → Meeting m xs l h a w → InSums m xs l h a w
+in_sums r = record {
+  last = rw r.size (digits_lt (omega (arith, r)) (omega (arith, r)));
+  left = rw r.size (digits_lt (omega (arith, r)) (omega (arith, r)));
+  first = rw r.size (digits_lt (omega (arith, r)) (omega (arith, r)));
+  next = rw r.size (digits_lt (omega (arith, r)) (omega (arith, r)));
+}

@@ -6,7 +6,7 @@ use Rattle.model.specs.Plan.{has, choose2}
 use Rattle.model.specs.CommonTip.{set_of}
 use Rattle.model.specs.Interval.{low, high, Line, inside as allowing, C}
 use Rattle.placements.specs.Repeated.{repeated}
-use Rattle.refusal.specs.declared.Refusal.{Refusal}
+use Rattle.refusal.specs.Told.{Refusal}
 use Rattle.refusal.specs.Refusal.{when, accepts}
 use Rattle.spans.specs.Spans.{sums_width, sums_size, sums, sum_at, inside_by, Summed}
 use Rattle.goals.specs.Check.{entry}

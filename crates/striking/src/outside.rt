@@ -1,117 +1,84 @@
 // The outside table: the most pairs outside each interval that has a tip.
 ghost use Rattle.std.specs.Prelude.{◌≡◌, List, ℕ, ◌+◌, ◌*◌, ◌-◌, ◌≤◌, ◌<◌, max, length};
-ghost use Rattle.model.specs.Limits.{most_tips};
 ghost use Rattle.model.specs.Count.{largest};
-ghost use Rattle.pair_count.specs.PairTable.{PairTable};
-ghost use Rattle.striking.specs.Striking.{Ready, RunSums, outside_by, before_by, behind_by, InsideAll, OutsideAll};
+ghost use Rattle.striking.specs.Striking.{RunSums, outside_by, before_by, behind_by, InsideAll, OutsideAll};
 
-use crate::inside;
+use crate::summed::{Interval, Lines};
 
-// Beside tip c of the interval of first tip e and width v; the interval of first tip f and width x is on the other side of the tip.
-fn outside_at(
-    names: u64,
-    m: usize,
-    e: usize,
-    v: usize,
-    c: usize,
-    f: usize,
-    x: usize,
-    pairs: &[u32],
-    sums: &[u32],
-    inner: &[u32],
-    outer: &[u32],
-) -> u64
-    requires { Ready m 0 sums.now × (m ≤ most_tips) × (m * m ≤ length inner.now) × (m * m ≤ length outer.now)
-        × (e + v ≤ m) × (e ≤ c) × (c < e + v) × (f + x ≤ m) × PairTable pairs.now }
-    ensures { result ≡ outside_by names m sums.now inner.now outer.now e v c f x }
-{
-    let wider = checking::entry_at(m, e, v, outer);
-    let other = checking::entry_at(m, f, x, inner);
-    wider + (inside::pairs_at(names, m, e, v, c, 0, pairs, sums) + other)
-}
-
-// The interval lies before a tip of one with the same first tip, or behind a tip of one with the same last tip.
-pub fn best_outside(
-    names: u64,
-    m: usize,
-    a: usize,
-    w: usize,
-    pairs: &[u32],
-    sums: &[u32],
-    inner: &[u32],
-    outer: &[u32],
-) -> u64
-    requires { Ready m 0 sums.now × (m ≤ most_tips) × (m * m ≤ length inner.now) × (m * m ≤ length outer.now) × (a + w ≤ m)
-        × PairTable pairs.now }
-    ensures { result ≡ max (largest (before_by names m sums.now inner.now outer.now a w) (m - (a + w)))
-        (largest (behind_by names m sums.now inner.now outer.now a w) a) }
-{
-    let mut best = 0;
-    let mut j = 0;
-    while a + w + j < m {
-        best = inside::larger(
-            best,
-            outside_at(
-                names,
-                m,
-                a,
-                w + 1 + j,
-                a + w,
-                a + w + 1,
-                j,
-                pairs,
-                sums,
-                inner,
-                outer,
-            ),
-        );
-        j += 1;
+impl Lines<'_> {
+    // Beside tip c of an interval; the other one is on the other side of the tip.
+    fn outside_at(
+        &self,
+        of: Interval,
+        c: usize,
+        other: Interval,
+        inner: &[u32],
+        outer: &[u32],
+    ) -> u64
+        requires inner_size { self.now.m * self.now.m ≤ length inner.now }
+        requires outer_size { self.now.m * self.now.m ≤ length outer.now }
+        requires inside { of.first + of.width ≤ self.now.m }
+        requires from { of.first ≤ c }
+        requires to { c < of.first + of.width }
+        requires other_inside { other.first + other.width ≤ self.now.m }
+        ensures { result ≡ outside_by self.now.names self.now.m self.now.sums.now inner.now outer.now of.first of.width c other.first other.width }
+    {
+        let beside = checking::entry_at(self.m, of.first, of.width, outer);
+        let across = checking::entry_at(self.m, other.first, other.width, inner);
+        beside + (self.pairs_at(of, c, 0) + across)
     }
-    let mut k = 0;
-    while k < a {
-        best = inside::larger(
-            best,
-            outside_at(
-                names,
-                m,
-                k,
-                a - k + w,
-                a - 1,
-                k,
-                a - (k + 1),
-                pairs,
-                sums,
-                inner,
-                outer,
-            ),
-        );
-        k += 1;
-    }
-    best
-}
 
-// The widest intervals first.
-pub fn fill_outside(
-    names: u64,
-    m: usize,
-    pairs: &[u32],
-    sums: &[u32],
-    inner: &[u32],
-    outer: &mut [u32],
-)
-    requires { ((lines : List ℕ) × RunSums names m 0 lines sums.now × InsideAll m lines inner.now) × (m * m ≤ length outer.old)
-        × PairTable pairs.now }
-    ensures { (lines : List ℕ) → RunSums names m 0 lines sums.now → InsideAll m lines inner.now
-        → OutsideAll m lines outer.new }
-{
-    let mut w = m;
-    while 0 < w {
-        let mut a = 0;
-        while a + w <= m {
-            let best = best_outside(names, m, a, w, pairs, sums, inner, outer);
-            outer[a * m + (a + (w - 1))] = best as u32;
-            a += 1;
+    // The interval lies before a tip of one with the same first tip, or behind a tip of one with the same last tip.
+    pub fn best_outside(&self, of: Interval, inner: &[u32], outer: &[u32]) -> u64
+        requires inner_size { self.now.m * self.now.m ≤ length inner.now }
+        requires outer_size { self.now.m * self.now.m ≤ length outer.now }
+        requires inside { of.first + of.width ≤ self.now.m }
+        ensures { result ≡ max
+            (largest (before_by self.now.names self.now.m self.now.sums.now inner.now outer.now of.first of.width)
+            (self.now.m - (of.first + of.width)))
+            (largest (behind_by self.now.names self.now.m self.now.sums.now inner.now outer.now of.first of.width) of.first) }
+    {
+        let (a, w) = (of.first, of.width);
+        let end = a + w;
+        let mut best = 0;
+        for j in 0..self.m - end {
+            let wider = Interval {
+                first: a,
+                width: w + 1 + j,
+            };
+            let other = Interval {
+                first: end + 1,
+                width: j,
+            };
+            best = self.outside_at(wider, end, other, inner, outer).max(best);
         }
-        w -= 1;
+        for k in 0..a {
+            let wider = Interval {
+                first: k,
+                width: a - k + w,
+            };
+            let other = Interval {
+                first: k,
+                width: a - (k + 1),
+            };
+            best = self.outside_at(wider, a - 1, other, inner, outer).max(best);
+        }
+        best
+    }
+
+    // The widest intervals first.
+    pub fn fill_outside(&self, inner: &[u32], outer: &mut [u32])
+        requires known { (lines : List ℕ) × RunSums self.now.names self.now.m 0 lines self.now.sums.now × InsideAll self.now.m lines inner.now }
+        requires size { self.now.m * self.now.m ≤ length outer.old }
+        ensures { (lines : List ℕ) → RunSums self.now.names self.now.m 0 lines self.now.sums.now → InsideAll self.now.m lines inner.now
+            → OutsideAll self.now.m lines outer.new }
+    {
+        let m = self.m;
+        for w in (1..m + 1).rev() {
+            for a in 0..m + 1 - w {
+                let best = self.best_outside(Interval { first: a, width: w }, inner, outer);
+                outer[a * m + (a + (w - 1))] = best as u32;
+            }
+        }
     }
 }

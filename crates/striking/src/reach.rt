@@ -1,235 +1,184 @@
 // The tips of a line with which some plan has the goal's pairs, from the inside table of all lines and the sums of the other lines.
-ghost use Rattle.std.specs.Prelude.{◌≡◌, cond, ◌↔◌, List, ℕ, ◌+◌, ◌*◌, ◌-◌, ◌^◌, ◌≤◌, ◌<◌, min, max, T, length, set as put};
-ghost use Rattle.model.specs.Limits.{most_tips, most_placements};
+ghost use Rattle.std.specs.Prelude.{◌≡◌, cond, ◌↔◌, List, ℕ, ◌+◌, ◌*◌, ◌-◌, ◌^◌, ◌≤◌, ◌<◌, T, length, IfSome, set as put};
+ghost use Rattle.std.specs.Option.{unwrap_or};
+ghost use Rattle.model.specs.Limits.{most_placements};
 ghost use Rattle.model.specs.Plan.{has, Domain};
 ghost use Rattle.model.specs.Interval.{low, high, C};
 ghost use Rattle.goals.specs.Tables.{Ends};
-ghost use Rattle.pair_count.specs.PairTable.{PairTable};
-ghost use Rattle.striking.specs.Striking.{Ready, Meeting, Counted, meeting_by, limit_by, open_by, around_by, ends_by, tips_by, Known, Followed};
+ghost use Rattle.striking.specs.Striking.{Counted, meeting_by, limit_by, open_by, around_by, ends_by, tips_by, Known, Followed};
 
-use crate::{inside, outside};
+use crate::summed::{Interval, Lines};
 
-// The placements of the lines lying within the interval that do not end before tip l or begin after tip h.
-fn meeting_at(m: usize, l: usize, h: usize, a: usize, w: usize, sums: &[u32]) -> u32
-    requires { Meeting m sums.now l h a w }
-    ensures { (result ≡ meeting_by m sums.now l h a w) × (result ≤ most_placements) }
-{
-    let width = m + 1;
-    let end = a + w;
-    let last = (h + 1) * width;
-    let first = a * width;
-    let next = l * width;
-    sums[last + end] + sums[first + l] - sums[first + end] - sums[next + l]
+// A line and the goal, with the other lines and the two tables of all lines.
+#[derive(Clone, Copy)]
+pub struct Reach<'a> {
+    pub others: Lines<'a>,
+    pub set: u64,
+    pub goal: u32,
+    pub inner: &'a [u32],
+    pub upper: &'a [u32],
+    ghost domain: { Domain others.m set },
+    ghost counted: { Counted others.m others.added set others.sums.now },
+    ghost inner_size: { others.m * others.m ≤ length inner.now },
+    ghost upper_size: { others.m * others.m ≤ length upper.now },
 }
 
-// No chain through the interval to a tip of the set with q placements more has more pairs.
-fn limit_at(
-    m: usize,
-    q: u32,
-    set: u64,
-    a: usize,
-    w: usize,
-    pairs: &[u32],
-    sums: &[u32],
-    inner: &[u32],
-    upper: &[u32],
-) -> u64
-    requires { Counted m q set sums.now × (m ≤ most_tips) × (m * m ≤ length inner.now) × (m * m ≤ length upper.now) × (a + w ≤ m)
-        × (a ≤ high set) × (low set < a + w) × PairTable pairs.now }
-    ensures { result ≡ limit_by m sums.now inner.now upper.now q set a w }
-{
-    let outside = checking::entry_at(m, a, w, upper);
-    let inside = checking::entry_at(m, a, w, inner);
-    let own = pair_count::pairs_among(pairs, q) as u64;
-    let meeting = meeting_at(m, tips::lowest(set), tips::highest(set), a, w, sums);
-    let more = q as u64 * meeting as u64;
-    outside + (inside + (more + own))
-}
-
-// The interval may have a tip of the set, and the goal can be had through it.
-fn is_open(
-    m: usize,
-    q: u32,
-    set: u64,
-    goal: u32,
-    a: usize,
-    w: usize,
-    pairs: &[u32],
-    sums: &[u32],
-    inner: &[u32],
-    upper: &[u32],
-) -> bool
-    requires { Counted m q set sums.now × (m ≤ most_tips) × (m * m ≤ length inner.now) × (m * m ≤ length upper.now) × (a + w ≤ m)
-        × PairTable pairs.now }
-    ensures { result ≡ open_by m sums.now inner.now upper.now q set goal a w }
-{
-    if tips::highest(set) < a {
-        return false;
+impl Reach<'_> {
+    // The placements of the other lines lying within the interval that do not end before the set or begin after it.
+    fn meeting_at(&self, of: Interval) -> u32
+        requires inside { of.first + of.width ≤ self.now.others.m }
+        requires from { of.first ≤ high self.now.set }
+        requires to { low self.now.set < of.first + of.width }
+        ensures meeting { result ≡ meeting_by self.now.others.m self.now.others.sums.now (low self.now.set) (high self.now.set) of.first of.width }
+        ensures few { result ≤ most_placements }
+    {
+        let l = tips::lowest(self.set);
+        let h = tips::highest(self.set);
+        let width = self.others.m + 1;
+        let end = of.first + of.width;
+        let last = (h + 1) * width;
+        let first = of.first * width;
+        let next = l * width;
+        let sums = self.others.sums;
+        sums[last + end] + sums[first + l] - sums[first + end] - sums[next + l]
     }
-    if a + w <= tips::lowest(set) {
-        return false;
+
+    // No chain through the interval to a tip of the set with the line's placements has more pairs.
+    fn limit_at(&self, of: Interval) -> u64
+        requires inside { of.first + of.width ≤ self.now.others.m }
+        requires from { of.first ≤ high self.now.set }
+        requires to { low self.now.set < of.first + of.width }
+        ensures { result ≡ limit_by self.now.others.m self.now.others.sums.now self.now.inner.now self.now.upper.now
+            self.now.others.added self.now.set of.first of.width }
+    {
+        let outside = checking::entry_at(self.others.m, of.first, of.width, self.upper);
+        let inside = checking::entry_at(self.others.m, of.first, of.width, self.inner);
+        let own = u64::from(pair_count::pairs_among(self.others.pairs, self.others.added));
+        let more = u64::from(self.others.added) * u64::from(self.meeting_at(of));
+        outside + (inside + (more + own))
     }
-    goal as u64 <= limit_at(m, q, set, a, w, pairs, sums, inner, upper)
-}
 
-// The bit of tip t if a chain ends there in the interval with the goal's pairs, where so many are outside; else 0.
-fn end_bit(
-    names: u64,
-    m: usize,
-    q: u32,
-    set: u64,
-    goal: u32,
-    outside: u64,
-    a: usize,
-    w: usize,
-    t: usize,
-    pairs: &[u32],
-    sums: &[u32],
-    inner: &[u32],
-) -> u64
-    requires { Ready m q sums.now × (m ≤ most_tips) × (m * m ≤ length inner.now) × (a + w ≤ m) × (a ≤ t) × (t < a + w) × (outside < 2 ^ 32)
-        × PairTable pairs.now }
-    ensures { result ≡ cond (ends_by names m sums.now inner.now q set goal outside a w t) (2 ^ t) 0 }
-{
-    if !tips::has_tip(set, t) {
-        return 0;
-    }
-    if outside + inside::split_at(names, m, a, w, t - a, q, pairs, sums, inner) < goal as u64 {
-        return 0;
-    }
-    1u64 << t
-}
-
-fn earlier(x: usize, y: usize) -> usize
-    ensures { result ≡ min x y }
-{
-    if x < y { x } else { y }
-}
-
-fn later(x: usize, y: usize) -> usize
-    ensures { result ≡ max x y }
-{
-    if x < y { y } else { x }
-}
-
-// No tip before the lowest of the set or after the highest is tried.
-fn ended_tips(
-    names: u64,
-    m: usize,
-    q: u32,
-    set: u64,
-    goal: u32,
-    outside: u64,
-    a: usize,
-    w: usize,
-    pairs: &[u32],
-    sums: &[u32],
-    inner: &[u32],
-) -> u64
-    requires { Ready m q sums.now × (m ≤ most_tips) × (m * m ≤ length inner.now) × (a + w ≤ m) × (outside < 2 ^ 32) × PairTable pairs.now
-        × Domain m set }
-    ensures { result ≡ tips_by names m sums.now inner.now q set goal outside a w }
-{
-    let end = earlier(a + w, tips::highest(set) + 1);
-    let mut kept = 0u64;
-    let mut t = earlier(end, later(a, tips::lowest(set)));
-    while t < end {
-        kept += end_bit(names, m, q, set, goal, outside, a, w, t, pairs, sums, inner);
-        t += 1;
-    }
-    kept
-}
-
-// The pairs outside the interval are stored, and the tips at which a chain ends in it found.
-fn follow(
-    names: u64,
-    m: usize,
-    q: u32,
-    set: u64,
-    goal: u32,
-    a: usize,
-    w: usize,
-    pairs: &[u32],
-    sums: &[u32],
-    inner: &[u32],
-    outer: &mut [u32],
-) -> u64
-    requires { Ready m q sums.now × (m ≤ most_tips) × (m * m ≤ length inner.now) × (m * m ≤ length outer.old) × (0 < w) × (a + w ≤ m)
-        × (around_by names m sums.now inner.now outer.old a w < 2 ^ 32) × PairTable pairs.now × Domain m set }
-    ensures kept { result ≡ tips_by names m sums.now inner.now q set goal
-        (around_by names m sums.now inner.now outer.old a w) a w }
-    ensures outer { outer.new ≡ put outer.old (a * m + (a + (w - 1)))
-        (around_by names m sums.now inner.now outer.old a w) }
-{
-    let outside = outside::best_outside(names, m, a, w, pairs, sums, inner, outer);
-    outer[a * m + (a + (w - 1))] = outside as u32;
-    ended_tips(names, m, q, set, goal, outside, a, w, pairs, sums, inner)
-}
-
-// The first open interval of the width from a first tip on, or the end; nothing is outside those passed by, as the goal cannot be had there.
-fn next_open(
-    m: usize,
-    q: u32,
-    set: u64,
-    goal: u32,
-    from: usize,
-    w: usize,
-    pairs: &[u32],
-    sums: &[u32],
-    inner: &[u32],
-    upper: &[u32],
-    outer: &mut [u32],
-) -> usize
-    requires { Counted m q set sums.now × (m ≤ most_tips) × (m * m ≤ length inner.now) × (m * m ≤ length upper.now)
-        × (m * m ≤ length outer.old) × (0 < w) × (from + w ≤ m + 1) × PairTable pairs.now }
-    ensures ends { (from ≤ result) × (result + w ≤ m + 1) }
-    ensures found { result + w ≤ m → T (open_by m sums.now inner.now upper.now q set goal result w) }
-    ensures outer { (names kept : ℕ) → (lines rest : List ℕ)
-        → Known names m q lines rest sums.now inner.now upper.now
-        → Followed m q set goal (open_by m sums.now inner.now upper.now q set goal) (C lines) rest
-        outer.old kept w from
-        → Followed m q set goal (open_by m sums.now inner.now upper.now q set goal) (C lines) rest
-        outer.new kept w result }
-{
-    let mut a = from;
-    while a + w <= m {
-        if is_open(m, q, set, goal, a, w, pairs, sums, inner, upper) {
-            return a;
+    // The interval may have a tip of the set, and the goal can be had through it.
+    #[tactic(auto, using(std::proofs::lemmas::Bool::Decides::nat_tests), unfolding(crate::specs::Striking::open_by))]
+    fn is_open(&self, of: Interval) -> bool
+        requires { of.first + of.width ≤ self.now.others.m }
+        ensures { result ≡ open_by self.now.others.m self.now.others.sums.now self.now.inner.now self.now.upper.now
+            self.now.others.added self.now.set self.now.goal of.first of.width }
+    {
+        if tips::highest(self.set) < of.first || of.first + of.width <= tips::lowest(self.set) {
+            return false;
         }
-        outer[a * m + (a + (w - 1))] = 0;
-        a += 1;
+        u64::from(self.goal) <= self.limit_at(of)
     }
-    a
-}
 
-// The widest intervals first.
-pub fn kept_tips(
-    names: u64,
-    m: usize,
-    q: u32,
-    set: u64,
-    goal: u32,
-    pairs: &[u32],
-    sums: &[u32],
-    inner: &[u32],
-    upper: &[u32],
-    outer: &mut [u32],
-) -> u64
-    requires { ((lines : List ℕ) × (rest : List ℕ) × Known names m q lines rest sums.now inner.now upper.now)
-        × (m * m ≤ length outer.old) × PairTable pairs.now × Domain m set }
-    ensures { (lines rest : List ℕ) → Known names m q lines rest sums.now inner.now upper.now → (t : ℕ)
-        → T (has result t) ↔ (T (has set t)
-        × Ends (open_by m sums.now inner.now upper.now q set goal) m (C lines) rest q goal t) }
-{
-    let mut kept = 0u64;
-    let mut w = m;
-    while 0 < w {
-        let mut a = next_open(m, q, set, goal, 0, w, pairs, sums, inner, upper, outer);
-        while a + w <= m {
-            kept = kept | follow(names, m, q, set, goal, a, w, pairs, sums, inner, outer);
-            a = next_open(m, q, set, goal, a + 1, w, pairs, sums, inner, upper, outer);
+    // The bit of tip t if a chain ends there in the interval with the goal's pairs, where so many are outside; else 0.
+    fn end_bit(&self, outside: u64, of: Interval, t: usize) -> u64
+        requires inside { of.first + of.width ≤ self.now.others.m }
+        requires from { of.first ≤ t }
+        requires to { t < of.first + of.width }
+        requires narrow { outside < 2 ^ 32 }
+        ensures { result ≡ cond (ends_by self.now.others.names self.now.others.m self.now.others.sums.now self.now.inner.now
+            self.now.others.added self.now.set self.now.goal outside of.first of.width t) (2 ^ t) 0 }
+    {
+        if !tips::has_tip(self.set, t) {
+            return 0;
         }
-        w -= 1;
+        let split = self
+            .others
+            .split_at(of, t - of.first, self.others.added, self.inner);
+        if outside + split < u64::from(self.goal) {
+            return 0;
+        }
+        1u64 << t
     }
-    kept
+
+    // No tip before the lowest of the set or after the highest is tried.
+    fn ended_tips(&self, outside: u64, of: Interval) -> u64
+        requires inside { of.first + of.width ≤ self.now.others.m }
+        requires narrow { outside < 2 ^ 32 }
+        ensures { result ≡ tips_by self.now.others.names self.now.others.m self.now.others.sums.now self.now.inner.now
+            self.now.others.added self.now.set self.now.goal outside of.first of.width }
+    {
+        let end = (of.first + of.width).min(tips::highest(self.set) + 1);
+        let begin = of.first.max(tips::lowest(self.set)).min(end);
+        let mut kept = 0u64;
+        for t in begin..end {
+            kept += self.end_bit(outside, of, t);
+        }
+        kept
+    }
+
+    // The pairs outside the interval are stored, and the tips at which a chain ends in it found.
+    fn follow(&self, of: Interval, outer: &mut [u32]) -> u64
+        requires size { self.now.others.m * self.now.others.m ≤ length outer.old }
+        requires some { 0 < of.width }
+        requires inside { of.first + of.width ≤ self.now.others.m }
+        requires narrow { around_by self.now.others.names self.now.others.m self.now.others.sums.now self.now.inner.now outer.old
+            of.first of.width < 2 ^ 32 }
+        ensures kept { result ≡ tips_by self.now.others.names self.now.others.m self.now.others.sums.now self.now.inner.now
+            self.now.others.added self.now.set self.now.goal
+            (around_by self.now.others.names self.now.others.m self.now.others.sums.now self.now.inner.now outer.old of.first of.width)
+            of.first of.width }
+        ensures outer { outer.new ≡ put outer.old (of.first * self.now.others.m + (of.first + (of.width - 1)))
+            (around_by self.now.others.names self.now.others.m self.now.others.sums.now self.now.inner.now outer.old of.first of.width) }
+    {
+        let outside = self.others.best_outside(of, self.inner, outer);
+        outer[of.first * self.others.m + (of.first + (of.width - 1))] = outside as u32;
+        self.ended_tips(outside, of)
+    }
+
+    // The first open interval of the width from a first tip on. Nothing is outside those passed by, as the goal cannot be had there.
+    // A loop of its own: one that also follows what it finds takes half as many instructions again for each interval passed by.
+    fn next_open(&self, from: usize, w: usize, outer: &mut [u32]) -> Option<usize>
+        requires size { self.now.others.m * self.now.others.m ≤ length outer.old }
+        requires some { 0 < w }
+        requires inside { from + w ≤ self.now.others.m + 1 }
+        ensures after { IfSome result (λ a. from ≤ a) }
+        ensures found { IfSome result (λ a. (a + w ≤ self.now.others.m)
+            × T (open_by self.now.others.m self.now.others.sums.now self.now.inner.now self.now.upper.now
+            self.now.others.added self.now.set self.now.goal a w)) }
+        ensures outer { (kept : ℕ) (lines rest : List ℕ)
+            → Known self.now.others.names self.now.others.m self.now.others.added lines rest
+            self.now.others.sums.now self.now.inner.now self.now.upper.now
+            → Followed self.now.others.m self.now.others.added self.now.set self.now.goal
+            (open_by self.now.others.m self.now.others.sums.now self.now.inner.now self.now.upper.now
+            self.now.others.added self.now.set self.now.goal) (C lines) rest outer.old kept w from
+            → Followed self.now.others.m self.now.others.added self.now.set self.now.goal
+            (open_by self.now.others.m self.now.others.sums.now self.now.inner.now self.now.upper.now
+            self.now.others.added self.now.set self.now.goal) (C lines) rest outer.new kept w
+            (unwrap_or result (self.now.others.m + 1 - w)) }
+    {
+        let m = self.others.m;
+        for a in from..m + 1 - w {
+            if self.is_open(Interval { first: a, width: w }) {
+                return Some(a);
+            }
+            outer[a * m + (a + (w - 1))] = 0;
+        }
+        None
+    }
+
+    // The widest intervals first.
+    pub fn kept_tips(&self, outer: &mut [u32]) -> u64
+        requires known { (lines : List ℕ) × (rest : List ℕ) × Known self.now.others.names self.now.others.m self.now.others.added lines rest
+            self.now.others.sums.now self.now.inner.now self.now.upper.now }
+        requires size { self.now.others.m * self.now.others.m ≤ length outer.old }
+        ensures { (lines rest : List ℕ) → Known self.now.others.names self.now.others.m self.now.others.added lines rest
+            self.now.others.sums.now self.now.inner.now self.now.upper.now → (t : ℕ)
+            → T (has result t) ↔ (T (has self.now.set t)
+            × Ends (open_by self.now.others.m self.now.others.sums.now self.now.inner.now self.now.upper.now
+            self.now.others.added self.now.set self.now.goal)
+            self.now.others.m (C lines) rest self.now.others.added self.now.goal t) }
+    {
+        let mut kept = 0u64;
+        for w in (1..self.others.m + 1).rev() {
+            // Searched for in two places: with one, the compiler makes both loops one.
+            let mut next = self.next_open(0, w, outer);
+            while let Some(a) = next {
+                kept |= self.follow(Interval { first: a, width: w }, outer);
+                next = self.next_open(a + 1, w, outer);
+            }
+        }
+        kept
+    }
 }

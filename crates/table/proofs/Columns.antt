@@ -6,10 +6,10 @@ use mathlib.Core.Path.{◌≡◌, refl, ap, sym, ◌∙◌}
 use mathlib.Core.Logic.{◌≢◌, ◌⊎◌, inl, inr}
 use mathlib.Core.List.{List}
 use lib.Arith.{digits_lt, digits_div, digits_mod}
-use lib.ListN.{length, get_or, set, replicate, length-set, length-replicate, get_or-replicate}
+use lib.ListN.{length, get_or, set, length-set, get_or-replicate}
 use lib.Seq.{get_or-set_same, get_or-set_other}
 use Rattle.model.specs.Limits.{most_placements, GoodPlacements}
-use Rattle.model.specs.Interval.{inside, split, C, table}
+use Rattle.model.specs.Interval.{inside, C, table}
 use Rattle.model.proofs.Tests.{le_or_lt}
 use Rattle.model.proofs.ListOf.{list_is}
 use Rattle.model.proofs.Largest.{largest_cong}
@@ -43,14 +43,6 @@ no_width : (lines : List ℕ) (a w : ℕ) → w ≡ 0 → C lines a w ≡ 0
 no_width lines a w e = rw e (C_zero lines a)
 
 module _ {m : ℕ} {lines : List ℕ} where
-  -- an empty table has no column that is right yet
-  pub columns_first : (xs : List ℕ) → length xs ≡ m * m → Columns m lines (replicate (length xs) 0) 0
-  columns_first xs s = record {
-    size = rw length-replicate s;
-    done = λ d e h l g. absurd (omega arith);
-    lower = λ d e h g. get_or-replicate (length xs) (d * m + e) 0 0 (rw s (digits_lt g (omega arith)));
-  }
-
   -- all columns are right
   pub columns_all : {xs : List ℕ} → 0 < m → Columns m lines xs m → xs ≡ table m lines
   unfolding table
@@ -81,17 +73,6 @@ module _ {m : ℕ} {lines xs : List ℕ} (k : RunSums m lines xs) (b : ℕ) (end
     room = length-zeros;
     right = λ d h l. zeros-at d (omega (arith, good.most)) ∙ sym (no_width lines d (b + 1 - d) (omega arith));
   }
-
-  pub rows_all : {table column : List ℕ} → Rows m lines table column b 0 → Columns m lines table (b + 1)
-  rows_all {table} r = record {
-    size = r.columns.size;
-    done = λ d e h l g. go d e h g l (le_or_lt b e);
-    lower = r.columns.lower;
-  }
-    where
-      go : (d e : ℕ) → d < m → e < m → e < b + 1 → (b ≤ e) ⊎ (e < b) → table_at m table d e ≡ C lines d (e + 1 - d)
-      go d e h g l (inl p) = let q : e ≡ b = omega arith in rw q (r.here d (omega arith) h)
-      go d e h g l (inr p) = r.columns.done d e h p g
 
   -- one row more
   pub rows_more : {table column : List ℕ} (a v : ℕ) → a ≤ b → v ≡ C lines a (b + 1 - a) → Rows m lines table column b (a + 1)

@@ -1,149 +1,151 @@
 // The table of best sharing: the most pairs of each interval of tips, from the lines summed by lowest and highest tip, one for each placement.
 #![tactic(auto)]
 
-ghost use Rattle.std.specs.Prelude.{◌≡◌, ℕ, ◌+◌, ◌*◌, ◌-◌, ◌^◌, ◌≤◌, ◌<◌, max, length, List};
+ghost use Rattle.std.specs.Prelude.{◌≡◌, ℕ, ◌+◌, ◌*◌, ◌-◌, ◌^◌, ◌<◌, max, length, List};
 ghost use Rattle.model.specs.Interval.{table as table_of};
 ghost use Rattle.pair_count.specs.PairTable.{PairTable};
 ghost use Rattle.table.specs.Cells.{split_of, Small, split_at, largest_at, SplitLists};
-ghost use Rattle.table.specs.Cells.{allows_of, zeros, cell_by, Cell, Differences, RunSums, ColumnsBy};
+ghost use Rattle.table.specs.Cells.{allows_of, cell_by, Cell, Differences, RunSums, ColumnsBy};
 
 // A column has a place for each tip, and one more.
 const COLUMN_SIZE: usize = model::MOST_TIPS + 1;
 
-// Signed numbers, because the processor selects by a signed comparison in one step, and by an unsigned one in two.
+// Signed numbers, because the processor selects by a signed comparison in one step, and by an unsigned one in two: the table of 64 tips
+// takes 53 microseconds so, and 57 by the unsigned `max`.
 fn larger(x: u32, y: u32) -> u32
-    requires { (x < 2 ^ 31) × (y < 2 ^ 31) }
+    requires x_small { x < 2 ^ 31 }
+    requires y_small { y < 2 ^ 31 }
     ensures { result ≡ max x y }
 {
-    if (x as i32) < (y as i32) { y } else { x }
+    (x as i32).max(y as i32) as u32
 }
 
 // The pairs of an interval if a tip takes its lines.
+#[tactic(auto, using(model::proofs::Limits::choose2_few), unfolding(crate::specs::Cells::split_of))]
 fn split_of(pairs: &[u32], base: u32, allow: u32, sum: u32, left: u32, right: u32) -> u32
-    requires { Small base allow sum left right × PairTable pairs.now }
-    ensures { (result ≡ split_of base allow sum left right) × (result < 2 ^ 31) }
+    requires numbers { Small base allow sum left right }
+    requires numbered { PairTable pairs.now }
+    ensures value { result ≡ split_of base allow sum left right }
+    ensures small { result < 2 ^ 31 }
 {
     pair_count::pairs_among(pairs, allow + sum - base) + (left + right)
 }
 
-// The split at place i of the lists.
-fn split_at(
-    i: usize,
+// The splits of an interval at the tips after its first, a place of each list for each tip.
+#[derive(Clone, Copy)]
+struct Splits<'a> {
     base: u32,
-    pairs: &[u32],
-    allows: &[u32],
-    sums: &[u32],
-    lefts: &[u32],
-    rights: &[u32],
-) -> u32
-    requires { (i < length allows.now) × SplitLists base allows.now sums.now lefts.now rights.now × PairTable pairs.now }
-    ensures { (result ≡ split_at base allows.now sums.now lefts.now rights.now i) × (result < 2 ^ 31) }
-{
-    split_of(pairs, base, allows[i], sums[i], lefts[i], rights[i])
+    pairs: &'a [u32],
+    allows: &'a [u32],
+    sums: &'a [u32],
+    lefts: &'a [u32],
+    rights: &'a [u32],
+    ghost lists: { SplitLists base allows.now sums.now lefts.now rights.now },
+    ghost numbered: { PairTable pairs.now },
 }
 
-// The largest of the first split and those at the tips after it: the innermost loop, two tips a turn.
-fn largest_split(
-    first: u32,
-    base: u32,
-    pairs: &[u32],
-    allows: &[u32],
-    sums: &[u32],
-    lefts: &[u32],
-    rights: &[u32],
-) -> u32
-    requires { (first < 2 ^ 31) × SplitLists base allows.now sums.now lefts.now rights.now × PairTable pairs.now }
-    ensures { result ≡ max first (largest_at base allows.now sums.now lefts.now rights.now) }
-{
-    let n = allows.len();
-    let half = n / 2;
-    let mut best = first;
-    let mut k = 0;
-    while k < half {
-        let here = split_at(2 * k, base, pairs, allows, sums, lefts, rights);
-        let next = split_at(2 * k + 1, base, pairs, allows, sums, lefts, rights);
-        best = larger(best, larger(here, next));
-        k += 1;
+impl Splits<'_> {
+    // The split at place i of the lists.
+    fn at(&self, i: usize) -> u32
+        requires { i < length self.now.allows.now }
+        ensures value { result ≡ split_at self.now.base self.now.allows.now self.now.sums.now self.now.lefts.now self.now.rights.now i }
+        ensures small { result < 2 ^ 31 }
+    {
+        split_of(
+            self.pairs,
+            self.base,
+            self.allows[i],
+            self.sums[i],
+            self.lefts[i],
+            self.rights[i],
+        )
     }
-    if 2 * half < n {
-        best = larger(
-            best,
-            split_at(2 * half, base, pairs, allows, sums, lefts, rights),
-        );
-    }
-    best
-}
 
-fn zeros() -> [u32; COLUMN_SIZE]
-    ensures { result ≡ zeros }
-{
-    [0u32; COLUMN_SIZE]
-}
-
-// For each tip c to b, how many lines that allow it have no tip after b.
-fn count_allows(m: usize, sums: &[u32], b: usize, allows: &mut [u32])
-    requires { Differences m sums.now b allows.old }
-    ensures { allows.new ≡ allows_of m sums.now b allows.old }
-{
-    let end = b + 1;
-    let mut c = 0;
-    while c < end {
-        let next = (c + 1) * (m + 1);
-        allows[c] = sums[next + end] - sums[next + c];
-        c += 1;
+    // The largest of them and the split at the first tip: the innermost loop. Two tips a turn, since the table of 64 tips takes 58 microseconds
+    // with one. By places, because four lists zipped would be pairs within pairs.
+    fn largest(&self, first: u32) -> u32
+        requires { first < 2 ^ 31 }
+        ensures { result ≡ max
+            first
+            (largest_at self.now.base self.now.allows.now self.now.sums.now self.now.lefts.now self.now.rights.now) }
+    {
+        let n = self.allows.len();
+        let mut best = first;
+        for k in 0..n / 2 {
+            best = larger(best, larger(self.at(2 * k), self.at(2 * k + 1)));
+        }
+        if n % 2 == 1 {
+            best = larger(best, self.at(n - 1));
+        }
+        best
     }
 }
 
-// The most pairs of the interval from tip a to tip b. No interval is left of tip a itself.
-fn cell(
+// What the table is filled from: the rack, the pairs among any number of placements, and the sums of the placements.
+#[derive(Clone, Copy)]
+struct Source<'a> {
     m: usize,
-    a: usize,
-    b: usize,
-    pairs: &[u32],
-    sums: &[u32],
-    allows: &[u32],
-    column: &[u32],
-    table: &[u32],
-) -> u32
-    requires { Cell m a b sums.now allows.now column.now table.now × PairTable pairs.now }
-    ensures { result ≡ cell_by m a b sums.now allows.now column.now table.now }
-{
-    let row = a * (m + 1);
-    let next = a + 1;
-    let end = b + 1;
-    let next_sum = row + next;
-    let end_sum = row + end;
-    let first_cell = a * m + a;
-    let end_cell = a * m + b;
-    let next_right = a + 2;
-    let end_right = b + 2;
-    let base = sums[end_sum];
-    let first = split_of(pairs, base, allows[a], sums[row + a], 0, column[next]);
-    largest_split(
-        first,
-        base,
-        pairs,
-        &allows[next..end],
-        &sums[next_sum..end_sum],
-        &table[first_cell..end_cell],
-        &column[next_right..end_right],
-    )
+    pairs: &'a [u32],
+    sums: &'a [u32],
+    ghost numbered: { PairTable pairs.now },
 }
 
-// Column b, from the diagonal up.
-fn fill_column(m: usize, b: usize, pairs: &[u32], sums: &[u32], table: &mut [u32])
-    requires { ((lines : List ℕ) × RunSums m lines sums.now) × (b < m) × ColumnsBy m sums.now table.old b × PairTable pairs.now }
-    ensures { ColumnsBy m sums.now table.new (b + 1) }
-{
-    let mut allows = zeros();
-    count_allows(m, sums, b, &mut allows);
-    let mut column = zeros();
-    let mut a = b + 1;
-    while 0 < a {
-        a -= 1;
-        let best = cell(m, a, b, pairs, sums, &allows, &column, table);
-        table[a * m + b] = best;
-        column[a] = best;
+impl Source<'_> {
+    // For each tip c to b, how many lines that allow it have no tip after b.
+    fn count_allows(&self, b: usize, allows: &mut [u32])
+        requires { Differences self.now.m self.now.sums.now b allows.old }
+        ensures { allows.new ≡ allows_of self.now.m self.now.sums.now b allows.old }
+    {
+        let end = b + 1;
+        for c in 0..end {
+            let next = (c + 1) * (self.m + 1);
+            allows[c] = self.sums[next + end] - self.sums[next + c];
+        }
+    }
+
+    // The most pairs of the interval from tip a to tip b. No interval is left of tip a itself.
+    fn cell(&self, a: usize, b: usize, allows: &[u32], column: &[u32], table: &[u32]) -> u32
+        requires { Cell self.now.m a b self.now.sums.now allows.now column.now table.now }
+        ensures { result ≡ cell_by self.now.m a b self.now.sums.now allows.now column.now table.now }
+    {
+        let row = a * (self.m + 1);
+        let next = a + 1;
+        let end = b + 1;
+        let base = self.sums[row + end];
+        let first = split_of(
+            self.pairs,
+            base,
+            allows[a],
+            self.sums[row + a],
+            0,
+            column[next],
+        );
+        let others = Splits {
+            base,
+            pairs: self.pairs,
+            allows: &allows[next..end],
+            sums: &self.sums[row + next..row + end],
+            lefts: &table[a * self.m + a..a * self.m + b],
+            rights: &column[a + 2..b + 2],
+        };
+        others.largest(first)
+    }
+
+    // Column b, from the diagonal up.
+    fn fill_column(&self, b: usize, table: &mut [u32])
+        requires runs { (lines : List ℕ) × RunSums self.now.m lines self.now.sums.now }
+        requires inside { b < self.now.m }
+        requires columns { ColumnsBy self.now.m self.now.sums.now table.old b }
+        ensures { ColumnsBy self.now.m self.now.sums.now table.new (b + 1) }
+    {
+        let mut allows = [0; COLUMN_SIZE];
+        self.count_allows(b, &mut allows);
+        let mut column = [0; COLUMN_SIZE];
+        for a in (0..b + 1).rev() {
+            let best = self.cell(a, b, &allows, &column, table);
+            table[a * self.m + b] = best;
+            column[a] = best;
+        }
     }
 }
 
@@ -152,10 +154,9 @@ pub fn fill_table(m: usize, pairs: &[u32], sums: &[u32], table: &mut [u32])
     requires { ((lines : List ℕ) × RunSums m lines sums.now) × (length table.old ≡ m * m) × PairTable pairs.now }
     ensures { (lines : List ℕ) → RunSums m lines sums.now → table.new ≡ table_of m lines }
 {
-    spans::clear(table);
-    let mut b = 0;
-    while b < m {
-        fill_column(m, b, pairs, sums, table);
-        b += 1;
+    table.fill(0);
+    let source = Source { m, pairs, sums };
+    for b in 0..m {
+        source.fill_column(b, table);
     }
 }

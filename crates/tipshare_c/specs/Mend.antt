@@ -1,7 +1,7 @@
 -- Mending as a caller in C sees it: the bytes of the mended file are the first count, those of the report the second.
 use Rattle.std.specs.Prelude.{ℕ, List}
-use Rattle.file_calls.specs.declared.Outcome.{Outcome}
-use Rattle.mend.specs.declared.Mended.{Mended}
+use Rattle.file_calls.specs.Outcomes.{Outcome}
+use Rattle.mend.specs.Answers.{Mended}
 use Rattle.mend.specs.Call.{mend_of, MendRuleOf}
 
 abbrev pub mend_outcome : Mended → Outcome

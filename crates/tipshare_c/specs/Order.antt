@@ -1,9 +1,9 @@
 -- What a caller in C is told of a placing order.
 use Rattle.std.specs.Prelude.{ℕ, ◌/◌, List, length}
-use Rattle.refusal.specs.declared.Refusal.{Refusal}
+use Rattle.refusal.specs.Told.{Refusal}
 use Rattle.refusal.specs.Refusal.{told}
 use Rattle.placing.specs.Numbers.{order_in}
-use Rattle.file_calls.specs.declared.Outcome.{Outcome}
+use Rattle.file_calls.specs.Outcomes.{Outcome}
 
 -- the refusal, and the number of parts where nothing is refused
 unfoldable pub order_outcome : Refusal → ℕ → Outcome

@@ -3,8 +3,9 @@ ghost use Rattle.std.specs.Prelude.{◌≡◌, ◌≤◌, length};
 ghost use Rattle.file_calls.specs.Panel.{alone_in, alone_plan_in, AloneRuleOf};
 ghost use Rattle.tipshare_c.specs.Answer.{if_short, number_in, answer_in, seen};
 
-use crate::answers::put_answer;
+use crate::answers::{PLACES, SHORT_ANSWER, put_answer};
 
+#[tactic(auto, unfolding(crate::specs::Answer::if_short))]
 #[unsafe(no_mangle)]
 pub extern "C" fn tipshare_alone(
     first: &[u8],
@@ -21,8 +22,8 @@ pub extern "C" fn tipshare_alone(
     ensures rule { 4 ≤ length answer.old
         → AloneRuleOf first.now second.now plan.new (seen result answer.new) }
 {
-    if answer.len() < 4 {
-        return 100;
+    if answer.len() < PLACES {
+        return SHORT_ANSWER;
     }
     let outcome = file_calls::alone_outcome(first, second, plan);
     put_answer(outcome, answer)

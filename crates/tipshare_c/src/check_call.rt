@@ -4,8 +4,9 @@ ghost use Rattle.file_calls.specs.Calls.{check_in};
 ghost use Rattle.file_calls.specs.Rules.{CheckRuleOf};
 ghost use Rattle.tipshare_c.specs.Answer.{number_in, answer_in, seen};
 
-use crate::answers::put_answer;
+use crate::answers::{PLACES, SHORT_ANSWER, put_answer};
 
+#[tactic(auto, unfolding(crate::specs::Answer::if_short))]
 #[unsafe(no_mangle)]
 pub extern "C" fn tipshare_check(
     file: &[u8],
@@ -21,8 +22,8 @@ pub extern "C" fn tipshare_check(
     ensures rule { 4 ≤ length answer.old
         → CheckRuleOf file.now plan.now claim table.now (seen result answer.new) }
 {
-    if answer.len() < 4 {
-        return 100;
+    if answer.len() < PLACES {
+        return SHORT_ANSWER;
     }
     let outcome = file_calls::check_outcome(file, plan, claim, table);
     put_answer(outcome, answer)

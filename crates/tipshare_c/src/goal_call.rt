@@ -3,8 +3,9 @@ ghost use Rattle.std.specs.Prelude.{◌≡◌, ◌≤◌, length};
 ghost use Rattle.file_calls.specs.Goal.{goal_in, goal_file_in, GoalRuleOf};
 ghost use Rattle.tipshare_c.specs.Answer.{if_short, number_in, answer_in, seen};
 
-use crate::answers::put_answer;
+use crate::answers::{PLACES, SHORT_ANSWER, put_answer};
 
+#[tactic(auto, unfolding(crate::specs::Answer::if_short))]
 #[unsafe(no_mangle)]
 pub extern "C" fn tipshare_goal(file: &[u8], goal: u32, out: &mut [u8], answer: &mut [u64]) -> u32
     ensures number { result ≡ number_in answer.old (goal_in file.now goal (length out.old)) }
@@ -15,8 +16,8 @@ pub extern "C" fn tipshare_goal(file: &[u8], goal: u32, out: &mut [u8], answer: 
     ensures rule { 4 ≤ length answer.old
         → GoalRuleOf file.now goal out.new (seen result answer.new) }
 {
-    if answer.len() < 4 {
-        return 100;
+    if answer.len() < PLACES {
+        return SHORT_ANSWER;
     }
     let outcome = file_calls::goal_outcome(file, goal, out);
     put_answer(outcome, answer)

@@ -3,8 +3,9 @@ ghost use Rattle.std.specs.Prelude.{◌≡◌, ◌≤◌, length};
 ghost use Rattle.file_calls.specs.Junior.{junior_in, junior_plan_in, JuniorRuleOf};
 ghost use Rattle.tipshare_c.specs.Answer.{if_short, number_in, answer_in, seen};
 
-use crate::answers::put_answer;
+use crate::answers::{PLACES, SHORT_ANSWER, put_answer};
 
+#[tactic(auto, unfolding(crate::specs::Answer::if_short))]
 #[unsafe(no_mangle)]
 pub extern "C" fn tipshare_junior(file: &[u8], plan: &mut [u8], answer: &mut [u64]) -> u32
     ensures number { result ≡ number_in answer.old (junior_in file.now (length plan.old)) }
@@ -14,8 +15,8 @@ pub extern "C" fn tipshare_junior(file: &[u8], plan: &mut [u8], answer: &mut [u6
     ensures rule { 4 ≤ length answer.old
         → JuniorRuleOf file.now (length plan.old) plan.new (seen result answer.new) }
 {
-    if answer.len() < 4 {
-        return 100;
+    if answer.len() < PLACES {
+        return SHORT_ANSWER;
     }
     let outcome = file_calls::junior_outcome(file, plan);
     put_answer(outcome, answer)

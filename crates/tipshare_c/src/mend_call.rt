@@ -1,12 +1,30 @@
 // Mending of a job file.
 ghost use Rattle.std.specs.Prelude.{◌≡◌, length};
+ghost use Rattle.file_calls.specs.Outcomes.{outcome_of};
 ghost use Rattle.mend.specs.Call.{out_after, report_after};
 ghost use Rattle.tipshare_c.specs.Answer.{if_short, number_in, answer_in, seen};
 ghost use Rattle.tipshare_c.specs.Mend.{mend_in, MendRuleIn};
 
-use crate::answers::put_answer;
-use file_calls::Outcome;
+use crate::answers::{PLACES, SHORT_ANSWER, put_answer};
+use file_calls::Counts;
+use refusal::Refused;
 
+// The counts are the bytes of the mended file and of the report.
+fn mend_outcome(file: &[u8], out: &mut [u8], report: &mut [u8]) -> Result<Counts, Refused>
+    ensures outcome { outcome_of result ≡ mend_in file.now (length out.old) (length report.old) }
+    ensures out { out.new ≡ out_after file.now out.old (length report.old) }
+    ensures report { report.new ≡ report_after file.now (length out.old) report.old }
+    ensures rule { MendRuleIn file.now out.new report.new (outcome_of result) }
+{
+    let mended = mend::mend(file, out, report)?;
+    Ok(Counts {
+        first: mended.bytes as u64,
+        second: mended.report_bytes as u64,
+        third: 0,
+    })
+}
+
+#[tactic(auto, unfolding(crate::specs::Answer::if_short))]
 #[unsafe(no_mangle)]
 pub extern "C" fn tipshare_mend(
     file: &[u8],
@@ -24,16 +42,8 @@ pub extern "C" fn tipshare_mend(
         (report_after file.now (length out.old) report.old) }
     ensures rule { MendRuleIn file.now out.new report.new (seen result answer.new) }
 {
-    if answer.len() < 4 {
-        return 100;
+    if answer.len() < PLACES {
+        return SHORT_ANSWER;
     }
-    let mended = mend::mend(file, out, report);
-    let refusal = mended.refusal;
-    let outcome = Outcome {
-        refusal,
-        first: mended.bytes as u64,
-        second: mended.report_bytes as u64,
-        third: 0,
-    };
-    put_answer(outcome, answer)
+    put_answer(mend_outcome(file, out, report), answer)
 }

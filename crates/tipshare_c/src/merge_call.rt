@@ -3,8 +3,9 @@ ghost use Rattle.std.specs.Prelude.{◌≡◌, ◌≤◌, length};
 ghost use Rattle.file_calls.specs.Panel.{merge_of_files, merge_file_in, MergeRuleOf};
 ghost use Rattle.tipshare_c.specs.Answer.{if_short, number_in, answer_in, seen};
 
-use crate::answers::put_answer;
+use crate::answers::{PLACES, SHORT_ANSWER, put_answer};
 
+#[tactic(auto, unfolding(crate::specs::Answer::if_short))]
 #[unsafe(no_mangle)]
 pub extern "C" fn tipshare_merge(
     first: &[u8],
@@ -21,8 +22,8 @@ pub extern "C" fn tipshare_merge(
     ensures rule { 4 ≤ length answer.old
         → MergeRuleOf first.now second.now out.new (seen result answer.new) }
 {
-    if answer.len() < 4 {
-        return 100;
+    if answer.len() < PLACES {
+        return SHORT_ANSWER;
     }
     let outcome = file_calls::merge_outcome(first, second, out);
     put_answer(outcome, answer)

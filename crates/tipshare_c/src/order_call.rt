@@ -1,32 +1,25 @@
 // The placing order of parts and rules as plain numbers.
 ghost use Rattle.std.specs.Prelude.{◌≡◌, ◌≤◌, length};
+ghost use Rattle.file_calls.specs.Outcomes.{outcome_of};
 ghost use Rattle.placing.specs.Numbers.{order_after_in, PlacingRuleIn};
 ghost use Rattle.tipshare_c.specs.Answer.{if_short, number_in, answer_in, seen};
-ghost use Rattle.tipshare_c.specs.Order.{order_outcome, ordered_in};
+ghost use Rattle.tipshare_c.specs.Order.{ordered_in};
 
-use crate::answers::put_answer;
-use file_calls::Outcome;
-use refusal::Refusal;
+use crate::answers::{PLACES, SHORT_ANSWER, put_answer};
+use file_calls::Counts;
+use refusal::Refused;
 
-fn order_outcome(refusal: Refusal, count: usize) -> Outcome
-    ensures { result ≡ order_outcome refusal count }
+// The count is that of the parts.
+fn order_outcome(parts: &[u32], rules: &[u32], order: &mut [u8]) -> Result<Counts, Refused>
+    ensures outcome { outcome_of result ≡ ordered_in parts.now rules.now (length order.old) }
+    ensures order { order.new ≡ order_after_in parts.now rules.now order.old }
+    ensures rule { PlacingRuleIn parts.now rules.now (length order.old) order.new (outcome_of result).refusal }
 {
-    if refusal.number != 0 {
-        return Outcome {
-            refusal,
-            first: 0,
-            second: 0,
-            third: 0,
-        };
-    }
-    Outcome {
-        refusal,
-        first: count as u64,
-        second: 0,
-        third: 0,
-    }
+    placing::numbers::order_numbers(parts, rules, order)?;
+    Ok(Counts::one((parts.len() / 4) as u64))
 }
 
+#[tactic(auto, unfolding(crate::specs::Answer::if_short))]
 #[unsafe(no_mangle)]
 pub extern "C" fn tipshare_order(
     parts: &[u32],
@@ -44,9 +37,8 @@ pub extern "C" fn tipshare_order(
         → PlacingRuleIn parts.now rules.now (length order.old) order.new
         (seen result answer.new).refusal }
 {
-    if answer.len() < 4 {
-        return 100;
+    if answer.len() < PLACES {
+        return SHORT_ANSWER;
     }
-    let refusal = placing::numbers::order_numbers(parts, rules, order);
-    put_answer(order_outcome(refusal, parts.len() / 4), answer)
+    put_answer(order_outcome(parts, rules, order), answer)
 }

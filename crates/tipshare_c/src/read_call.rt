@@ -3,15 +3,16 @@ ghost use Rattle.std.specs.Prelude.{◌≡◌};
 ghost use Rattle.file_calls.specs.Calls.{read_in};
 ghost use Rattle.tipshare_c.specs.Answer.{number_in, answer_in};
 
-use crate::answers::put_answer;
+use crate::answers::{PLACES, SHORT_ANSWER, put_answer};
 
+#[tactic(auto, unfolding(crate::specs::Answer::if_short))]
 #[unsafe(no_mangle)]
 pub extern "C" fn tipshare_read(file: &[u8], answer: &mut [u64]) -> u32
     ensures number { result ≡ number_in answer.old (read_in file.now) }
     ensures answer { answer.new ≡ answer_in answer.old (read_in file.now) }
 {
-    if answer.len() < 4 {
-        return 100;
+    if answer.len() < PLACES {
+        return SHORT_ANSWER;
     }
     let outcome = file_calls::read_outcome(file);
     put_answer(outcome, answer)

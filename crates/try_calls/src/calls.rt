@@ -1,291 +1,268 @@
-// The commands of the script: each takes the state and its numbers, prints what is answered, and gives the next state.
-ghost use Rattle.std.specs.Prelude.{◌<◌};
-
-use crate::record::{room, with_field, with_number};
-use crate::shown::{byte, say, show_board, show_bytes, show_places, word};
-use crate::words::{
-    ADD, BELOW, BEST, BYTES, CLOSE, COMMON, FILE, KEEP, MARGIN, NUMBER, OFF, PAIRS, PLACE, PLAN,
-    QUICK, RECORD, STAGE, TABLE, TIPS, TOP, WRITE,
-};
-use board::{Answer, Board, Shared, Written};
-use head::Mounted;
+// The calls of the script: each prints what it answers, and gives the next state.
+use crate::record::{Patch, State};
+use crate::shown::{Back, Told, Values};
+use board::{Board, Common, Stage};
+use refusal::Refused;
 use std::io;
 use std::io::Write;
-use try_lib::{junk_file, junk_plan, junk_table, size, sum};
-
-// What junk_plan and junk_file, and junk_table, are filled with.
-const BLANK: u64 = 170;
-
-const BLANK_PLACE: u64 = 2863311530;
+use try_lib::{FILE_ROOM, JUNK, JUNK_PLACE, PLAN_ROOM, TABLE_ROOM};
 
 // The most lines that are filled at once.
 const MOST_TIMES: usize = 1000;
 
-// A number that the script does not give.
-pub(crate) const NOT_GIVEN: u64 = 18446744073709551615;
-
-// The board, the one that is held beside it, and the bytes of a job file.
+// A call on the board. A room that is not given is all of the buffer; without a mounted tip none is.
 #[derive(Clone, Copy)]
-pub(crate) struct State {
-    pub(crate) board: Board,
-    pub(crate) held: Board,
-    pub(crate) file: [u8; 4624],
+pub(crate) enum Call {
+    Open {
+        rack: usize,
+    },
+    Add {
+        set: u64,
+        quantity: u8,
+    },
+    Fill(Fill),
+    Close,
+    CommonTip,
+    Keep {
+        k: u16,
+    },
+    Quick {
+        room: Option<usize>,
+        mounted: Option<usize>,
+    },
+    Best {
+        room: Option<usize>,
+        places: Option<usize>,
+        mounted: Option<usize>,
+    },
+    Write {
+        room: Option<usize>,
+    },
 }
 
-// The numbers of a line.
+// So many lines: line i has the set moved up by i mod `sets` tips, and i mod `quantities` more placements.
 #[derive(Clone, Copy)]
-pub(crate) struct Numbers {
-    pub(crate) a: u64,
-    pub(crate) b: u64,
-    pub(crate) c: u64,
-    pub(crate) d: u64,
-    pub(crate) e: u64,
+pub(crate) struct Fill {
+    pub(crate) times: usize,
+    pub(crate) set: u64,
+    pub(crate) sets: usize,
+    pub(crate) quantity: usize,
+    pub(crate) quantities: usize,
 }
 
-fn show_number<W: Write>(out: &mut W, number: u32, place: usize) -> io::Result<()> {
-    say(out, NUMBER, number as u64)?;
-    say(out, PLACE, place as u64)
-}
-
-// The answer's board is the next one.
-fn answered<W: Write>(out: &mut W, state: State, answer: Answer) -> io::Result<State> {
-    let mut next = state;
-    let given = next.board;
-    let back = answer.board;
-    show_number(out, answer.number, answer.place)?;
-    show_board(out, given, back)?;
-    next.board = back;
-    Ok(next)
-}
-
-pub(crate) fn open<W: Write>(out: &mut W, state: State, numbers: Numbers) -> io::Result<State> {
-    answered(out, state, Board::open(numbers.a as usize))
-}
-
-pub(crate) fn close<W: Write>(out: &mut W, state: State) -> io::Result<State> {
-    let board = state.board;
-    answered(out, state, board.close())
-}
-
-// How far the i-th line is moved.
-fn turned(i: u64, turns: u64) -> u64
-    ensures { result < 64 }
-{
-    if turns == 0 {
-        return 0;
+impl Fill {
+    // The set of line i.
+    fn set_at(&self, i: usize) -> u64 {
+        let turn = i.checked_rem(self.sets).unwrap_or(0);
+        let turn = u32::try_from(turn).unwrap_or(u32::MAX);
+        self.set.checked_shl(turn).unwrap_or(0)
     }
-    let turn = i % turns;
-    if turn < 64 { turn } else { 0 }
-}
 
-// Adds lines one by one, and shows the answer to the last, with all that they changed.
-pub(crate) fn fill<W: Write>(out: &mut W, state: State, numbers: Numbers) -> io::Result<State> {
-    let times = room(numbers.a, MOST_TIMES);
-    let set = numbers.b;
-    let sets = numbers.c;
-    let quantity = numbers.d;
-    let quantities = numbers.e;
-    let board = state.board;
-    let mut answer = Answer {
-        board,
-        number: 0,
-        place: 0,
-    };
-    for i in 0..times {
-        let given = answer.board;
-        let placed = byte(sum(quantity, turned(i as u64, quantities)));
-        answer = given.add(set << turned(i as u64, sets), placed);
+    // The quantity of line i.
+    fn quantity_at(&self, i: usize) -> u8 {
+        let more = i.checked_rem(self.quantities).unwrap_or(0);
+        u8::try_from(self.quantity.saturating_add(more)).unwrap_or(u8::MAX)
     }
-    answered(out, state, answer)
+
+    // Adds the lines one by one, and gives what is told of the last.
+    fn add_to(&self, board: &mut Board) -> Result<(), Refused> {
+        let mut told = Ok(());
+        for i in 0..self.times.min(MOST_TIMES) {
+            told = board.add(self.set_at(i), self.quantity_at(i));
+        }
+        told
+    }
 }
 
-pub(crate) fn add<W: Write>(out: &mut W, state: State, numbers: Numbers) -> io::Result<State> {
-    fill(
-        out,
-        state,
-        Numbers {
-            a: 1,
-            b: numbers.a,
-            c: 1,
-            d: numbers.b,
-            e: 1,
-        },
-    )
-}
-
-pub(crate) fn common<W: Write>(out: &mut W, state: State) -> io::Result<State> {
-    let board = state.board;
-    let answer = board.common_tip();
-    let back = answer.board;
-    show_number(out, answer.number, answer.place)?;
-    say(out, TOP, answer.top as u64)?;
-    say(out, OFF, answer.off as u64)?;
-    say(out, TIPS, answer.tips)?;
-    show_board(out, board, back)?;
-    Ok(state)
-}
-
-fn bound(k: u64) -> u16 {
-    if k < 65536 { k as u16 } else { 65535 }
-}
-
-fn show_margin<W: Write>(out: &mut W, margin: i32) -> io::Result<()> {
-    let words = if margin < 0 { BELOW } else { MARGIN };
-    say(out, words, size(margin))
-}
-
-pub(crate) fn keep<W: Write>(out: &mut W, state: State, numbers: Numbers) -> io::Result<State> {
-    let mut next = state;
-    let board = next.board;
-    let answer = board.keep(bound(numbers.a));
-    let back = answer.board;
-    show_number(out, answer.number, answer.place)?;
-    show_margin(out, answer.margin)?;
-    show_board(out, board, back)?;
-    next.held = back;
-    Ok(next)
+// The part of a buffer that is lent.
+fn lent<T>(buffer: &mut [T], room: Option<usize>) -> &mut [T] {
+    let all = buffer.len();
+    let room = room.map_or(all, |room| room.min(all));
+    &mut buffer[..room]
 }
 
 // How much of a buffer an accepted call writes; a refused one writes none of it.
-fn written(number: u32, accepted: usize) -> usize {
-    if number == 0 { accepted } else { 0 }
+fn written<T>(told: &Result<T, Refused>, accepted: usize) -> usize {
+    if told.is_ok() { accepted } else { 0 }
 }
 
-// The tip on the head; a number that is not given stands for none.
-fn mounted(number: u64) -> Mounted {
-    if number == NOT_GIVEN {
-        return Mounted::Nothing;
-    }
-    Mounted::Tip(number as usize)
+// Prints what a call tells that was given one board and leaves another.
+fn show_told<W: Write, T>(
+    out: &mut W,
+    given: &Board,
+    told: &Result<T, Refused>,
+    left: &Board,
+) -> io::Result<()> {
+    let back = Back::new(given, left);
+    writeln!(out, "{}{back}", Told::new(told))
 }
 
-fn quick_in(board: Board, on: Mounted, plan: &mut [u8], lent: u64) -> Shared {
-    let room = room(lent, plan.len());
-    board.quick(on, &mut plan[..room])
+fn common_tip<W: Write>(out: &mut W, board: &Board) -> io::Result<()> {
+    let told = board.common_tip();
+    write!(out, "{}", Told::new(&told))?;
+    let Common { top, off, tips } = told.unwrap_or(Common {
+        top: 0,
+        off: 0,
+        tips: 0,
+    });
+    let back = Back::new(board, board);
+    writeln!(out, " top {top} off {off} tips {tips}{back}")
 }
 
-pub(crate) fn quick<W: Write>(out: &mut W, state: State, numbers: Numbers) -> io::Result<State> {
-    let board = state.board;
-    let mut plan = junk_plan();
-    let answer = quick_in(board, mounted(numbers.b), &mut plan, numbers.a);
-    let back = answer.board;
-    show_number(out, answer.number, answer.place)?;
-    say(out, PAIRS, answer.pairs as u64)?;
-    word(out, PLAN)?;
-    show_bytes(out, &plan, BLANK, written(answer.number, board.count))?;
-    show_board(out, board, back)?;
-    Ok(state)
+// Gives the board that is kept.
+fn keep<W: Write>(out: &mut W, board: &Board, k: u16) -> io::Result<Board> {
+    let mut kept = *board;
+    let told = kept.keep(k);
+    // The margin is told with the refusal of too small a k too.
+    let margin = told.unwrap_or_else(|unkept| unkept.margin);
+    let told = told.map_err(|unkept| unkept.refused);
+    let name = if margin < 0 { "below" } else { "margin" };
+    let size = margin.unsigned_abs();
+    let back = Back::new(board, &kept);
+    writeln!(out, "{} {name} {size}{back}", Told::new(&told))?;
+    Ok(kept)
 }
 
-fn best_in(
-    board: Board,
-    on: Mounted,
-    plan: &mut [u8],
-    lent: u64,
-    table: &mut [u32],
-    places: u64,
-) -> Shared {
-    let plan_room = room(lent, plan.len());
-    let table_room = room(places, table.len());
-    board.best(on, &mut plan[..plan_room], &mut table[..table_room])
+fn quick<W: Write>(
+    out: &mut W,
+    board: &Board,
+    room: Option<usize>,
+    mounted: Option<usize>,
+) -> io::Result<()> {
+    let mut plan = [JUNK; PLAN_ROOM];
+    let told = board.quick(mounted, lent(&mut plan, room));
+    let plan = Values::new(&plan, JUNK, written(&told, board.count));
+    let back = Back::new(board, board);
+    write!(out, "{} pairs {}", Told::new(&told), told.unwrap_or(0))?;
+    writeln!(out, " plan{plan}{back}")
 }
 
-// The places that a table has for the rack.
-fn square(rack: usize) -> usize {
-    if rack <= 64 { rack * rack } else { 0 }
-}
-
-pub(crate) fn best<W: Write>(out: &mut W, state: State, numbers: Numbers) -> io::Result<State> {
-    let board = state.board;
-    let mut plan = junk_plan();
-    let mut table = junk_table();
-    let answer = best_in(
-        board,
-        mounted(numbers.c),
-        &mut plan,
-        numbers.a,
-        &mut table,
-        numbers.b,
-    );
-    let back = answer.board;
-    show_number(out, answer.number, answer.place)?;
-    say(out, PAIRS, answer.pairs as u64)?;
-    word(out, PLAN)?;
-    show_bytes(out, &plan, BLANK, written(answer.number, board.count))?;
-    word(out, TABLE)?;
-    show_places(
-        out,
+fn best<W: Write>(
+    out: &mut W,
+    board: &Board,
+    room: Option<usize>,
+    places: Option<usize>,
+    mounted: Option<usize>,
+) -> io::Result<()> {
+    let mut plan = [JUNK; PLAN_ROOM];
+    let mut table = [JUNK_PLACE; TABLE_ROOM];
+    let told = board.best(mounted, lent(&mut plan, room), lent(&mut table, places));
+    let plan = Values::new(&plan, JUNK, written(&told, board.count));
+    let table = Values::new(
         &table,
-        BLANK_PLACE,
-        written(answer.number, square(board.rack)),
-    )?;
-    show_board(out, board, back)?;
-    Ok(state)
+        JUNK_PLACE,
+        written(&told, board.rack.saturating_mul(board.rack)),
+    );
+    let back = Back::new(board, board);
+    write!(out, "{} pairs {}", Told::new(&told), told.unwrap_or(0))?;
+    writeln!(out, " plan{plan} table{table}{back}")
 }
 
-fn write_in(board: Board, file: &mut [u8], lent: u64) -> Written {
-    let room = room(lent, file.len());
-    board.write(&mut file[..room])
+// Gives the file that is written.
+fn write<W: Write>(out: &mut W, board: &Board, room: Option<usize>) -> io::Result<[u8; FILE_ROOM]> {
+    let mut file = [JUNK; FILE_ROOM];
+    let told = board.write(lent(&mut file, room));
+    let length = told.unwrap_or(0);
+    let bytes = Values::new(&file, JUNK, length);
+    let back = Back::new(board, board);
+    write!(out, "{} bytes {length}", Told::new(&told))?;
+    writeln!(out, " file{bytes}{back}")?;
+    Ok(file)
 }
 
-pub(crate) fn write<W: Write>(out: &mut W, state: State, numbers: Numbers) -> io::Result<State> {
-    let mut next = state;
-    let board = next.board;
-    let mut file = junk_file();
-    let answer = write_in(board, &mut file, numbers.a);
-    let back = answer.board;
-    show_number(out, answer.number, answer.place)?;
-    say(out, BYTES, answer.bytes as u64)?;
-    word(out, FILE)?;
-    show_bytes(out, &file, BLANK, answer.bytes)?;
-    show_board(out, board, back)?;
-    next.file = file;
-    Ok(next)
-}
+impl State {
+    pub(crate) fn call<W: Write>(&mut self, out: &mut W, call: Call) -> io::Result<()> {
+        let given = self.board;
+        match call {
+            Call::Open { rack } => {
+                let opened = Board::open(rack);
+                self.board = opened.unwrap_or(Board::blank());
+                show_told(out, &given, &opened, &self.board)
+            }
+            Call::Add { set, quantity } => {
+                let told = self.board.add(set, quantity);
+                show_told(out, &given, &told, &self.board)
+            }
+            Call::Fill(fill) => {
+                let told = fill.add_to(&mut self.board);
+                show_told(out, &given, &told, &self.board)
+            }
+            Call::Close => {
+                let told = self.board.close();
+                show_told(out, &given, &told, &self.board)
+            }
+            Call::CommonTip => common_tip(out, &given),
+            Call::Keep { k } => {
+                self.held = keep(out, &given, k)?;
+                Ok(())
+            }
+            Call::Quick { room, mounted } => quick(out, &given, room, mounted),
+            Call::Best {
+                room,
+                places,
+                mounted,
+            } => best(out, &given, room, places, mounted),
+            Call::Write { room } => {
+                self.file = write(out, &given, room)?;
+                Ok(())
+            }
+        }
+    }
 
-fn read_in(file: &[u8], length: u64) -> Answer {
-    let length = room(length, file.len());
-    Board::read(&file[..length])
-}
+    // Reads the first bytes of the file, with some replaced; what is read is held.
+    pub(crate) fn read<W: Write>(
+        &mut self,
+        out: &mut W,
+        length: usize,
+        patches: &[Patch],
+    ) -> io::Result<()> {
+        let mut file = self.file;
+        for patch in patches {
+            patch.put(&mut file);
+        }
+        let read = Board::read(&file[..length.min(FILE_ROOM)]);
+        self.held = read.unwrap_or(Board::blank());
+        show_told(out, &self.board, &read, &self.held)
+    }
 
-pub(crate) fn read<W: Write>(out: &mut W, state: State, numbers: Numbers) -> io::Result<State> {
-    let mut next = state;
-    let file = next.file;
-    let once = with_number(file, numbers.b, numbers.c, 1);
-    let bytes = with_number(once, numbers.d, numbers.e, 1);
-    let shown = answered(out, state, read_in(&bytes, numbers.a))?;
-    let back = shown.board;
-    next.held = back;
-    Ok(next)
-}
-
-// The record in a stage, then each call on it.
-pub(crate) fn every<W: Write>(out: &mut W, state: State, numbers: Numbers) -> io::Result<State> {
-    let mut record = state;
-    let given = state.board;
-    let board = with_field(given, STAGE, numbers.a);
-    record.board = board;
-    word(out, RECORD)?;
-    show_board(out, Board::open(1).board, board)?;
-    let mut few = numbers;
-    few.a = 1;
-    few.b = 1;
-    word(out, ADD)?;
-    add(out, record, few)?;
-    word(out, CLOSE)?;
-    close(out, record)?;
-    word(out, COMMON)?;
-    common(out, record)?;
-    few.a = 5;
-    word(out, KEEP)?;
-    keep(out, record, few)?;
-    few.a = NOT_GIVEN;
-    few.b = NOT_GIVEN;
-    word(out, QUICK)?;
-    quick(out, record, few)?;
-    word(out, BEST)?;
-    best(out, record, few)?;
-    word(out, WRITE)?;
-    write(out, record, few)?;
-    Ok(state)
+    // The record in a stage, then each call on it.
+    pub(crate) fn every<W: Write>(&self, out: &mut W, stage: Stage) -> io::Result<()> {
+        let record = Board {
+            stage,
+            ..self.board
+        };
+        writeln!(out, " record{}", Back::new(&Board::blank(), &record))?;
+        let (room, places, mounted) = (None, None, None);
+        let calls = [
+            (
+                "add",
+                Call::Add {
+                    set: 1,
+                    quantity: 1,
+                },
+            ),
+            ("close", Call::Close),
+            ("common", Call::CommonTip),
+            ("keep", Call::Keep { k: 5 }),
+            ("quick", Call::Quick { room, mounted }),
+            (
+                "best",
+                Call::Best {
+                    room,
+                    places,
+                    mounted,
+                },
+            ),
+            ("write", Call::Write { room }),
+        ];
+        for (name, call) in calls {
+            write!(out, " {name}")?;
+            let mut state = State {
+                board: record,
+                ..*self
+            };
+            state.call(out, call)?;
+        }
+        Ok(())
+    }
 }

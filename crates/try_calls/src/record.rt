@@ -1,86 +1,93 @@
-// Records and files changed by hand.
-ghost use Rattle.std.specs.Prelude.{◌≤◌};
-
-use crate::shown::byte;
-use crate::words::{COUNT, RACK, SET};
+// The state of the script, and records and files changed by hand.
 use board::{Board, Stage};
+use try_lib::{FILE_ROOM, JUNK};
 
-// How much of so many values is meant.
-pub(crate) fn room(x: u64, most: usize) -> usize
-    ensures { result ≤ most }
-{
-    if x < most as u64 { x as usize } else { most }
+// The board, the one that is held beside it, and the bytes of a job file.
+#[derive(Clone, Copy)]
+pub(crate) struct State {
+    pub(crate) board: Board,
+    pub(crate) held: Board,
+    pub(crate) file: [u8; FILE_ROOM],
 }
 
-fn stage_of(x: u64) -> Stage {
-    if x == 0 { Stage::Open } else { Stage::Closed }
+// A change by hand. A place past every buffer changes nothing.
+#[derive(Clone, Copy)]
+pub(crate) enum Edit {
+    Hold,
+    Take,
+    Rack(usize),
+    Stage(Stage),
+    Count(usize),
+    Sets {
+        first: usize,
+        last: usize,
+        set: u64,
+    },
+    Quantities {
+        first: usize,
+        last: usize,
+        quantity: u8,
+    },
+    Byte(Patch),
+    Put {
+        at: usize,
+        number: u64,
+    },
 }
 
-// The record with another rack size, stage or number of lines.
-pub(crate) fn with_field(board: Board, field: u64, x: u64) -> Board {
-    let stage = board.stage;
-    let sets = board.sets;
-    let quantities = board.quantities;
-    match field {
-        RACK => Board {
-            rack: x as usize,
-            stage,
-            count: board.count,
-            sets,
-            quantities,
-        },
-        COUNT => Board {
-            rack: board.rack,
-            stage,
-            count: x as usize,
-            sets,
-            quantities,
-        },
-        _ => Board {
-            rack: board.rack,
-            stage: stage_of(x),
-            count: board.count,
-            sets,
-            quantities,
-        },
-    }
+// A byte for a place of the file.
+#[derive(Clone, Copy)]
+pub(crate) struct Patch {
+    pub(crate) at: usize,
+    pub(crate) byte: u8,
 }
 
-// The record with another set or quantity from one place to another.
-pub(crate) fn with_lines(board: Board, list: u64, first: u64, last: u64, x: u64) -> Board {
-    let stage = board.stage;
-    let mut sets = board.sets;
-    let mut quantities = board.quantities;
-    let from = room(first, 512);
-    let until = room(last, 511) + 1;
-    for i in from..until {
-        sets[i] = if list == SET { x } else { sets[i] };
-        quantities[i] = if list == SET { quantities[i] } else { byte(x) };
-    }
-    Board {
-        rack: board.rack,
-        stage,
-        count: board.count,
-        sets,
-        quantities,
+// Fills the values from one place to another.
+fn fill<T: Copy>(values: &mut [T], first: usize, last: usize, value: T) {
+    for place in values.iter_mut().take(last.saturating_add(1)).skip(first) {
+        *place = value;
     }
 }
 
-// The file with a number of up to eight bytes from the place on, the highest first; as it is where that is past its end.
-pub(crate) fn with_number(file: [u8; 4624], at: u64, x: u64, n: usize) -> [u8; 4624]
-    requires { n ≤ 8 }
-{
-    let mut bytes = file;
-    if 4616 < at {
-        return bytes;
+// Puts the bytes into the file from a place on, but for those past its end.
+fn put(file: &mut [u8], at: usize, bytes: &[u8]) {
+    for (place, byte) in file.iter_mut().skip(at).zip(bytes) {
+        *place = *byte;
     }
-    let from = at as usize;
-    let mut rest = x;
-    let mut i = n;
-    while 0 < i {
-        i -= 1;
-        bytes[from + i] = byte(rest & 255);
-        rest >>= 8;
+}
+
+impl Patch {
+    pub(crate) fn put(&self, file: &mut [u8]) {
+        put(file, self.at, &[self.byte]);
     }
-    bytes
+}
+
+impl State {
+    pub(crate) fn new() -> State {
+        let board = Board::blank();
+        State {
+            board,
+            held: board,
+            file: [JUNK; FILE_ROOM],
+        }
+    }
+
+    pub(crate) fn edit(&mut self, edit: Edit) {
+        let State { board, held, file } = self;
+        match edit {
+            Edit::Hold => *held = *board,
+            Edit::Take => *board = *held,
+            Edit::Rack(rack) => board.rack = rack,
+            Edit::Stage(stage) => board.stage = stage,
+            Edit::Count(count) => board.count = count,
+            Edit::Sets { first, last, set } => fill(&mut board.sets, first, last, set),
+            Edit::Quantities {
+                first,
+                last,
+                quantity,
+            } => fill(&mut board.quantities, first, last, quantity),
+            Edit::Byte(patch) => patch.put(file),
+            Edit::Put { at, number } => put(file, at, &number.to_be_bytes()),
+        }
+    }
 }

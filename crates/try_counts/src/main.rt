@@ -2,78 +2,94 @@
 // Each assignment is tried twice: its variables are counted, and it is a board of single tips on which common tip and keep are called.
 #![tactic(auto)]
 
-ghost use Rattle.std.specs.Prelude.{◌≤◌};
-
+use board::Board;
+use std::alloc::{AllocError, Global};
 use std::io;
 use std::io::{BufWriter, Write};
-use try_lib::{closed_board, digits, off, one_if, show, sum, with_tips};
+use try_lib::{Line, board_of, off, set_of, words};
 
-// How many assignments are within the bound, have boards whose common tip has at most `bound` lines off it, and have boards that keep accepts for it.
-#[derive(Clone, Copy)]
+// How many assignments are within the bound, have boards whose common tip has at most `bound` lines off it, and have boards
+// that keep accepts for it.
+#[derive(Clone, Copy, Default)]
 struct Counts {
     within: u64,
     common: u64,
     kept: u64,
 }
 
-// The counts with one assignment more.
-fn counted(before: Counts, code: u64, n: usize, rack: usize, bound: u16) -> Counts
-    requires { n ≤ 8 }
-{
-    let values = digits(code, rack as u64, 0);
-    let board = closed_board(rack, with_tips([0; 8], values), n);
-    let common = board.common_tip();
-    let keep = board.keep(bound);
-    let within = off(values, [1; 8], n, rack as u64) <= bound as u64;
-    let accepted = common.number == 0 && common.off <= bound as usize;
-    Counts {
-        within: sum(before.within, one_if(within)),
-        common: sum(before.common, one_if(accepted)),
-        kept: sum(before.kept, one_if(keep.number == 0)),
+impl Counts {
+    fn add(&mut self, within: bool, common: bool, kept: bool) {
+        self.within = self.within.saturating_add(u64::from(within));
+        self.common = self.common.saturating_add(u64::from(common));
+        self.kept = self.kept.saturating_add(u64::from(kept));
     }
 }
 
-fn show_bound<W: Write>(
-    out: &mut W,
-    n: usize,
-    rack: usize,
-    assignments: u64,
+// Whether common tip answers for the board with at most `bound` lines off the tip.
+fn has_common_tip(board: &Board, bound: u16) -> bool {
+    board
+        .common_tip()
+        .is_ok_and(|common| common.off <= usize::from(bound))
+}
+
+// Whether keep accepts the bound for the board.
+fn keeps(board: &Board, bound: u16) -> bool {
+    let mut kept = *board;
+    kept.keep(bound).is_ok()
+}
+
+// The lines that may each be picked with the one tip alone.
+fn single_tips(alloc: Global, tips: &[u8]) -> Result<Vec<Line>, AllocError> {
+    tips.iter()
+        .map(|tip| Line {
+            tips: set_of(*tip),
+            quantity: 1,
+        })
+        .collect(alloc)
+}
+
+// The counts for the assignments of values below `rack` to variables.
+fn count_bound(
+    alloc: Global,
+    assignments: &[Vec<u8>],
+    rack: u8,
     bound: u16,
-) -> io::Result<()>
-    requires { n ≤ 8 }
-{
-    let mut counts = Counts {
-        within: 0,
-        common: 0,
-        kept: 0,
-    };
-    for code in 0..assignments {
-        counts = counted(counts, code, n, rack, bound);
+) -> Result<Counts, AllocError> {
+    let mut counts = Counts::default();
+    for values in assignments {
+        let lines = single_tips(alloc, values)?;
+        let board = board_of(rack, &lines).unwrap_or(Board::blank());
+        counts.add(
+            off(rack, &lines, values) <= usize::from(bound),
+            has_common_tip(&board, bound),
+            keeps(&board, bound),
+        );
     }
-    show(
-        out,
-        b"variables # assignments # bound # within # common tip # kept #\n",
-        &[
-            n as u64,
-            assignments,
-            bound as u64,
+    Ok(counts)
+}
+
+// Prints the counts of so many variables for each bound up to their number.
+fn show_counts<W: Write>(alloc: Global, out: &mut W, variables: u8) -> io::Result<()> {
+    let rack = variables.saturating_add(1);
+    let values: Vec<u8> = (0..rack).collect(alloc)?;
+    let assignments = words(alloc, &values, usize::from(variables))?;
+    for bound in 0..=u16::from(variables) {
+        let counts = count_bound(alloc, &assignments, rack, bound)?;
+        writeln!(
+            out,
+            "variables {variables} assignments {} bound {bound} within {} common tip {} kept {}",
+            assignments.len(),
             counts.within,
             counts.common,
-            counts.kept,
-        ],
-    )
+            counts.kept
+        )?;
+    }
+    Ok(())
 }
 
 fn main(rt: HostRuntime) -> io::Result<()> {
     let mut out = BufWriter::new(rt.alloc(), io::writer(&rt))?;
-    show_bound(&mut out, 3, 4, 4 * 4 * 4, 0)?;
-    show_bound(&mut out, 3, 4, 4 * 4 * 4, 1)?;
-    show_bound(&mut out, 3, 4, 4 * 4 * 4, 2)?;
-    show_bound(&mut out, 3, 4, 4 * 4 * 4, 3)?;
-    show_bound(&mut out, 4, 5, 5 * 5 * 5 * 5, 0)?;
-    show_bound(&mut out, 4, 5, 5 * 5 * 5 * 5, 1)?;
-    show_bound(&mut out, 4, 5, 5 * 5 * 5 * 5, 2)?;
-    show_bound(&mut out, 4, 5, 5 * 5 * 5 * 5, 3)?;
-    show_bound(&mut out, 4, 5, 5 * 5 * 5 * 5, 4)?;
+    show_counts(rt.alloc(), &mut out, 3)?;
+    show_counts(rt.alloc(), &mut out, 4)?;
     out.flush()
 }

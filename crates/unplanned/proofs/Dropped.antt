@@ -1,5 +1,5 @@
 -- Lines taken off a list, the last first: the line at the end comes to the place of each.
-use Prim.Native.Nat.{ℕ, ◌+◌, ◌-◌, ◌≤◌, ◌<◌}
+use Prim.Native.Nat.{ℕ, suc, ◌+◌, ◌-◌, ◌≤◌, ◌<◌}
 use native.Mathlib.Omega.{arith}
 use mathlib.Core.Path.{◌≡◌, refl, sym, ◌∙◌}
 use mathlib.Core.Logic.{◌⊎◌, inl, inr, ⊎_elim}
@@ -76,30 +76,30 @@ dropped-none n m places old = record {
   kept = λ x a f. a;
 }
 
-module _ {k n m : ℕ} {places old : List ℕ} {last : ℕ} {list : List ℕ} (d : DroppedFrom k n m places old last list) where
-  pub dropped-more : Rising n m places → 0 < k → last ≤ length list
-      → DroppedFrom (k - 1) n m places old (last - 1) (set list (get_or places (k - 1) 0) (get_or list (last - 1) 0))
+module _ {n m : ℕ} {places old : List ℕ} {last : ℕ} {list : List ℕ} where
+  pub dropped-more : {k : ℕ} → DroppedFrom (suc k) n m places old last list → Rising n m places → last ≤ length list
+      → DroppedFrom k n m places old (last - 1) (set list (get_or places k 0) (get_or list (last - 1) 0))
   unfolding moved
-  dropped-more r some room =
+  dropped-more {k} d r room =
       let within = d.within in
       let fewer = d.fewer in
-      let p = get_or places (k - 1) 0 in
-      let l : p < last = omega (arith, r.below (k - 1) (omega arith)) in
+      let p = get_or places k 0 in
+      let l : p < last = omega (arith, r.below k (omega arith)) in
       record {
         within = omega arith;
         fewer = omega arith;
         front = λ q h.
-            let less = r.rising q (k - 1) h (omega arith) in
+            let less = r.rising q k h (omega arith) in
             there last p list l room (get_or places q 0) (λ e. omega arith) ∙ d.front q (omega arith);
         inside = λ b f. less_inside last p list l room b (d.inside b f);
         once = λ f. less_once last p list l room (d.once f);
         kept = λ x a f.
             less_kept last p list l room x (d.kept x a (λ q u v. f q (omega arith) v))
-            (λ e. f (k - 1) (omega arith) (omega arith) (sym (d.front (k - 1) (omega arith)) ∙ e));
+            (λ e. f k (omega arith) (omega arith) (sym (d.front k (omega arith)) ∙ e));
       }
 
-  pub dropped-all : k ≡ 0 → Dropped n m places old last list
-  dropped-all z = record {
+  pub dropped-all : DroppedFrom 0 n m places old last list → Dropped n m places old last list
+  dropped-all d = record {
     fewer = omega (arith, d.fewer);
     inside = d.inside;
     once = d.once;

@@ -1,3 +1,5 @@
 pub mod InOrder
 pub mod Found
 pub mod Dropped
+pub mod Parts
+mod Unread

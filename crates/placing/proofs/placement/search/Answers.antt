@@ -1,41 +1,53 @@
--- The first and last positions, as arrays, and the rows describe the parts and the rules as a flat task.
-use Rattle.std.proofs.Common.{ℕ, ◌≡◌, ◌<◌, ◌∙◌, ap, sym, length, take, arith}
+use Rattle.std.proofs.Common.{◌≤◌, ◌∙◌, length, refl, arith}
+use Rattle.std.proofs.Math.ListN.{length-set}
 use lib.Seq.{length-take-le}
-use Rattle.ordering.specs.Parts.{no_part, part_at}
+use Rattle.ordering.specs.Parts.{part_at}
 use Rattle.ordering.proofs.Parts.{windows_good}
-use Rattle.placing.specs.Given.{parts_of}
-use Rattle.placing.proofs.Listed.{listed, listed_at}
-use Rattle.placing.proofs.Answered.{firsts_in, lasts_in, flat-order}
+use Rattle.placing.proofs.Windows.{filled_at, firsts_in, lasts_in, order_some, order_none}
 use Rattle.placing.proofs.placement.search.Goals as goal
 
-pub least_order-requires : goal.least_order-requires
-least_order-requires c =
-    let a = c.args in
-    let f = c.firsts_of-firsts in
-    let l = c.lasts_of-lasts in
-    let n = a.parts.count in
-    let e = length-take-le n l.result (omega (arith, l.ensures.0)) in
-    let q : length a.order.now ≡ length (take n l.result) = omega (arith, e) in
-    let size = listed (part_at a.parts.parts) n in
-    let windows = windows_good (parts_of a.parts) (omega (arith, size)) in (
-      record { parts = omega (arith, e); firsts = omega (arith, e, f.ensures.0); low = omega (arith, e); high = omega (arith, e) },
-      q,
-      rw e (firsts_in a.parts windows f.result f.ensures.1),
-      rw e (lasts_in a.parts windows l.result l.ensures.1),
-    )
+pub loop-i-preserved : goal.loop-i-preserved
+loop-i-preserved c =
+    let l = c.loop-i in
+    let i = l.invariant in
+    let parts = c.args.parts.now in
+    record {
+      firsts_size = length-set l.firsts l.i _ ∙ i.firsts_size;
+      lasts_size = length-set l.lasts l.i _ ∙ i.lasts_size;
+      firsts = filled_at (λ k. (part_at parts k).first) l.firsts l.i _ (omega (arith, i.firsts_size)) i.firsts refl;
+      lasts = filled_at (λ k. (part_at parts k).last) l.lasts l.i _ (omega (arith, i.lasts_size)) i.lasts refl;
+    }
 
-pub returns : goal.returns
-returns c =
-    λ rules r g.
-    let a = c.args in
-    let f = c.firsts_of-firsts in
-    let l = c.lasts_of-lasts in
-    let e = listed (part_at a.parts.parts) a.parts.count in
-    let at : (i : ℕ) → i < length (parts_of a.parts) → part_at (parts_of a.parts) i ≡ part_at a.parts.parts i =
-    λ i k. listed_at (part_at a.parts.parts) a.parts.count i no_part (omega (arith, e)) in
-    c.least_order.ensures
-    ∙ flat-order (parts_of a.parts) rules a.parts.count e f.result l.result a.rows.low a.rows.high
-    (omega (arith, l.ensures.0))
-    (λ i k. f.ensures.1 i (omega (arith, e)) ∙ sym (ap (λ x. x.first) (at i k)))
-    (λ i k. l.ensures.1 i (omega (arith, e)) ∙ sym (ap (λ x. x.last) (at i k)))
-    (r.has g) (windows_good (parts_of a.parts) (omega (arith, e)))
+pub least_order-requires-clause-firsts : goal.least_order-requires-clause-firsts
+least_order-requires-clause-firsts c =
+    let l = c.loop-i in
+    let parts = c.args.parts.now in
+    let room : length parts ≤ length l.lasts = omega (arith, l.invariant.lasts_size) in
+    rw (length-take-le (length parts) l.lasts room) (firsts_in parts (windows_good parts c.requires.windows) l.firsts l.lasts room
+    (λ k h. l.invariant.firsts k (omega arith)) (λ k h. l.invariant.lasts k (omega arith)))
+
+pub least_order-requires-clause-lasts : goal.least_order-requires-clause-lasts
+least_order-requires-clause-lasts c =
+    let l = c.loop-i in
+    let parts = c.args.parts.now in
+    let room : length parts ≤ length l.lasts = omega (arith, l.invariant.lasts_size) in
+    rw (length-take-le (length parts) l.lasts room) (lasts_in parts (windows_good parts c.requires.windows) l.firsts l.lasts room
+    (λ k h. l.invariant.firsts k (omega arith)) (λ k h. l.invariant.lasts k (omega arith)))
+
+pub returns-clause-some : goal.returns-clause-some
+returns-clause-some c =
+    let l = c.loop-i in
+    let parts = c.args.parts.now in
+    let room : length parts ≤ length l.lasts = omega (arith, l.invariant.lasts_size) in
+    order_some parts (windows_good parts c.requires.windows) l.firsts l.lasts room
+    (λ k h. l.invariant.firsts k (omega arith)) (λ k h. l.invariant.lasts k
+    (omega arith)) c.args.rows.now c.least_order.result c.least_order.ensures.some
+
+pub returns-clause-none : goal.returns-clause-none
+returns-clause-none c =
+    let l = c.loop-i in
+    let parts = c.args.parts.now in
+    let room : length parts ≤ length l.lasts = omega (arith, l.invariant.lasts_size) in
+    order_none parts (windows_good parts c.requires.windows) l.firsts l.lasts room
+    (λ k h. l.invariant.firsts k (omega arith)) (λ k h. l.invariant.lasts k
+    (omega arith)) c.args.rows.now c.least_order.result c.least_order.ensures.none

@@ -1,0 +1,42 @@
+use Rattle.std.proofs.Common.{rules}
+use mathlib.Core.Path.{◌≡◌, refl, ap, ◌∙◌}
+use Rattle.std.specs.Prelude.{Err}
+use Rattle.refusal.proofs.Laws.{reason_not_0}
+use Rattle.board.specs.Told.{answered}
+use Rattle.board.proofs.Sets.{Full}
+use Rattle.board.proofs.Answers.{add_refused, add_accepted, add_place}
+use Rattle.board.proofs.Stopped.{add_stopped}
+use Rattle.board.proofs.Board.add.Goals.{In_ok-state}
+use Rattle.board.proofs.Board.add.Goals as goal
+
+full : (c : In_ok-state) → Full c.args.self.now
+full c = record { sets_full = search rules; quantities_full = search rules }
+
+pub returns-in_err-state : goal.returns-in_err-state
+returns-in_err-state c =
+    let x = c.in_err-state.field-0.0 in
+    let e : c.from_residual.result ≡ Err x = search rules in
+    ap (answered c.args.self.now) e ∙ add_stopped x c.args.self.now c.in_err-state.ensures _ _
+
+pub returns-in_err-add_refusal : goal.returns-in_err-add_refusal
+returns-in_err-add_refusal c =
+    let x = c.in_err-add_refusal.field-0.0 in
+    let e : c.from_residual-in_err-add_refusal.result ≡ Err x = search rules in
+    ap (answered c.args.self.now) e
+    ∙ add_refused c.args.self.now c.args.set c.args.quantity (full (goal.at.returns-in_err-add_refusal c).In_ok-state)
+    c.in_ok-state.ensures c.in_err-add_refusal.ensures (reason_not_0 x.reason)
+
+pub bounds-self-count : goal.bounds-self-count
+bounds-self-count c =
+    add_place c.args.self.now c.args.set c.args.quantity (full (goal.at.bounds-self-count c).In_ok-state) c.in_ok-state.ensures
+    c.in_ok-add_refusal.ensures refl
+
+pub bounds-self-count-2 : goal.bounds-self-count-2
+bounds-self-count-2 c =
+    add_place c.args.self.now c.args.set c.args.quantity (full (goal.at.bounds-self-count-2 c).In_ok-state) c.in_ok-state.ensures
+    c.in_ok-add_refusal.ensures refl
+
+pub returns : goal.returns
+returns c =
+    add_accepted c.args.self.now c.args.set c.args.quantity (full (goal.at.returns c).In_ok-state)
+    c.in_ok-state.ensures c.in_ok-add_refusal.ensures refl

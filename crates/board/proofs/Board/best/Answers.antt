@@ -1,0 +1,58 @@
+use Rattle.std.proofs.Common.{rules}
+use mathlib.Core.Path.{◌≡◌, ap, ◌∙◌}
+use Rattle.std.specs.Prelude.{Err}
+use Rattle.board.specs.Told.{shared_answered}
+use Rattle.board.proofs.Answers.{by_state, best-answer}
+use Rattle.board.proofs.Stopped.{mounted_state, best_stopped, best_same, table_same}
+use Rattle.board.proofs.Board.best.Goals as goal
+
+pub returns-in_err-state-clause-answer : goal.returns-in_err-state-clause-answer
+returns-in_err-state-clause-answer c =
+    let x = c.in_err-state.field-0.0 in
+    let e : c.from_residual.result ≡ Err x = search rules in
+    ap (shared_answered c.args.self.now) e ∙ best_stopped x c.args.self.now _ (mounted_state x c.args.self.now c.in_err-state.ensures _) _ _
+
+pub returns-in_err-state-clause-plan : goal.returns-in_err-state-clause-plan
+returns-in_err-state-clause-plan c =
+    let x = c.in_err-state.field-0.0 in
+    best_same x c.args.self.now _ (mounted_state x c.args.self.now c.in_err-state.ensures _) _ _
+
+pub returns-in_err-state-clause-table : goal.returns-in_err-state-clause-table
+returns-in_err-state-clause-table c =
+    let x = c.in_err-state.field-0.0 in
+    table_same x c.args.self.now _ (mounted_state x c.args.self.now c.in_err-state.ensures _) _ _
+
+pub returns-in_err-mounted_refusal-clause-answer : goal.returns-in_err-mounted_refusal-clause-answer
+returns-in_err-mounted_refusal-clause-answer c =
+    let x = c.in_err-mounted_refusal.field-0.0 in
+    let e : c.from_residual-in_err-mounted_refusal.result ≡ Err x = search rules in
+    ap (shared_answered c.args.self.now) e
+    ∙ best_stopped x c.args.self.now _ (by_state c.args.self.now _ c.in_ok-state.ensures c.in_err-mounted_refusal.ensures) _ _
+
+pub returns-in_err-mounted_refusal-clause-plan : goal.returns-in_err-mounted_refusal-clause-plan
+returns-in_err-mounted_refusal-clause-plan c =
+    best_same c.in_err-mounted_refusal.field-0.0 c.args.self.now _
+    (by_state c.args.self.now _ c.in_ok-state.ensures c.in_err-mounted_refusal.ensures) _ _
+
+pub returns-in_err-mounted_refusal-clause-table : goal.returns-in_err-mounted_refusal-clause-table
+returns-in_err-mounted_refusal-clause-table c =
+    table_same c.in_err-mounted_refusal.field-0.0 c.args.self.now _
+    (by_state c.args.self.now _ c.in_ok-state.ensures c.in_err-mounted_refusal.ensures) _ _
+
+pub returns-clause-answer : goal.returns-clause-answer
+returns-clause-answer c =
+    let p = c.best in
+    (best-answer c.args.self.now _ c.in_ok-state.ensures c.in_ok-mounted_refusal.ensures _ _
+    p.ensures.answer p.ensures.plan p.ensures.table).0
+
+pub returns-clause-plan : goal.returns-clause-plan
+returns-clause-plan c =
+    let p = c.best in
+    (best-answer c.args.self.now _ c.in_ok-state.ensures c.in_ok-mounted_refusal.ensures _ _
+    p.ensures.answer p.ensures.plan p.ensures.table).1.0
+
+pub returns-clause-table : goal.returns-clause-table
+returns-clause-table c =
+    let p = c.best in
+    (best-answer c.args.self.now _ c.in_ok-state.ensures c.in_ok-mounted_refusal.ensures _ _
+    p.ensures.answer p.ensures.plan p.ensures.table).1.1

@@ -1,0 +1,25 @@
+use Rattle.std.proofs.Common.{rules}
+use mathlib.Core.Path.{◌≡◌, ap, ◌∙◌}
+use Rattle.std.specs.Prelude.{Err}
+use Rattle.board.specs.Told.{answered}
+use Rattle.board.proofs.Answers.{check_answer}
+use Rattle.board.proofs.Stopped.{check_stopped, check_rule}
+use Rattle.board.proofs.Board.check.Goals as goal
+
+pub returns-in_err-state-clause-answer : goal.returns-in_err-state-clause-answer
+returns-in_err-state-clause-answer c =
+    let x = c.in_err-state.field-0.0 in
+    let e : c.from_residual.result ≡ Err x = search rules in
+    ap (answered c.args.self.now) e ∙ check_stopped x c.args.self.now c.in_err-state.ensures _ _ _
+
+pub returns-in_err-state-clause-rule : goal.returns-in_err-state-clause-rule
+returns-in_err-state-clause-rule c =
+    let x = c.in_err-state.field-0.0 in
+    let e : c.from_residual.result ≡ Err x = search rules in
+    rw e (check_rule x c.args.self.now c.in_err-state.ensures _ _ _)
+
+pub returns-clause-answer : goal.returns-clause-answer
+returns-clause-answer c = (check_answer c.args.self.now c.in_ok-state.ensures _ _ _ c.check.ensures.answer c.check.ensures.rule).0
+
+pub returns-clause-rule : goal.returns-clause-rule
+returns-clause-rule c = (check_answer c.args.self.now c.in_ok-state.ensures _ _ _ c.check.ensures.answer c.check.ensures.rule).1

@@ -1,0 +1,44 @@
+use Rattle.std.proofs.Common.{rules}
+use mathlib.Core.Path.{◌≡◌, refl, ap, ◌∙◌}
+use Rattle.std.specs.Prelude.{Err}
+use Rattle.refusal.proofs.Laws.{reason_not_0}
+use Rattle.board.specs.Told.{answered}
+use Rattle.board.proofs.Sets.{Full}
+use Rattle.board.proofs.GoalRule.{goal_ruled, goal-answer, goal-refused}
+use Rattle.board.proofs.Stopped.{goal_stopped}
+use Rattle.board.proofs.Board.goal.Goals.{After-state}
+use Rattle.board.proofs.Board.goal.Goals as goal
+
+full : (c : After-state) → Full c.args.self.now
+full c = record { sets_full = search rules; quantities_full = search rules }
+
+pub returns-in_err-state-clause-answer : goal.returns-in_err-state-clause-answer
+returns-in_err-state-clause-answer c =
+    let x = c.in_err-state.field-0.0 in
+    let e : c.from_residual.result ≡ Err x = search rules in
+    ap (answered c.args.self.now) e ∙ goal_stopped x c.args.self.now c.in_err-state.ensures _
+
+pub returns-in_err-state-clause-rule : goal.returns-in_err-state-clause-rule
+returns-in_err-state-clause-rule c =
+    goal_ruled c.args.self.now c.args.goal (full (goal.at.returns-in_err-state-clause-rule c).After-state) (returns-in_err-state-clause-answer c)
+
+pub returns-in_err-goal-clause-answer : goal.returns-in_err-goal-clause-answer
+returns-in_err-goal-clause-answer c =
+    let x = c.in_err-goal.field-0.0 in
+    let e : c.from_residual-in_err-goal.result ≡ Err x = search rules in
+    ap (answered c.args.self.now) e
+    ∙ goal-refused c.args.self.now _ (full (goal.at.returns-in_err-goal-clause-answer c).After-state) c.in_ok-state.ensures refl
+    c.in_err-goal.ensures.answer (reason_not_0 x.reason)
+
+pub returns-in_err-goal-clause-rule : goal.returns-in_err-goal-clause-rule
+returns-in_err-goal-clause-rule c =
+    goal_ruled c.args.self.now c.args.goal (full (goal.at.returns-in_err-goal-clause-rule c).After-state) (returns-in_err-goal-clause-answer c)
+
+pub returns-clause-answer : goal.returns-clause-answer
+returns-clause-answer c =
+    let all = full (goal.at.returns-clause-answer c).After-state in
+    goal-answer c.args.self.now _ all c.in_ok-state.ensures refl c.in_ok-goal.ensures.answer c.in_ok-goal.ensures.sets
+
+pub returns-clause-rule : goal.returns-clause-rule
+returns-clause-rule c =
+    goal_ruled c.args.self.now c.args.goal (full (goal.at.returns-clause-rule c).After-state) (returns-clause-answer c)

@@ -1,0 +1,29 @@
+use Rattle.std.proofs.Common.{rules}
+use mathlib.Core.Path.{◌≡◌, refl, ap, ◌∙◌}
+use Rattle.std.specs.Prelude.{Err}
+use Rattle.model.proofs.Lists.{all_get_d}
+use Rattle.refusal.proofs.Laws.{reason_not_0}
+use Rattle.job.specs.Job.{Bytes}
+use Rattle.board.specs.Told.{given}
+use Rattle.board.proofs.Sets.{no-sets, no-quantities}
+use Rattle.board.proofs.JobFileRule.{read_rule, read_stopped, read_through}
+use Rattle.board.proofs.Board.read.Goals.{In_ok-read}
+use Rattle.board.proofs.Board.read.Goals as goal
+
+bytes : (c : In_ok-read) → Bytes c.args.file.now
+bytes c = all_get_d 0 c.args.file.now (λ i l. (c.type_inv.file i).fits)
+
+pub returns-in_err-read-clause-answer : goal.returns-in_err-read-clause-answer
+returns-in_err-read-clause-answer c =
+    let x = c.in_err-read.field-0.0 in
+    let e : c.from_residual.result ≡ Err x = search rules in
+    ap given e ∙ read_stopped c.args.file.now c.in_err-read.ensures.refusal (reason_not_0 x.reason)
+
+pub returns-clause-answer : goal.returns-clause-answer
+returns-clause-answer c =
+    let sets = c.no_sets-sets.ensures ∙ no-sets in
+    let qs = c.no_quantities-quantities.ensures ∙ no-quantities in
+    read_through c.args.file.now c.in_ok-read.ensures.refusal refl sets qs c.in_ok-read.ensures.lines
+
+pub returns-clause-rule : goal.returns-clause-rule
+returns-clause-rule c = rw (returns-clause-answer c) (read_rule c.args.file.now (bytes (goal.at.returns-clause-rule c).In_ok-read))

@@ -1,0 +1,127 @@
+use Rattle.std.proofs.Common.{Option, Some, None, IfNone, ◌≡◌, ℕ, ◌+◌, ◌≤◌, ◌<◌, ◌&&◌, List, ltb, length, get_or, take, ap, ◌∙◌, arith}
+use lib.Seq.{length-take-le}
+use Rattle.flat_order.specs.declared.sets.PartSet.{PartSet}
+use Rattle.flat_order.specs.Sets.{has_part, joined, removed}
+use Rattle.flat_order.specs.Flat.{row_at, candidates_at, is_pick, PartsAt}
+use Rattle.flat_order.proofs.Below.{before-none, before_more, parts_taken}
+use Rattle.flat_order.proofs.Levels.{levels_next, levels_most, end_in, end_stays}
+use Rattle.flat_order.proofs.Picks.{placing_none, placing_more, placing_all, among_left, found, found_none}
+use Rattle.flat_order.proofs.Free.{pick-among, held_none, held_less}
+use Rattle.flat_order.proofs.picking.greedy_order.Goals as goal
+
+pub loop-p-init : goal.loop-p-init
+loop-p-init c =
+    let a = c.args in
+    record {
+      placing = placing_none a.firsts.now a.lasts.now a.rows.now _ a.all (omega (arith, c.requires.sized.parts)) c.requires.all;
+      levels = c.requires.levels;
+      low = omega arith;
+      high = omega arith;
+      stays = λ e. absurd (omega arith);
+      begun = before-none a.firsts.now (length a.lasts.now);
+      held = held_none a.all a.rows.now;
+    }
+
+pub tight_end-end-requires-clause-some : goal.tight_end-end-requires-clause-some
+tight_end-end-requires-clause-some c =
+    let l = c.loop-p in
+    λ is. omega (
+      arith,
+      end_in l.left c.args.lasts.now l.levels l.p l.invariant.levels l.invariant.placing.count _ c.requires.lasts
+          c.loop-p-test.true is,
+    )
+
+pub candidates-among-requires-clause-to : goal.candidates-among-requires-clause-to
+candidates-among-requires-clause-to c =
+    let l = c.loop-p in
+    let k = end_in l.left c.args.lasts.now l.levels l.p l.invariant.levels l.invariant.placing.count _ c.requires.lasts c.loop-p-test.true
+    c.tight_end-end.ensures in
+    omega (arith, k, c.requires.sized.parts)
+
+pub lowest_free-requires-clause-inside : goal.lowest_free-requires-clause-inside
+lowest_free-requires-clause-inside c =
+    let l = c.loop-p in
+    let e = c.candidates-among.ensures ∙ ap (λ s. candidates_at l.p c.tight_end-end.result s c.args.ends.now) c.bitand.ensures in
+    λ x t. omega (
+      arith,
+      c.requires.sized.rows,
+      l.invariant.placing.inside x
+          (among_left l.left c.bitor-begun.result c.args.ends.now l.p _ x (rw e at t)),
+    )
+
+-- the parts begun at the next position
+begun_more : (firsts : List ℕ) (starts : List PartSet) (begun : PartSet) (n p : ℕ) → PartsAt (take n firsts) (length (take n firsts)) starts
+    → n ≤ length firsts → p + 1 < 130 → ((x : ℕ) → has_part begun x ≡ (ltb x n && ltb (get_or firsts x 0) p))
+    → (x : ℕ) → has_part (joined begun (row_at starts (p + 1))) x ≡ (ltb x n && ltb (get_or firsts x 0) (p + 1))
+begun_more firsts starts begun n p at l k h =
+    before_more firsts starts n p begun k (parts_taken firsts n starts (rw (length-take-le n firsts l) at at)) h
+
+if-none : {A P : Type 0} (o : Option A) → P → IfNone o P
+if-none None p = p
+if-none (Some x) p = tt
+
+pub returns-in_err-x-clause-none : goal.returns-in_err-x-clause-none
+returns-in_err-x-clause-none c =
+    let a = c.args in
+    let l = c.loop-p in
+    let i = l.invariant in
+    let begins : (y : ℕ) → has_part c.bitor-begun.result y ≡ (ltb y (length a.lasts.now) && ltb (get_or a.firsts.now y 0) (l.p + 1)) =
+    rw c.bitor-begun.ensures (begun_more _ _ _ _ _ c.by_position-starts.ensures c.requires.sized.firsts (omega
+    (arith, c.requires.sized.parts)) i.begun) in
+    let e = c.candidates-among.ensures ∙ ap (λ s. candidates_at l.p c.tight_end-end.result s a.ends.now) c.bitand.ensures in
+    if-none c.from_residual.result
+    (found_none a.firsts.now a.lasts.now a.rows.now a.ends.now l.p c.tight_end-end.result l.order l.levels l.left c.bitor-begun.result _
+    c.loop-p-test.true i.placing i.levels c.tight_end-end.ensures i.low i.high c.requires.lasts c.requires.ends begins e
+    c.in_err-x.ensures.none)
+
+pub bounds-lasts-x : goal.bounds-lasts-x
+bounds-lasts-x c =
+    let l = c.loop-p in
+    let e = c.candidates-among.ensures ∙ ap (λ s. candidates_at l.p c.tight_end-end.result s c.args.ends.now) c.bitand.ensures in
+    let t = pick-among _ l.left c.args.rows.now c.in_ok-x.x c.in_ok-x.ensures.some.1.passes in
+    l.invariant.placing.inside c.in_ok-x.x (among_left l.left c.bitor-begun.result c.args.ends.now l.p _ c.in_ok-x.x (rw e at t))
+
+pub raise-reached-requires-clause-fits : goal.raise-reached-requires-clause-fits
+raise-reached-requires-clause-fits c =
+    let l = c.loop-p in
+    let t = pick-among _ l.left c.args.rows.now c.in_ok-x.x c.in_ok-x.ensures.some.1.passes in
+    let e = c.candidates-among.ensures ∙ ap (λ s. candidates_at l.p c.tight_end-end.result s c.args.ends.now) c.bitand.ensures in
+    let x = l.invariant.placing.inside c.in_ok-x.x (among_left l.left c.bitor-begun.result c.args.ends.now l.p _ c.in_ok-x.x (rw e at t)) in
+    let last = c.requires.lasts c.in_ok-x.x x in
+    λ v h k. omega (
+      arith,
+      last,
+      c.requires.sized.parts,
+      levels_most l.left c.args.lasts.now l.levels l.p l.invariant.levels l.invariant.placing.count v
+          (omega arith) (omega arith),
+    )
+
+pub loop-p-preserved : goal.loop-p-preserved
+loop-p-preserved c =
+    let a = c.args in
+    let l = c.loop-p in
+    let i = l.invariant in
+    let begins : (y : ℕ) → has_part c.bitor-begun.result y ≡ (ltb y (length a.lasts.now) && ltb (get_or a.firsts.now y 0) (l.p + 1)) =
+    rw c.bitor-begun.ensures (begun_more _ _ _ _ _ c.by_position-starts.ensures c.requires.sized.firsts (omega
+    (arith, c.requires.sized.parts)) i.begun) in
+    let e = c.candidates-among.ensures ∙ ap (λ s. candidates_at l.p c.tight_end-end.result s a.ends.now) c.bitand.ensures in
+    let x = c.in_ok-x.x in
+    let v = c.tight_end-end.result in
+    let (is_pick, t, m) = found a.firsts.now a.lasts.now a.rows.now a.ends.now l.p v l.order l.levels l.left c.bitor-begun.result _
+    c.loop-p-test.true i.placing i.levels c.tight_end-end.ensures i.low i.high c.requires.lasts c.requires.ends begins e
+    x c.in_ok-x.ensures.some.1 in
+    let h = i.placing.inside x t in
+    let less = c.sub-left.ensures ∙ ap (removed l.left) c.single.ensures in
+    record {
+      placing = rw less (placing_more a.firsts.now a.lasts.now a.rows.now l.order l.left l.p c.loop-p-test.true i.placing x is_pick h t);
+      levels = rw less (levels_next l.left a.lasts.now l.levels l.p i.levels x h t _ _ c.raise-reached.ensures);
+      low = omega arith;
+      high = omega arith;
+      stays = λ z q. end_stays _ l.p l.levels _ v _ _ c.tight_end-end.ensures c.raise-reached.ensures m z q;
+      begun = begins;
+      held = rw (less, c.sub-waiting.ensures) (held_less l.left _ a.rows.now _ c.in_ok-x.ensures.held x);
+    }
+
+pub returns-clause-some : goal.returns-clause-some
+returns-clause-some c = placing_all c.args.firsts.now c.args.lasts.now c.args.rows.now c.loop-p.order c.loop-p.left c.loop-p.p
+    (omega arith) c.loop-p.invariant.placing

@@ -1,0 +1,16 @@
+use Rattle.std.proofs.Common.{◌≡◌, ℕ, ◌≤◌, ◌<◌, ◌^◌, ◌&&◌, ltb, length, get_or}
+use Rattle.flat_order.specs.Sets.{has_part}
+use Rattle.flat_order.specs.Flat.{Levels, IsEnd, Held}
+use Rattle.flat_order.proofs.Picks.{Placing}
+use Rattle.flat_order.proofs.picking.greedy_order.Given as goal
+
+abbrev pub invariant-loop-p : goal.invariant-loop-p
+invariant-loop-p l = record {
+  placing : Placing l.firsts l.lasts l.rows l.p l.order l.left;
+  levels : Levels l.left l.lasts l.p l.levels;
+  low : l.left.low < 2 ^ 64;
+  high : l.left.high < 2 ^ 64;
+  stays : l.reached ≡ 0 → l.p ≤ l.end → IsEnd (length l.lasts) l.p l.levels l.end;
+  begun : (x : ℕ) → has_part l.begun x ≡ (ltb x (length l.lasts) && ltb (get_or l.firsts x 0) l.p);
+  held : Held l.left l.waiting.parts l.rows l.waiting.noted;
+}

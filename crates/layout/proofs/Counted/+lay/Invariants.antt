@@ -1,0 +1,4 @@
+use Rattle.layout.proofs.Counted.+lay.Given as goal
+
+abbrev pub decreases-lay : goal.decreases-lay
+decreases-lay l = l.w

@@ -1,0 +1,39 @@
+use mathlib.Core.Path.{◌≡◌, refl, sym, ap}
+use lib.Seq.{length-take-le}
+use Rattle.std.proofs.Common.{rules, Err}
+use Rattle.refusal.specs.Refusal.{none}
+use Rattle.refusal.proofs.Laws.{reason_not_0}
+use Rattle.call_refusals.proofs.Calls.{best_none}
+use Rattle.line_calls.proofs.Checked.{check_first, check_next, check_rule}
+use Rattle.line_calls.proofs.check.Goals as goal
+
+pub returns-in_err-best_refusal : goal.returns-in_err-best_refusal
+returns-in_err-best_refusal c =
+    let a = c.args in
+    let e = c.in_err-best_refusal.field-0.0 in
+    let same : c.from_residual.result ≡ Err e = search rules in
+    let first =
+    check_first none a.rack a.quantities.now a.lines.now a.plan.now a.claim a.table.now c.in_err-best_refusal.ensures (reason_not_0 e.reason) in
+    rw same (record {
+      answer = first;
+      rule = check_rule none a.rack a.quantities.now a.lines.now a.plan.now a.claim a.table.now (λ _. c.requires) first;
+    })
+
+pub slice_bounds-check_plan-end : goal.slice_bounds-check_plan-end
+slice_bounds-check_plan-end c = sym (length-take-le _ _ (best_none none _ _ _ _ (ap (λ r. r.number) (sym c.in_ok-best_refusal.ensures))).bytes)
+
+pub check_plan-requires : goal.check_plan-requires
+check_plan-requires c =
+    let free = best_none none _ _ _ _ (ap (λ r. r.number) (sym c.in_ok-best_refusal.ensures)) in
+    (record { good = c.requires; runs = free.runs; all = c.names_of.ensures }, length-take-le _ _ free.bytes, free.cells)
+
+pub returns : goal.returns
+returns c =
+    let a = c.args in
+    let told =
+    check_next none a.rack a.quantities.now a.lines.now a.plan.now a.claim a.table.now c.in_ok-best_refusal.ensures refl refl
+    c.check_plan.ensures in
+    record {
+      answer = told;
+      rule = check_rule none a.rack a.quantities.now a.lines.now a.plan.now a.claim a.table.now (λ _. c.requires) told;
+    }

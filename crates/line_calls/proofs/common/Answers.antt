@@ -1,0 +1,10 @@
+use mathlib.Core.Path.{refl}
+use Rattle.refusal.specs.Refusal.{none}
+use Rattle.line_calls.proofs.CommonTip.{common_accepted}
+use Rattle.line_calls.proofs.common.Goals as goal
+
+pub returns : goal.returns
+returns c =
+    let told = c.common_tip.ensures in
+    let both = common_accepted none c.args.rack c.args.quantities.now c.args.lines.now refl c.requires told.top told.off told.tips in
+    record { answer = both.0; rule = both.1 }

@@ -1,0 +1,29 @@
+use mathlib.Core.Path.{◌≡◌, refl, sym, ap}
+use Rattle.std.proofs.Common.{rules, Err}
+use Rattle.refusal.specs.Refusal.{none}
+use Rattle.refusal.proofs.Laws.{reason_not_0}
+use Rattle.line_calls.proofs.PairGoal.{asked_runs, asked-none, goal-stopped, goal-all}
+use Rattle.line_calls.proofs.goal_call.goal.Goals as goal
+
+pub returns-in_err-run_refusal : goal.returns-in_err-run_refusal
+returns-in_err-run_refusal c =
+    let a = c.args in
+    let e = c.in_err-run_refusal.field-0.0 in
+    let same : c.from_residual.result ≡ Err e = search rules in
+    let (answer, sets) =
+    goal-stopped none a.rack a.quantities.now a.lines.now a.goal a.struck.now (asked_runs none a.lines.now refl c.in_err-run_refusal.ensures)
+    (reason_not_0 e.reason) in
+    rw same (record { answer = answer; sets = sets })
+
+pub strike-requires : goal.strike-requires
+strike-requires c =
+    let all = asked-none none c.args.lines.now (ap (λ r. r.number) (sym (asked_runs none c.args.lines.now refl c.in_ok-run_refusal.ensures))) in
+    (record { good = c.requires.good; runs = all.1; all = c.names_of.ensures }, c.requires.struck_len)
+
+pub returns : goal.returns
+returns c =
+    let a = c.args in
+    let (answer, sets) =
+    goal-all a.rack a.quantities.now a.lines.now a.goal a.struck.now c.requires.struck_len
+    (asked_runs none a.lines.now refl c.in_ok-run_refusal.ensures) c.strike.ensures.answer c.strike.ensures.struck in
+    record { answer = answer; sets = sets }

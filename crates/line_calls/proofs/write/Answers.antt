@@ -1,0 +1,48 @@
+use mathlib.Core.Path.{◌≡◌, refl, sym, ap, ◌∙◌}
+use native.Mathlib.Omega.{arith}
+use lib.Seq.{length-take-le}
+use Rattle.std.proofs.Common.{rules, Err, length}
+use Rattle.refusal.specs.Refusal.{none}
+use Rattle.refusal.proofs.Laws.{reason_not_0}
+use Rattle.job.specs.Job.{file_length}
+use Rattle.job.proofs.Lines.{file_few}
+use Rattle.call_refusals.proofs.Calls.{write_none}
+use Rattle.line_calls.proofs.JobFile.{write-refused, write_accepted}
+use Rattle.line_calls.proofs.write.Goals as goal
+
+pub returns-in_err-write_refusal : goal.returns-in_err-write_refusal
+returns-in_err-write_refusal c =
+    let a = c.args in
+    let e = c.in_err-write_refusal.field-0.0 in
+    let same : c.from_residual.result ≡ Err e = search rules in
+    let (answer, buffer) =
+    write-refused none a.rack a.quantities.now a.lines.now a.out.now c.in_err-write_refusal.ensures c.version_for-version.ensures refl
+    (reason_not_0 e.reason) in
+    rw same (record { answer = answer; buffer = buffer })
+
+pub file_length-bytes-requires : goal.file_length-bytes-requires
+file_length-bytes-requires c = omega (arith, file_few c.version_for-version.result _ c.requires.few-lines)
+
+pub slice_bounds-write_file-end : goal.slice_bounds-write_file-end
+slice_bounds-write_file-end c =
+    omega (arith, c.file_length-bytes.ensures, (write_none none _ _ _ (ap (λ r. r.number) (sym c.in_ok-write_refusal.ensures))).1)
+
+pub slice_bounds-write_file-end-2 : goal.slice_bounds-write_file-end-2
+slice_bounds-write_file-end-2 c =
+    let room = (write_none none _ _ _ (ap (λ r. r.number) (sym c.in_ok-write_refusal.ensures))).1 in
+    sym (length-take-le _ _ (omega (arith, c.file_length-bytes.ensures, room)))
+
+pub write_file-requires-clause-out_len : goal.write_file-requires-clause-out_len
+write_file-requires-clause-out_len c =
+    let room = (write_none none _ _ _ (ap (λ r. r.number) (sym c.in_ok-write_refusal.ensures))).1 in
+    length-take-le _ _ (omega (arith, c.file_length-bytes.ensures, room))
+    ∙ c.file_length-bytes.ensures
+    ∙ ap (λ v. file_length v (length c.args.lines.now)) c.version_for-version.ensures
+
+pub returns : goal.returns
+returns c =
+    let a = c.args in
+    let (answer, buffer) =
+    write_accepted none a.rack a.quantities.now a.lines.now a.out.now c.in_ok-write_refusal.ensures c.version_for-version.ensures refl refl
+    c.file_length-bytes.ensures c.write_file.ensures in
+    record { answer = answer; buffer = buffer }

@@ -1,0 +1,57 @@
+-- What a call on lines tells: its refusal, and its counts, which are 0 where it refuses; and what it tells by its result.
+use Rattle.std.specs.Prelude.{ℕ, ℤ, Result, Ok, Err}
+use Rattle.refusal.specs.Told.{Refusal}
+use Rattle.refusal.specs.Refusal.{none}
+use Rattle.refusal.specs.declared.Refused.{Refused}
+use Rattle.refusal.specs.declared.Unkept.{Unkept}
+use Rattle.refusal.specs.Reasons.{told_of, refusal_of, unkept_of, count_in, margin_in}
+use Rattle.common_tip.specs.declared.Common.{Common}
+use Rattle.junior.specs.declared.Found.{Found}
+
+-- the most placements that allow one tip, the least number of placements off the common tip, and the set of the tips that reach top
+pub record CommonAnswer : Type 0 where
+  pub refusal : Refusal
+  pub top : ℕ
+  pub off : ℕ
+  pub tips : ℕ
+
+-- the margin of keep, which a refusal tells too
+pub record KeepAnswer : Type 0 where
+  pub refusal : Refusal
+  pub margin : ℤ
+
+-- the number of pairs of placements on one tip in the plan that is handed out
+pub record PlanAnswer : Type 0 where
+  pub refusal : Refusal
+  pub pairs : ℕ
+
+-- the plan's pairs, and the tips u and v that it is on
+pub record JuniorAnswer : Type 0 where
+  pub refusal : Refusal
+  pub pairs : ℕ
+  pub u : ℕ
+  pub v : ℕ
+
+-- the bytes of the job file that is written
+pub record FileAnswer : Type 0 where
+  pub refusal : Refusal
+  pub bytes : ℕ
+
+-- ---- what is told by a result
+
+abbrev pub common_told : Result Common Refused → CommonAnswer
+common_told (Ok x) = record { refusal = none; top = x.top; off = x.off; tips = x.tips }
+common_told (Err e) = record { refusal = told_of e; top = 0; off = 0; tips = 0 }
+
+abbrev pub keep_told : Result ℤ Unkept → KeepAnswer
+keep_told r = record { refusal = unkept_of r; margin = margin_in r }
+
+abbrev pub plan_told : Result ℕ Refused → PlanAnswer
+plan_told r = record { refusal = refusal_of r; pairs = count_in r }
+
+abbrev pub junior_told : Result Found Refused → JuniorAnswer
+junior_told (Ok x) = record { refusal = none; pairs = x.pairs; u = x.u; v = x.v }
+junior_told (Err e) = record { refusal = told_of e; pairs = 0; u = 0; v = 0 }
+
+abbrev pub file_told : Result ℕ Refused → FileAnswer
+file_told r = record { refusal = refusal_of r; bytes = count_in r }

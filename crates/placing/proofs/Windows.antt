@@ -1,0 +1,135 @@
+-- The windows of the parts, and the search over flat arrays, which finds the placing order.
+use Prim.Native.Nat.{ℕ, suc, ◌+◌, ◌≤◌, ◌<◌}
+use native.Mathlib.Omega.{arith}
+use mathlib.Core.Path.{◌≡◌, refl, ap, sym, ◌∙◌}
+use mathlib.Core.Logic.{⊎_elim}
+use mathlib.Core.Bool.{Bool, true, false, not, cond}
+use mathlib.Core.List.{List}
+use lib.Dec.{T, ltb, leb, ltb→lt, leb→le}
+use lib.ListN.{length, get_or, take, set}
+use lib.Seq.{get_or-take, length-take-le, get_or-set_same, get_or-set_other}
+use mathlib.Core.Option.{none, some}
+use Rattle.std.proofs.Common as R
+use Rattle.std.proofs.Common.{IfSome, IfNone}
+use Rattle.std.specs.List.{position, position_or_len}
+use Rattle.std.proofs.lemmas.List.Recursion.{is_position_or_len}
+use borrow.Author.Tests.{lt-ltb, le-ltb}
+use Rattle.model.specs.Count.{each, first_fail}
+use Rattle.model.proofs.Tests.{le_or_lt, and_left, and_right}
+use Rattle.model.proofs.Lists.{all-at, each_iff}
+use Rattle.ordering.specs.declared.Part.{Part}
+use Rattle.ordering.specs.declared.Rule.{Rule}
+use Rattle.ordering.specs.Order.{Task}
+use Rattle.ordering.specs.Least.{least_order}
+use Rattle.ordering.specs.Parts.{no_part, part_at, window_ok, task_of, placing_order}
+use Rattle.ordering.specs.Call.{first_bad}
+use Rattle.ordering.proofs.Agree.{Agree, least_agree}
+use Rattle.ordering.proofs.Least.{least-order, least_unique}
+use Rattle.ordering.proofs.Parts.{placing-order}
+use Rattle.flat_order.specs.declared.sets.PartSet.{PartSet}
+use Rattle.flat_order.specs.Flat.{flat_task, InPlace}
+use Rattle.placing.specs.Rows.{RowsFor}
+
+-- the first place that fails a test is the first that passes its opposite
+fail_position : {A : Type 0} (f : A → Bool) (xs : List A) → first_fail f xs ≡ position_or_len (λ x. not (f x)) xs
+unfolding first_fail
+fail_position f xs = is_position_or_len (first_fail f) (λ x. not (f x)) refl (λ x xs. flip (f x) (first_fail f xs)) xs
+  where
+    flip : (b : Bool) (n : ℕ) → cond b (suc n) 0 ≡ cond (not b) 0 (1 + n)
+    flip true n = omega arith
+    flip false n = refl
+
+position_some : {A : Type 0} (f : A → Bool) (xs : List A)
+    → IfSome (position (λ x. not (f x)) xs) (λ w. (w < length xs) × (w ≡ first_fail f xs))
+position_some f xs =
+    let p = position_or_len (λ x. not (f x)) xs in
+    ⊎_elim
+    (λ (h : length xs ≤ p). rw (le-ltb p (length xs) h) tt)
+    (λ (h : p < length xs). rw (lt-ltb p (length xs) h) (h, sym (fail_position f xs)))
+    (le_or_lt (length xs) p)
+
+position_none : {A : Type 0} (f : A → Bool) (xs : List A) → IfNone (position (λ x. not (f x)) xs) (length xs ≤ first_fail f xs)
+position_none f xs =
+    let p = position_or_len (λ x. not (f x)) xs in
+    ⊎_elim
+    (λ (h : length xs ≤ p). rw (le-ltb p (length xs) h) (omega (arith, fail_position f xs)))
+    (λ (h : p < length xs). rw (lt-ltb p (length xs) h) tt)
+    (le_or_lt (length xs) p)
+
+module _ (parts : List Part) where
+  abbrev bad : Part → Bool
+  bad x = not (window_ok (length parts) x)
+
+  pub bad_window : (w : ℕ) → R.Some w ≡ position bad parts → (w < length parts) × (w ≡ first_bad parts)
+  bad_window w e = rw (← e) at (position_some (window_ok (length parts)) parts)
+
+  pub no_bad_window : R.None ≡ position bad parts → length parts ≤ first_bad parts
+  no_bad_window e = rw (← e) at (position_none (window_ok (length parts)) parts)
+
+-- one place more is filled
+pub filled_at : (f : ℕ → ℕ) (xs : List ℕ) (i v : ℕ) → i < length xs → ((k : ℕ) → k < i → get_or xs k 0 ≡ f k) → v ≡ f i
+    → (k : ℕ) → k < i + 1 → get_or (set xs i v) k 0 ≡ f k
+filled_at f xs i v l h e k m =
+    ⊎_elim
+    (λ (u : i ≤ k). let z : k ≡ i = omega arith in rw z (get_or-set_same xs i v 0 l ∙ e))
+    (λ (u : k < i). get_or-set_other xs i k v 0 (λ z. omega arith) ∙ h k u)
+    (le_or_lt i k)
+
+-- where no window is bad the positions are below the number of parts
+module _ (parts : List Part) (windows : T (each (window_ok (length parts)) parts)) where
+  abbrev n : ℕ
+  n = length parts
+
+  window_at : (i : ℕ) → i < n → ((part_at parts i).first ≤ (part_at parts i).last) × ((part_at parts i).last < n)
+  unfolding window_ok
+  window_at i l =
+      let x = part_at parts i in
+      let w = all-at no_part ((each_iff (window_ok n) parts).0 windows) i l in (
+        leb→le x.first x.last (and_left (leb x.first x.last) (ltb x.last n) w),
+        ltb→lt x.last n (and_right (leb x.first x.last) (ltb x.last n) w),
+      )
+
+  module _ (firsts lasts : List ℕ) (room : n ≤ length lasts) (fs : (i : ℕ) → i < n → get_or firsts i 0 ≡ (part_at parts i).first)
+      (ls : (i : ℕ) → i < n → get_or lasts i 0 ≡ (part_at parts i).last) where
+    pub firsts_in : InPlace n firsts
+    firsts_in i l = omega (arith, fs i l, window_at i l)
+
+    pub lasts_in : InPlace n (take n lasts)
+    lasts_in i l = omega (arith, get_or-take n lasts i 0 l, ls i l, window_at i l)
+
+    module _ (rules : List Rule) (rows : List PartSet) (r : RowsFor parts rules rows) where
+      abbrev t : Task
+      t = flat_task firsts (take n lasts) rows
+
+      agree : Agree t (task_of parts rules)
+      agree =
+          let size = length-take-le n lasts room in
+          record {
+            size = size;
+            first = λ i l. fs i (omega (arith, size));
+            last = λ i l. get_or-take n lasts i 0 (omega (arith, size)) ∙ ls i (omega (arith, size));
+            before = λ a b k l. r.has a b (omega (arith, size)) (omega (arith, size));
+          }
+
+      below : (i : ℕ) → i < t.size → t.last i < t.size
+      below i l =
+          let size = length-take-le n lasts room in
+          omega (arith, size, lasts_in i (omega (arith, size)))
+
+      -- the least order by the flat arrays is the placing order
+      flat-order : least_order t ≡ placing_order parts rules
+      flat-order = least_unique (least_agree agree (least-order t below)) (placing-order parts rules windows)
+
+    module _ (rows : List PartSet) where
+      abbrev t₂ : Task
+      t₂ = flat_task firsts (take n lasts) rows
+
+      pub order_some : (o : R.Option (List ℕ)) → IfSome o (λ order. some (take (length (take n lasts)) order) ≡ least_order t₂)
+          → IfSome o (λ order. (rules : List Rule) → RowsFor parts rules rows → some (take n order) ≡ placing_order parts rules)
+      order_some R.None h = tt
+      order_some (R.Some order) h = λ rules r. ap (λ k. some (take k order)) (sym (length-take-le n lasts room)) ∙ h ∙ flat-order rules rows r
+
+      pub order_none : (o : R.Option (List ℕ)) → IfNone o (none ≡ least_order t₂)
+          → IfNone o ((rules : List Rule) → RowsFor parts rules rows → none ≡ placing_order parts rules)
+      order_none R.None h = λ rules r. h ∙ flat-order rules rows r
+      order_none (R.Some order) h = tt

@@ -1,0 +1,14 @@
+use Rattle.std.proofs.Common.{◌*◌, ap₂, ◌∙◌, arith}
+use Rattle.striking.specs.Striking.{limit_by}
+use Rattle.striking.proofs.reach.Reach.limit_at.Goals as goal
+
+pub returns : goal.returns
+unfolding limit_by
+returns c = omega (
+  arith,
+  c.entry_at-outside.ensures.entry,
+  c.entry_at-inside.ensures.entry,
+  c.from-own.ensures,
+  c.pairs_among.ensures,
+  ap₂ ◌*◌ c.from.ensures (c.from-2.ensures ∙ c.meeting_at.ensures.meeting),
+)

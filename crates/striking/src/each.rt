@@ -1,0 +1,87 @@
+// The kept set of each line: its only tip, that of an equal line before it, or else by the sums of the others and the two tables of all lines.
+ghost use Rattle.std.specs.Prelude.{◌≡◌, ℕ, ◌*◌, ◌≤◌, ◌<◌, length, take, MatchOption};
+ghost use Rattle.model.specs.Count.{list_of};
+ghost use Rattle.model.specs.Interval.{C};
+ghost use Rattle.placements.specs.Repeated.{repeated};
+ghost use Rattle.spans.specs.Spans.{sums_size, sums as sums_of};
+ghost use Rattle.checking.specs.Checking.{NamedRuns};
+ghost use Rattle.goals.specs.Goal.{goal_tips, strike};
+ghost use Rattle.striking.specs.Striking.{Same, InsideAll, OutsideAll};
+
+use crate::reach::Reach;
+use crate::rest;
+use crate::summed::Lines;
+
+// The first line before line i with its set and its quantity.
+fn first_same(lines: &[u64], quantities: &[u8], i: usize) -> Option<usize>
+    requires inside { i < length lines.now }
+    requires as_lines { length quantities.now ≡ length lines.now }
+    ensures { MatchOption result ((j : ℕ) → j < i → Same lines.now quantities.now i j → ⊥)
+        (λ f. (f < i) × Same lines.now quantities.now i f × ((j : ℕ) → j < f → Same lines.now quantities.now i j → ⊥)) }
+{
+    (0..i).find(|j| lines[*j] == lines[i] && quantities[*j] == quantities[i])
+}
+
+// All lines with their quantities and the goal, which is not above the most pairs; and the two tables.
+#[derive(Clone, Copy)]
+pub struct Each<'a> {
+    pub lines: &'a [u64],
+    pub quantities: &'a [u8],
+    pub goal: u32,
+    pub all: Lines<'a>,
+    pub inner: &'a [u32],
+    pub upper: &'a [u32],
+    ghost summed: { all.sums.now ≡ sums_of all.m (repeated quantities.now lines.now) },
+    ghost inside: { InsideAll all.m (repeated quantities.now lines.now) inner.now },
+    ghost outside: { OutsideAll all.m (repeated quantities.now lines.now) upper.now },
+    ghost reached: { goal ≤ C (repeated quantities.now lines.now) 0 all.m },
+}
+
+impl Each<'_> {
+    fn struck_at(&self, i: usize, struck: &[u64], rest: &mut [u32], outer: &mut [u32]) -> u64
+        requires named { NamedRuns self.now.all.names self.now.all.m self.now.quantities.now self.now.lines.now }
+        requires line { i < length self.now.lines.now }
+        requires struck { take i struck.now ≡ list_of (goal_tips self.now.all.m self.now.quantities.now self.now.lines.now self.now.goal) i }
+        requires before { i ≤ length struck.now }
+        requires rest_size { length rest.old ≡ sums_size self.now.all.m }
+        requires outer_size { self.now.all.m * self.now.all.m ≤ length outer.old }
+        ensures { result ≡ goal_tips self.now.all.m self.now.quantities.now self.now.lines.now self.now.goal i }
+    {
+        let line = self.lines[i];
+        if tips::lowest(line) == tips::highest(line) {
+            return line;
+        }
+        if let Some(j) = first_same(self.lines, self.quantities, i) {
+            return struck[j];
+        }
+        let quantity = self.quantities[i];
+        rest::sums_without(self.all.m, self.all.sums, line, quantity, rest);
+        let others = Lines {
+            names: self.all.names,
+            m: self.all.m,
+            added: u32::from(quantity),
+            pairs: self.all.pairs,
+            sums: rest,
+        };
+        let reach = Reach {
+            others,
+            set: line,
+            goal: self.goal,
+            inner: self.inner,
+            upper: self.upper,
+        };
+        reach.kept_tips(outer)
+    }
+
+    pub fn strike(&self, rest: &mut [u32], outer: &mut [u32], struck: &mut [u64])
+        requires named { NamedRuns self.now.all.names self.now.all.m self.now.quantities.now self.now.lines.now }
+        requires rest_size { length rest.old ≡ sums_size self.now.all.m }
+        requires outer_size { self.now.all.m * self.now.all.m ≤ length outer.old }
+        requires as_lines { length struck.old ≡ length self.now.lines.now }
+        ensures { struck.new ≡ strike self.now.all.m self.now.quantities.now self.now.lines.now self.now.goal }
+    {
+        for i in 0..self.lines.len() {
+            struck[i] = self.struck_at(i, struck, rest, outer);
+        }
+    }
+}

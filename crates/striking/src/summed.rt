@@ -1,0 +1,56 @@
+// Lines, known by the sums of their placements; and what is read of them in one interval.
+ghost use Rattle.std.specs.Prelude.{◌≡◌, ◌+◌, ◌*◌, ◌^◌, ◌≤◌, ◌<◌, length};
+ghost use Rattle.pair_count.specs.PairTable.{PairTable};
+ghost use Rattle.striking.specs.Striking.{Ready, pairs_by, split_by};
+
+// The tips of the rack from a first one on.
+#[derive(Clone, Copy)]
+pub struct Interval {
+    pub first: usize,
+    pub width: usize,
+}
+
+// With the placements that may be added to a tip: none where these are all lines, and those of one line where these are the others.
+#[derive(Clone, Copy)]
+pub struct Lines<'a> {
+    pub names: u64,
+    pub m: usize,
+    pub added: u32,
+    pub pairs: &'a [u32],
+    pub sums: &'a [u32],
+    ghost ready: { Ready m added sums.now },
+    ghost numbered: { PairTable pairs.now },
+}
+
+impl Lines<'_> {
+    // The pairs on tip c, with q placements more, of the lines lying within the interval. No line has a tip that is not named.
+    pub fn pairs_at(&self, of: Interval, c: usize, q: u32) -> u64
+        requires inside { of.first + of.width ≤ self.now.m }
+        requires from { of.first ≤ c }
+        requires to { c < of.first + of.width }
+        requires few { q ≤ self.now.added }
+        ensures pairs { result ≡ pairs_by self.now.names self.now.m self.now.sums.now q of.first of.width c }
+        ensures narrow { result < 2 ^ 32 }
+    {
+        if !tips::has_tip(self.names, c) {
+            return u64::from(pair_count::pairs_among(self.pairs, q));
+        }
+        let inside = spans::inside_at(self.m, self.sums, of.first, of.width, c);
+        u64::from(pair_count::pairs_among(self.pairs, inside + q))
+    }
+
+    // The split of the interval at its tip i, with q placements more on it.
+    pub fn split_at(&self, of: Interval, i: usize, q: u32, inner: &[u32]) -> u64
+        requires size { self.now.m * self.now.m ≤ length inner.now }
+        requires inside { of.first + of.width ≤ self.now.m }
+        requires tip { i < of.width }
+        requires few { q ≤ self.now.added }
+        ensures split { result ≡ split_by self.now.names self.now.m self.now.sums.now inner.now q of.first of.width i }
+        ensures narrow { result < 2 ^ 34 }
+    {
+        let c = of.first + i;
+        let before = checking::entry_at(self.m, of.first, i, inner);
+        let after = checking::entry_at(self.m, c + 1, of.width - (i + 1), inner);
+        self.pairs_at(of, c, q) + (before + after)
+    }
+}
