@@ -139,13 +139,6 @@ fn write_file(file: &[u8], out: &mut [u8]) -> usize
     }
 }
 
-// The size of the part that is taken of a file of this size.
-fn taken_size(size: usize) -> usize
-    ensures { result ≡ min size taken_bytes }
-{
-    if size < TAKEN { size } else { TAKEN }
-}
-
 // The text for a file, and its length; a buffer shorter than the longest text is left as it is.
 pub fn summarize(file: &[u8], out: &mut [u8]) -> usize
     ensures { Printed (summary_of file.now (length out.old)) out.old result out.new }
@@ -153,6 +146,6 @@ pub fn summarize(file: &[u8], out: &mut [u8]) -> usize
     if out.len() < ROOM {
         return 0;
     }
-    let size = taken_size(file.len());
+    let size = file.len().min(TAKEN);
     write_file(&file[..size], out)
 }
