@@ -14,6 +14,7 @@ pub enum Change {
 }
 
 impl Change {
+    // The conversion is the language's own, of an enum with numbers.
     pub fn code(self) -> u8
         ensures { result ≡ code_of self }
     {
@@ -21,7 +22,7 @@ impl Change {
     }
 }
 
-// Which changes are made to a line.
+// Which changes are made to a line: any of the four, so these are flags and not one kind.
 #[derive(Clone, Copy)]
 pub struct Changed {
     pub cleared: bool,

@@ -26,6 +26,7 @@ fn is_fine(part: Part) -> bool
     part.fine && !part.tall
 }
 
+// Three functions ask for at most 128 parts. A type for this one bound would be no plainer than the slice.
 fn kinds_of(parts: &[Part]) -> Kinds
     requires { length parts.now ≤ 128 }
     ensures { KindsOf parts.now (length parts.now) result }

@@ -48,7 +48,7 @@ fn search(parts: &[Part], rows: &[PartSet]) -> Option<[u8; 128]>
     least_order(&firsts, &mut lasts[..parts.len()], rows)
 }
 
-// The refusals in their order, and the order handed over.
+// The refusals in their order, and the order handed over. The rules are a count and a function, as in `add_rules`.
 pub fn place<F: Fn(usize) -> Rule>(
     parts: &[Part],
     count: usize,

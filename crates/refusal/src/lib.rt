@@ -102,7 +102,7 @@ pub struct Refused {
     pub place: usize,
 }
 
-// A reason alone tells place 0.
+// A reason alone tells place 0. The two instances of `From` differ in their types alone, as instances of a trait do.
 impl From<Reason> for Refused {
     ghost from_gives = { λ reason e. e ≡ record { reason = reason; place = 0 } };
 
