@@ -52,6 +52,41 @@ flags_apart x y p q = rw (alone x.fine x.tall p, alone y.fine y.tall q)
     alone true false n = refl
     alone false h n = refl
 
+-- what the flags ask now, some flag asked before
+flags_fewer : (x y : Part) → T (by_flags x y) → T (by_each_flag x y)
+unfolding by_flags by_each_flag
+flags_fewer x y = fewer x.fine x.tall y.fine y.tall
+  where
+    fewer : (f h g k : Bool) → T (((f && not h) && not (g && not k)) || (not h && k)) → T ((f && not g) || (not h && k))
+    fewer true h false k t = tt
+    fewer true false true true t = tt
+    fewer true false true false t = absurd t
+    fewer true true true k t = absurd t
+    fewer false false g true t = tt
+    fewer false false g false t = absurd t
+    fewer false true g k t = absurd t
+
+-- HEIGHT DECIDES: every order that obeyed still does, whatever the parts
+pub obeyed_still : (parts : List Part) (rules : List Rule) (order : List ℕ) → Obeys (task_before parts rules) order → Obeys (task_of parts rules) order
+unfolding before
+obeyed_still parts rules order o =
+    record {
+      count = o.count;
+      parts = o.parts;
+      different = o.different;
+      opens = o.opens;
+      closes = o.closes;
+      ordered = λ p q k l t.
+          let x = part_at parts (get_or order q 0) in
+          let y = part_at parts (get_or order p 0) in
+          let r = ruled rules (get_or order q 0) (get_or order p 0) in
+          o.ordered p q k l (either r (by_flags x y) (by_each_flag x y) (flags_fewer x y) t);
+    }
+  where
+    either : (r a b : Bool) → (T a → T b) → T (r || a) → T (r || b)
+    either true a b f t = tt
+    either false a b f t = f t
+
 -- AS BEFORE: where no part is both tall and fine, number, place and order buffer are as they were
 module _ (parts : List Part) (rules : List Rule) (apart : All (λ x. T (not (x.fine && x.tall))) parts) where
   placing-before : T (each (window_ok (length parts)) parts) → placing_order parts rules ≡ placing_before parts rules
