@@ -1,2 +1,2 @@
-// The proved list of boards: the rows of RULES 9 are in specs/, one proof of them all is in proofs/.
+// The proved boards: the rows B1 to B74 of RULES 9 are in specs/ as three lists, and the proof of each list is in proofs/.
 #![tactic(auto)]
