@@ -41,22 +41,12 @@ impl Full<'_> {
         ensures table { table.new ≡ table_of self.now.m (repeated self.now.quantities.now self.now.sets.now) }
     {
         let m = self.m;
-        let pairs = pair_count::pair_table();
         let mut sums = [0u32; SUMS];
         let sums = &mut sums[..spans::sums_size(m)];
         let mut owner = [0u8; OWNERS];
         spans::sum_spans(m, self.sets, self.quantities, sums);
-        table::fill_table(m, &pairs, sums, table);
-        layout::plan_lines(
-            m,
-            self.mounted,
-            self.sets,
-            &pairs,
-            sums,
-            table,
-            &mut owner,
-            plan,
-        );
+        table::fill_table(m, sums, table);
+        layout::plan_lines(m, self.mounted, self.sets, sums, table, &mut owner, plan);
     }
 
     // The same: for a small rack in small places, which are made more quickly.

@@ -2,7 +2,6 @@
 ghost use Rattle.std.specs.Prelude.{◌≡◌, ◌≤◌, length};
 ghost use Rattle.model.specs.Limits.{most_placements};
 ghost use Rattle.placements.specs.Repeated.{total};
-ghost use Rattle.pair_count.specs.PairTable.{PairTable};
 ghost use Rattle.refusal.specs.Reasons.{refusal_of};
 ghost use Rattle.checking.specs.Checking.{claim_refusal};
 
@@ -10,7 +9,6 @@ use refusal::{Reason, Refused};
 
 // In one pass: where a line's placements join those on its tip, the tip's pairs grow. A byte of 64 or more is no tip.
 pub fn claim_refusal(
-    pairs: &[u32],
     lines: &[u64],
     quantities: &[u8],
     plan: &[u8],
@@ -19,7 +17,6 @@ pub fn claim_refusal(
     requires as_lines { length quantities.now ≡ length lines.now }
     requires planned { length plan.now ≡ length lines.now }
     requires few { total quantities.now ≤ most_placements }
-    requires table { PairTable pairs.now }
     ensures { refusal_of result ≡ claim_refusal quantities.now lines.now plan.now claim }
 {
     let mut on = [0u32; model::MOST_TIPS];
@@ -31,7 +28,7 @@ pub fn claim_refusal(
         }
         let before = on[tip];
         let after = before + u32::from(*quantity);
-        shared += pair_count::pairs_among(pairs, after) - pair_count::pairs_among(pairs, before);
+        shared += pair_count::pairs_among(after) - pair_count::pairs_among(before);
         on[tip] = after;
     }
     refusal::refuse_when(claim != shared, Reason::WrongClaim)

@@ -7,7 +7,6 @@ mod tabled;
 ghost use Rattle.std.specs.Prelude.{◌≡◌, ◌+◌, ◌*◌, ◌^◌, ◌<◌, ◌≤◌, length};
 ghost use Rattle.model.specs.Limits.{most_tips};
 ghost use Rattle.spans.specs.Spans.{sums_size};
-ghost use Rattle.pair_count.specs.PairTable.{PairTable};
 ghost use Rattle.goals.specs.Check.{entry};
 ghost use Rattle.refusal.specs.Reasons.{refusal_of};
 ghost use Rattle.checking.specs.Checking.{check_refusal, NamedRuns};
@@ -42,16 +41,10 @@ pub fn check_plan(
     requires { NamedRuns names m quantities.now lines.now × (length plan.now ≡ length lines.now) × (m * m ≤ length table.now) }
     ensures { refusal_of result ≡ check_refusal m quantities.now lines.now plan.now claim table.now }
 {
-    let pairs = pair_count::pair_table();
-    claimed::claim_refusal(&pairs, lines, quantities, plan, claim)?;
+    claimed::claim_refusal(lines, quantities, plan, claim)?;
     let mut room = spans::most_sums();
     let sums = &mut room[..spans::sums_size(m)];
     spans::sum_spans(m, lines, quantities, sums);
-    let foreign = Foreign {
-        m,
-        pairs: &pairs,
-        sums,
-        table,
-    };
+    let foreign = Foreign { m, sums, table };
     refusal::refuse_when(!foreign.fits(names, claim), Reason::WrongTable)
 }

@@ -1,6 +1,5 @@
 // A table from other software: its entry for the rack, and each entry at least each of its splits at a named tip.
 ghost use Rattle.std.specs.Prelude.{◌≡◌, ◌≤◌, ◌<◌, ◌&&◌, ◌==◌};
-ghost use Rattle.pair_count.specs.PairTable.{PairTable};
 ghost use Rattle.goals.specs.Check.{entry};
 ghost use Rattle.checking.specs.Checking.{ends_at, ends_by, tip_by, bounds_by, EndLists, Ready};
 
@@ -21,15 +20,14 @@ struct Splits<'a> {
 
 impl Splits<'_> {
     // The innermost loop: at each place the entry is at least the split, a sum of 64-bit numbers, which does not wrap. It counts and does not stop.
-    fn bounded(&self, pairs: &[u32]) -> bool
-        requires { PairTable pairs.now }
+    fn bounded(&self) -> bool
         ensures { result ≡ ends_at self.now.left self.now.shift self.now.nexts.now self.now.firsts.now self.now.rights.now self.now.mosts.now }
     {
         let mut lacking = 0;
         // One counter, and no zip of the four lists: a zip asks at each place whether each list has ended.
         for i in 0..self.mosts.len() {
             let p = self.nexts[i].wrapping_add(self.shift) - self.firsts[i];
-            let split = u64::from(pair_count::pairs_among(pairs, p))
+            let split = u64::from(pair_count::pairs_among(p))
                 + (self.left + u64::from(self.rights[i]));
             lacking += usize::from(u64::from(self.mosts[i]) < split);
         }
@@ -41,11 +39,9 @@ impl Splits<'_> {
 #[derive(Clone, Copy)]
 pub struct Foreign<'a> {
     pub m: usize,
-    pub pairs: &'a [u32],
     pub sums: &'a [u32],
     pub table: &'a [u32],
     ghost ready: { Ready m sums.now table.now },
-    ghost numbered: { PairTable pairs.now },
 }
 
 impl Foreign<'_> {
@@ -57,10 +53,7 @@ impl Foreign<'_> {
     {
         let m = self.m;
         let left = entry_at(m, a, c - a, self.table);
-        let here = pair_count::pairs_among(
-            self.pairs,
-            spans::inside_at(m, self.sums, a, c + 1 - a, c),
-        );
+        let here = pair_count::pairs_among(spans::inside_at(m, self.sums, a, c + 1 - a, c));
         if entry_at(m, a, c + 1 - a, self.table) < u64::from(here) + left {
             return false;
         }
@@ -78,7 +71,7 @@ impl Foreign<'_> {
             rights: &self.table[next * m + next..(next + 1) * m],
             mosts: &self.table[a * m + next..(a + 1) * m],
         };
-        splits.bounded(self.pairs)
+        splits.bounded()
     }
 
     // And so from each first tip.

@@ -5,7 +5,6 @@ ghost use Rattle.std.specs.Prelude.{◌≡◌, ◌≤◌, length};
 ghost use Rattle.model.specs.Limits.{most_lines};
 ghost use Rattle.placements.specs.Repeated.{repeated};
 ghost use Rattle.head.specs.OnHead.{on_head};
-ghost use Rattle.pair_count.specs.PairTable.{PairTable};
 ghost use Rattle.counts.specs.Counts.{Counts};
 ghost use Rattle.greedy.specs.Rounds.{Shareable, QuickShared, TakeReady, ListTaken};
 ghost use Rattle.greedy.specs.Rounds.{RoundReady, RoundDone, Sizes, RoundsReady};
@@ -89,7 +88,6 @@ fn take_lines<const N: usize>(
 fn take_rounds<const N: usize>(
     rack: usize,
     mounted: Option<usize>,
-    pairs: &[u32],
     rooms: &mut Rooms<N>,
     quantities: &[u8],
     left: &mut [u64],
@@ -98,7 +96,6 @@ fn take_rounds<const N: usize>(
 ) -> u32
     requires ready { RoundsReady rack quantities.now left.old plan.old counts.old
         rooms.old.list rooms.old.places rooms.old.sets rooms.old.taken }
-    requires table { PairTable pairs.now }
     requires size { N ≤ most_lines }
     ensures { QuickShared (on_head mounted) rack quantities.now left.old result plan.new left.new }
 {
@@ -111,7 +108,7 @@ fn take_rounds<const N: usize>(
             return shared;
         }
         let tip = head::choose(mounted, busiest.tips);
-        shared += pair_count::pairs_among(pairs, busiest.top);
+        shared += pair_count::pairs_among(busiest.top);
         unplanned = take_lines(tip, unplanned, rooms, quantities, left, plan, counts);
         if unplanned == 0 {
             return shared;
@@ -123,7 +120,6 @@ fn take_rounds<const N: usize>(
 fn plan_in<const N: usize>(
     rack: usize,
     mounted: Option<usize>,
-    pairs: &[u32],
     quantities: &[u8],
     left: &mut [u64],
     plan: &mut [u8],
@@ -131,7 +127,6 @@ fn plan_in<const N: usize>(
 ) -> u32
     requires shareable { Shareable rack quantities.now left.old plan.old }
     requires counted { Counts (repeated quantities.now left.old) counts.old }
-    requires table { PairTable pairs.now }
     requires room { length left.old ≤ N }
     requires size { N ≤ most_lines }
     ensures { QuickShared (on_head mounted) rack quantities.now left.old result plan.new left.new }
@@ -142,9 +137,7 @@ fn plan_in<const N: usize>(
         sets: [0; N],
         taken: [0; N],
     };
-    take_rounds(
-        rack, mounted, pairs, &mut rooms, quantities, left, plan, counts,
-    )
+    take_rounds(rack, mounted, &mut rooms, quantities, left, plan, counts)
 }
 
 // The plan of quick sharing, and its pairs. The lines are the caller's working copy: at the end each set is empty.
@@ -159,10 +152,9 @@ pub fn plan_lines(
     ensures { QuickShared (on_head mounted) rack quantities.now left.old result plan.new left.new }
 {
     let mut counts = counts::count_tips(left, quantities);
-    let pairs = pair_count::pair_table();
     if left.len() <= FEW {
-        plan_in::<FEW>(rack, mounted, &pairs, quantities, left, plan, &mut counts)
+        plan_in::<FEW>(rack, mounted, quantities, left, plan, &mut counts)
     } else {
-        plan_in::<MOST>(rack, mounted, &pairs, quantities, left, plan, &mut counts)
+        plan_in::<MOST>(rack, mounted, quantities, left, plan, &mut counts)
     }
 }

@@ -7,7 +7,6 @@ ghost use Rattle.model.specs.Plan.{has};
 ghost use Rattle.placements.specs.Repeated.{total, repeated};
 ghost use Rattle.model.specs.Count.{All};
 ghost use Rattle.placements.specs.Good.{GoodLines};
-ghost use Rattle.pair_count.specs.PairTable.{PairTable};
 ghost use Rattle.holders.specs.Holders.{gathered, side_pairs};
 ghost use Rattle.junior.specs.Found.{tips_on, score_is, tips_of, found_of, plan_of};
 
@@ -49,13 +48,12 @@ fn has_one(set: u64, u: usize, v: usize) -> bool
 }
 
 // The pairs where `on` of all the placements are on one tip and the others on another.
-fn side_pairs(pairs: &[u32], all: u32, on: u32) -> u32
-    requires table { PairTable pairs.now }
+fn side_pairs(all: u32, on: u32) -> u32
     requires on { on ≤ all }
     requires all { all ≤ most_placements }
     ensures { result ≡ side_pairs all on }
 {
-    pair_count::pairs_among(pairs, on) + pair_count::pairs_among(pairs, all - on)
+    pair_count::pairs_among(on) + pair_count::pairs_among(all - on)
 }
 
 // Two different tips are a choice only where each gets a line: some lack u, and some lack v.
@@ -66,21 +64,13 @@ fn each_used(same: bool, all: u32, with_u: u32, with_v: u32) -> bool
 }
 
 // The tips u and v with their plan's pairs. They are no choice where a line has neither, or where one of two different tips gets no line.
-fn on_tips(
-    u: usize,
-    v: usize,
-    pairs: &[u32],
-    lines: &[u64],
-    quantities: &[u8],
-    all: u32,
-) -> Option<Tips>
+fn on_tips(u: usize, v: usize, lines: &[u64], quantities: &[u8], all: u32) -> Option<Tips>
     requires ordered { u ≤ v }
     requires inside { v < most_tips }
     requires same { length quantities.now ≡ length lines.now }
     requires placed { All (λ q. 1 ≤ q) quantities.now }
     requires all { all ≡ total quantities.now }
     requires few { all ≤ most_placements }
-    requires table { PairTable pairs.now }
     ensures { result ≡ tips_on (repeated quantities.now lines.now) u v }
 {
     let mut with_u = 0;
@@ -95,8 +85,8 @@ fn on_tips(
     if !each_used(u == v, all, with_u, with_v) {
         return None;
     }
-    let to_u = side_pairs(pairs, all, with_u);
-    let to_v = side_pairs(pairs, all, with_v);
+    let to_u = side_pairs(all, with_u);
+    let to_v = side_pairs(all, with_v);
     Some(Tips {
         pairs: to_u.max(to_v),
         u,
@@ -121,16 +111,15 @@ fn better(first: Option<Tips>, next: Tips) -> Option<Tips>
 }
 
 // The tips with the most pairs, of these the lowest u, then the lowest v.
-fn choose_tips(m: usize, pairs: &[u32], lines: &[u64], quantities: &[u8], all: u32) -> Option<Tips>
+fn choose_tips(m: usize, lines: &[u64], quantities: &[u8], all: u32) -> Option<Tips>
     requires good { GoodLines m quantities.now lines.now }
     requires all { all ≡ total quantities.now }
-    requires table { PairTable pairs.now }
     ensures { result ≡ tips_of m quantities.now lines.now }
 {
     let mut best = None;
     for u in 0..m {
         for v in u..m {
-            if let Some(next) = on_tips(u, v, pairs, lines, quantities, all) {
+            if let Some(next) = on_tips(u, v, lines, quantities, all) {
                 best = better(best, next);
             }
         }
@@ -183,9 +172,8 @@ pub fn plan_lines(m: usize, lines: &[u64], quantities: &[u8], plan: &mut [u8]) -
     ensures answer { result ≡ found_of m quantities.now lines.now }
     ensures plan { plan.new ≡ plan_of m quantities.now lines.now plan.old }
 {
-    let pairs = pair_count::pair_table();
     let all = placements::total(quantities) as u32;
-    let tips = choose_tips(m, &pairs, lines, quantities, all)?;
+    let tips = choose_tips(m, lines, quantities, all)?;
     lay_tips(tips, lines, plan);
     Some(Found {
         pairs: tips.pairs,

@@ -7,7 +7,6 @@ ghost use Rattle.model.specs.Count.{All};
 ghost use Rattle.model.specs.Plan.{Domain};
 ghost use Rattle.model.specs.Interval.{any, is_run, plan_for};
 ghost use Rattle.head.specs.OnHead.{on_head};
-ghost use Rattle.pair_count.specs.PairTable.{PairTable};
 ghost use Rattle.layout.specs.Picks.{most_by, split_by, lowest_by, pick_by, Ready, Filled, Searchable};
 ghost use Rattle.layout.specs.Owners.{owner_of, owned, laid};
 
@@ -16,11 +15,9 @@ ghost use Rattle.layout.specs.Owners.{owner_of, owned, laid};
 struct Counted<'a> {
     m: usize,
     mounted: Option<usize>,
-    pairs: &'a [u32],
     sums: &'a [u32],
     table: &'a [u32],
     ghost searchable: { Searchable m sums.now table.now },
-    ghost numbered: { PairTable pairs.now },
 }
 
 impl Counted<'_> {
@@ -43,7 +40,7 @@ impl Counted<'_> {
         ensures { result ≡ split_by self.now.m self.now.sums.now self.now.table.now a w i }
     {
         let inside = spans::inside_at(self.m, self.sums, a, w, a + i);
-        let here = pair_count::pairs_among(self.pairs, inside);
+        let here = pair_count::pairs_among(inside);
         here + (self.most(a, i) + self.most(a + i + 1, w - (i + 1)))
     }
 
@@ -128,7 +125,6 @@ pub fn plan_lines(
     m: usize,
     mounted: Option<usize>,
     sets: &[u64],
-    pairs: &[u32],
     sums: &[u32],
     table: &[u32],
     owner: &mut [u8],
@@ -137,7 +133,6 @@ pub fn plan_lines(
     requires filled { Filled m sums.now table.now }
     requires domains { All (Domain m) sets.now }
     requires runs { All (λ s. T (is_run s)) sets.now }
-    requires numbered { PairTable pairs.now }
     requires places { m * m ≤ length owner.old }
     requires size { length plan.old ≡ length sets.now }
     ensures { (lines : List ℕ) → Ready m lines sums.now table.now
@@ -146,7 +141,6 @@ pub fn plan_lines(
     let counted = Counted {
         m,
         mounted,
-        pairs,
         sums,
         table,
     };

@@ -4,13 +4,12 @@
 ghost use Rattle.std.specs.Prelude.{◌≡◌, ◌≤◌};
 ghost use Rattle.model.specs.Limits.{most_placements};
 ghost use Rattle.model.specs.Plan.{choose2};
-ghost use Rattle.pair_count.specs.PairTable.{PairTable};
 
 // A place for 0 to 2,048 placements.
-pub const SIZE: usize = model::MOST_PLACEMENTS + 1;
+const SIZE: usize = model::MOST_PLACEMENTS + 1;
 
-// Place p has p(p-1)/2, as the service manual prints it.
-const PAIRS: [u32; SIZE] = [
+// Place p has p(p-1)/2, as the service manual prints it. A static, which is read where it is: the compiler writes a constant table to the stack.
+static PAIRS: [u32; SIZE] = [
     0, 0, 1, 3, 6, 10, 15, 21, 28, 36, 45, 55, 66, 78, 91, 105, 120, 136, 153, 171, 190, 210, 231,
     253, 276, 300, 325, 351, 378, 406, 435, 465, 496, 528, 561, 595, 630, 666, 703, 741, 780, 820,
     861, 903, 946, 990, 1035, 1081, 1128, 1176, 1225, 1275, 1326, 1378, 1431, 1485, 1540, 1596,
@@ -189,16 +188,11 @@ const PAIRS: [u32; SIZE] = [
     2083861, 2085903, 2087946, 2089990, 2092035, 2094081, 2096128,
 ];
 
-// The whole table, for a call to take once and to lend: where a constant stands, the compiler writes all of it to the stack.
-pub fn pair_table() -> [u32; SIZE]
-    ensures { PairTable result }
-{
-    PAIRS
-}
-
-pub fn pairs_among(table: &[u32], p: u32) -> u32
-    requires { PairTable table.now × (p ≤ most_placements) }
+// The pairs among p placements.
+#[tactic(auto, using(crate::proofs::PairTable::PAIRS_at))]
+pub fn pairs_among(p: u32) -> u32
+    requires { p ≤ most_placements }
     ensures { result ≡ choose2 p }
 {
-    table[p as usize]
+    PAIRS[p as usize]
 }

@@ -60,7 +60,6 @@ impl Each<'_> {
             names: self.all.names,
             m: self.all.m,
             added: u32::from(quantity),
-            pairs: self.all.pairs,
             sums: rest,
         };
         let reach = Reach {

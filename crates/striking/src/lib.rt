@@ -43,7 +43,6 @@ fn strike_in<const SUMS: usize, const CELLS: usize>(
     ensures struck { struck.new ≡ struck_by m quantities.now lines.now goal struck.old }
 {
     let size = spans::sums_size(m);
-    let pairs = pair_count::pair_table();
     let mut sums = [0u32; SUMS];
     let sums = &mut sums[..size];
     spans::sum_spans(m, lines, quantities, sums);
@@ -51,7 +50,6 @@ fn strike_in<const SUMS: usize, const CELLS: usize>(
         names,
         m,
         added: 0,
-        pairs: &pairs,
         sums,
     };
     let mut inner = [0u32; CELLS];

@@ -9,10 +9,10 @@ ghost use Rattle.striking.specs.Striking.{Counted, meeting_by, limit_by, open_by
 
 use crate::summed::{Interval, Lines};
 
-// A line and the goal, with the other lines and the two tables of all lines.
+// A line and the goal, with the other lines and the two tables of all lines. The other lines' sums are written anew for each line.
 #[derive(Clone, Copy)]
-pub struct Reach<'a> {
-    pub others: Lines<'a>,
+pub struct Reach<'a, 'b> {
+    pub others: Lines<'b>,
     pub set: u64,
     pub goal: u32,
     pub inner: &'a [u32],
@@ -23,7 +23,7 @@ pub struct Reach<'a> {
     ghost upper_size: { others.m * others.m ≤ length upper.now },
 }
 
-impl Reach<'_> {
+impl Reach<'_, '_> {
     // The placements of the other lines lying within the interval that do not end before the set or begin after it.
     fn meeting_at(&self, of: Interval) -> u32
         requires inside { of.first + of.width ≤ self.now.others.m }
@@ -53,7 +53,7 @@ impl Reach<'_> {
     {
         let outside = checking::entry_at(self.others.m, of.first, of.width, self.upper);
         let inside = checking::entry_at(self.others.m, of.first, of.width, self.inner);
-        let own = u64::from(pair_count::pairs_among(self.others.pairs, self.others.added));
+        let own = u64::from(pair_count::pairs_among(self.others.added));
         let more = u64::from(self.others.added) * u64::from(self.meeting_at(of));
         outside + (inside + (more + own))
     }

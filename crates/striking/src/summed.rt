@@ -1,6 +1,5 @@
 // Lines, known by the sums of their placements; and what is read of them in one interval.
 ghost use Rattle.std.specs.Prelude.{◌≡◌, ◌+◌, ◌*◌, ◌^◌, ◌≤◌, ◌<◌, length};
-ghost use Rattle.pair_count.specs.PairTable.{PairTable};
 ghost use Rattle.striking.specs.Striking.{Ready, pairs_by, split_by};
 
 // The tips of the rack from a first one on.
@@ -16,10 +15,8 @@ pub struct Lines<'a> {
     pub names: u64,
     pub m: usize,
     pub added: u32,
-    pub pairs: &'a [u32],
     pub sums: &'a [u32],
     ghost ready: { Ready m added sums.now },
-    ghost numbered: { PairTable pairs.now },
 }
 
 impl Lines<'_> {
@@ -33,10 +30,10 @@ impl Lines<'_> {
         ensures narrow { result < 2 ^ 32 }
     {
         if !tips::has_tip(self.names, c) {
-            return u64::from(pair_count::pairs_among(self.pairs, q));
+            return u64::from(pair_count::pairs_among(q));
         }
         let inside = spans::inside_at(self.m, self.sums, of.first, of.width, c);
-        u64::from(pair_count::pairs_among(self.pairs, inside + q))
+        u64::from(pair_count::pairs_among(inside + q))
     }
 
     // The split of the interval at its tip i, with q placements more on it.

@@ -3,7 +3,6 @@
 
 ghost use Rattle.std.specs.Prelude.{◌≡◌, ℕ, ◌+◌, ◌*◌, ◌-◌, ◌^◌, ◌<◌, max, length, List};
 ghost use Rattle.model.specs.Interval.{table as table_of};
-ghost use Rattle.pair_count.specs.PairTable.{PairTable};
 ghost use Rattle.table.specs.Cells.{split_of, Small, split_at, largest_at, SplitLists};
 ghost use Rattle.table.specs.Cells.{allows_of, cell_by, Cell, Differences, RunSums, ColumnsBy};
 
@@ -22,26 +21,23 @@ fn larger(x: u32, y: u32) -> u32
 
 // The pairs of an interval if a tip takes its lines.
 #[tactic(auto, using(model::proofs::Limits::choose2_few), unfolding(crate::specs::Cells::split_of))]
-fn split_of(pairs: &[u32], base: u32, allow: u32, sum: u32, left: u32, right: u32) -> u32
-    requires numbers { Small base allow sum left right }
-    requires numbered { PairTable pairs.now }
+fn split_of(base: u32, allow: u32, sum: u32, left: u32, right: u32) -> u32
+    requires { Small base allow sum left right }
     ensures value { result ≡ split_of base allow sum left right }
     ensures small { result < 2 ^ 31 }
 {
-    pair_count::pairs_among(pairs, allow + sum - base) + (left + right)
+    pair_count::pairs_among(allow + sum - base) + (left + right)
 }
 
 // The splits of an interval at the tips after its first, a place of each list for each tip.
 #[derive(Clone, Copy)]
 struct Splits<'a> {
     base: u32,
-    pairs: &'a [u32],
     allows: &'a [u32],
     sums: &'a [u32],
     lefts: &'a [u32],
     rights: &'a [u32],
     ghost lists: { SplitLists base allows.now sums.now lefts.now rights.now },
-    ghost numbered: { PairTable pairs.now },
 }
 
 impl Splits<'_> {
@@ -52,7 +48,6 @@ impl Splits<'_> {
         ensures small { result < 2 ^ 31 }
     {
         split_of(
-            self.pairs,
             self.base,
             self.allows[i],
             self.sums[i],
@@ -81,13 +76,11 @@ impl Splits<'_> {
     }
 }
 
-// What the table is filled from: the rack, the pairs among any number of placements, and the sums of the placements.
+// What the table is filled from: the rack, and the sums of the placements.
 #[derive(Clone, Copy)]
 struct Source<'a> {
     m: usize,
-    pairs: &'a [u32],
     sums: &'a [u32],
-    ghost numbered: { PairTable pairs.now },
 }
 
 impl Source<'_> {
@@ -112,17 +105,9 @@ impl Source<'_> {
         let next = a + 1;
         let end = b + 1;
         let base = self.sums[row + end];
-        let first = split_of(
-            self.pairs,
-            base,
-            allows[a],
-            self.sums[row + a],
-            0,
-            column[next],
-        );
+        let first = split_of(base, allows[a], self.sums[row + a], 0, column[next]);
         let others = Splits {
             base,
-            pairs: self.pairs,
             allows: &allows[next..end],
             sums: &self.sums[row + next..row + end],
             lefts: &table[a * self.m + a..a * self.m + b],
@@ -150,12 +135,12 @@ impl Source<'_> {
 }
 
 // C of the interval from a to b at a * m + b, and 0 below the diagonal: the table of all lines that have these sums.
-pub fn fill_table(m: usize, pairs: &[u32], sums: &[u32], table: &mut [u32])
-    requires { ((lines : List ℕ) × RunSums m lines sums.now) × (length table.old ≡ m * m) × PairTable pairs.now }
+pub fn fill_table(m: usize, sums: &[u32], table: &mut [u32])
+    requires { ((lines : List ℕ) × RunSums m lines sums.now) × (length table.old ≡ m * m) }
     ensures { (lines : List ℕ) → RunSums m lines sums.now → table.new ≡ table_of m lines }
 {
     table.fill(0);
-    let source = Source { m, pairs, sums };
+    let source = Source { m, sums };
     for b in 0..m {
         source.fill_column(b, table);
     }

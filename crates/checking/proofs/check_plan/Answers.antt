@@ -13,10 +13,7 @@ returns-in_err-claim_refusal c =
     e ∙ or_err _ _ c.in_err-claim_refusal.ensures
 
 pub invariant_of-foreign : goal.invariant_of-foreign
-invariant_of-foreign c = record {
-  ready = rw c.sum_spans.ensures (ready c.requires.0 c.args.table.now c.requires.2);
-  numbered = c.pair_table-pairs.ensures;
-}
+invariant_of-foreign c = record { ready = rw c.sum_spans.ensures (ready c.requires.0 c.args.table.now c.requires.2) }
 
 pub returns : goal.returns
 unfolding check_refusal table_ok

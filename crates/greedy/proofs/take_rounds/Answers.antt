@@ -32,7 +32,7 @@ returns-then-busiest-eq0 g c =
 
 pub pairs_among-shared-requires : goal.pairs_among-shared-requires
 pairs_among-shared-requires g c =
-    (c.requires.table, few_placements (begins c.rounds.invariant.0 c.requires.ready.shareable.good c.busiest_tips-busiest.ensures.top))
+    few_placements (begins c.rounds.invariant.0 c.requires.ready.shareable.good c.busiest_tips-busiest.ensures.top)
 
 pub overflow_add-shared : goal.overflow_add-shared
 overflow_add-shared g c =

@@ -5,7 +5,7 @@ use Rattle.layout.proofs.Plan.{plan_laid}
 use Rattle.layout.proofs.plan_lines.Goals as goal
 
 pub invariant_of-counted : goal.invariant_of-counted
-invariant_of-counted c = record { searchable = searchable c.requires.filled.1; numbered = c.requires.numbered }
+invariant_of-counted c = record { searchable = searchable c.requires.filled.1 }
 
 pub returns : goal.returns
 returns c =

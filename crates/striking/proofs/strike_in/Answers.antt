@@ -6,10 +6,7 @@ use Rattle.striking.proofs.Kept.{goal_missed, goal-met}
 use Rattle.striking.proofs.strike_in.Goals as goal
 
 pub invariant_of-all : goal.invariant_of-all
-invariant_of-all g c = record {
-  ready = ready (all-sums c.requires.named c.sum_spans.ensures);
-  numbered = c.pair_table-pairs.ensures;
-}
+invariant_of-all g c = record { ready = ready (all-sums c.requires.named c.sum_spans.ensures) }
 
 pub fill_inside-requires-clause-sums : goal.fill_inside-requires-clause-sums
 fill_inside-requires-clause-sums g c = (repeated c.args.quantities.now c.args.lines.now, all-sums c.requires.named c.sum_spans.ensures)

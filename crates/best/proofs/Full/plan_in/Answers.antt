@@ -13,7 +13,6 @@ fill_table-requires g c =
     let s = c.args.self.now in (
       (repeated s.quantities.now s.sets.now, record { runs = placed_runs s.runs; summed = c.sum_spans.ensures }),
       c.requires.cells,
-      c.pair_table-pairs.ensures,
     )
 
 pub whole_as_slice-plan_lines : goal.whole_as_slice-plan_lines

@@ -67,13 +67,13 @@ pub pairs_among-requires : goal.pairs_among-requires
 pairs_among-requires c =
     let at = goal.at.pairs_among-requires c in
     let f = found at.After-from (here at.In-Some (over at.After-into_iter-tip-iterator)) in
-    (c.requires.table, f.few)
+    f.few
 
 pub pairs_among-requires-in-loop-tip : goal.pairs_among-requires-in-loop-tip
 pairs_among-requires-in-loop-tip c =
     let at = goal.at.pairs_among-requires-in-loop-tip c in
     let f = found at.After-from (here at.In-Some (over at.After-into_iter-tip-iterator)) in
-    (c.requires.table, omega arith)
+    omega arith
 
 pub overflow_sub-shared : goal.overflow_sub-shared
 overflow_sub-shared c =

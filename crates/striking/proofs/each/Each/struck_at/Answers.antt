@@ -45,10 +45,7 @@ pub sums_without-requires-clause-removable : goal.sums_without-requires-clause-r
 sums_without-requires-clause-removable c = rw c.args.self.now.summed (removable c.requires.named c.args.i c.requires.line)
 
 pub invariant_of-others : goal.invariant_of-others
-invariant_of-others c = record {
-  ready = ready (sums-of (goal.at.invariant_of-others c).After-from);
-  numbered = c.args.self.now.all.numbered;
-}
+invariant_of-others c = record { ready = ready (sums-of (goal.at.invariant_of-others c).After-from) }
 
 pub invariant_of-reach : goal.invariant_of-reach
 invariant_of-reach c =

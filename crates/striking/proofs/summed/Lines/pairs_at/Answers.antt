@@ -6,7 +6,7 @@ use Rattle.striking.proofs.summed.Lines.pairs_at.Goals as goal
 pub pairs_among-requires : goal.pairs_among-requires
 pairs_among-requires c =
     let few = c.args.self.now.ready.few c.args.of.first c.args.of.width c.args.c c.requires.inside c.requires.from c.requires.to in
-    (c.args.self.now.numbered, omega arith)
+    omega arith
 
 pub returns-then-not-has_tip-clause-pairs : goal.returns-then-not-has_tip-clause-pairs
 unfolding pairs_by
