@@ -42,7 +42,7 @@ pub fn check_plan(
     ensures { refusal_of result ≡ check_refusal m quantities.now lines.now plan.now claim table.now }
 {
     claimed::claim_refusal(lines, quantities, plan, claim)?;
-    let mut room = spans::most_sums();
+    let mut room = [0u32; spans::MOST_SUMS];
     let sums = &mut room[..spans::sums_size(m)];
     spans::sum_spans(m, lines, quantities, sums);
     let foreign = Foreign { m, sums, table };
