@@ -2,7 +2,7 @@ use Rattle.std.proofs.Common.{rules, arith, refl, length, length-append, length-
 use Rattle.unplanned.proofs.InOrder.{all-unplanned}
 use Rattle.greedy.proofs.Round.{start, few_placements, each_empty, none-listed, round_ready, pairs_fit, next, next_fewer}
 use Rattle.greedy.proofs.Round.{end_left, end_plan, end_pairs, begins, chooses, sizes_on}
-use Rattle.greedy.proofs.take_rounds.Goals as goal
+use Rattle.greedy.proofs.Rooms.take_rounds.Goals as goal
 
 pub rounds-init : goal.rounds-init
 rounds-init g c =
@@ -16,7 +16,7 @@ rounds-init g c =
       },
       record {
         list_size =
-            let before = length-take (length c.args.left.now) c.args.rooms.now.list in
+            let before = length-take (length c.args.left.now) c.args.self.now.list in
             simp (length-append, length-drop) (omega (arith, c.list_all.auto.list, before, p.fit.for_lines));
         places_size = refl;
         sets_size = refl;
@@ -40,37 +40,37 @@ overflow_add-shared g c =
     let chosen = chooses b c.if-busiest-eq0.false c.busiest_tips-busiest.ensures.tips c.choose-tip.ensures in
     record { fits = omega (arith, pairs_fit chosen c.pairs_among-shared.ensures) }
 
-pub take_lines-unplanned-requires : goal.take_lines-unplanned-requires
-take_lines-unplanned-requires g c =
+pub take_lines-requires : goal.take_lines-requires
+take_lines-requires g c =
     let b = begins c.rounds.invariant.0 c.requires.ready.shareable.good c.busiest_tips-busiest.ensures.top in
     let chosen = chooses b c.if-busiest-eq0.false c.busiest_tips-busiest.ensures.tips c.choose-tip.ensures in
-    (search rules, round_ready chosen c.rounds.invariant.0 c.rounds.invariant.1 c.requires.ready.fit)
+    (search rules, (round_ready chosen c.rounds.invariant.0 c.rounds.invariant.1 c.requires.ready.fit, c.requires.size))
 
-pub returns-then-unplanned-eq0 : goal.returns-then-unplanned-eq0
-returns-then-unplanned-eq0 g c =
+pub returns-then-self-eq0 : goal.returns-then-self-eq0
+returns-then-self-eq0 g c =
     let b = begins c.rounds.invariant.0 c.requires.ready.shareable.good c.busiest_tips-busiest.ensures.top in
     let chosen = chooses b c.if-busiest-eq0.false c.busiest_tips-busiest.ensures.tips c.choose-tip.ensures in
-    let r = c.take_lines-unplanned.ensures.done in
+    let r = c.take_lines.ensures.done in
     let state = next chosen c.pairs_among-shared.ensures r.done in
-    let empty = none-listed _ r.unplanned c.if-unplanned-eq0.true in
+    let empty = none-listed _ r.unplanned c.if-self-eq0.true in
     record { pairs_are = end_pairs state empty; plan_is = end_plan state empty; left_is = end_left state empty }
 
 pub rounds-smaller : goal.rounds-smaller
 rounds-smaller g c =
     let b = begins c.rounds.invariant.0 c.requires.ready.shareable.good c.busiest_tips-busiest.ensures.top in
     let chosen = chooses b c.if-busiest-eq0.false c.busiest_tips-busiest.ensures.tips c.choose-tip.ensures in
-    next_fewer chosen c.pairs_among-shared.ensures c.take_lines-unplanned.ensures.done.done
+    next_fewer chosen c.pairs_among-shared.ensures c.take_lines.ensures.done.done
 
 pub rounds-preserved : goal.rounds-preserved
 rounds-preserved g c =
     let b = begins c.rounds.invariant.0 c.requires.ready.shareable.good c.busiest_tips-busiest.ensures.top in
     let chosen = chooses b c.if-busiest-eq0.false c.busiest_tips-busiest.ensures.tips c.choose-tip.ensures in
-    let r = c.take_lines-unplanned.ensures.done in (
+    let r = c.take_lines.ensures.done in (
       record {
         state = next chosen c.pairs_among-shared.ensures r.done;
-        counts_are = r.counts_are c.if-unplanned-eq0.false;
+        counts_are = r.counts_are c.if-self-eq0.false;
         most = r.most;
         unplanned = r.unplanned;
       },
-      sizes_on c.rounds.invariant.1 c.take_lines-unplanned.ensures.sizes,
+      sizes_on c.rounds.invariant.1 c.take_lines.ensures.sizes,
     )
