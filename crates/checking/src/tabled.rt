@@ -24,12 +24,12 @@ impl Splits<'_> {
         ensures { result ≡ ends_at self.now.left self.now.shift self.now.nexts.now self.now.firsts.now self.now.rights.now self.now.mosts.now }
     {
         let mut lacking = 0;
-        // One counter, and no zip of the four lists: a zip asks at each place whether each list has ended.
-        for i in 0..self.mosts.len() {
-            let p = self.nexts[i].wrapping_add(self.shift) - self.firsts[i];
-            let split = u64::from(pair_count::pairs_among(p))
-                + (self.left + u64::from(self.rights[i]));
-            lacking += usize::from(u64::from(self.mosts[i]) < split);
+        let sums = self.nexts.iter().zip(self.firsts);
+        let entries = self.rights.iter().zip(self.mosts);
+        for ((next, first), (right, most)) in sums.zip(entries) {
+            let p = next.wrapping_add(self.shift) - *first;
+            let split = u64::from(pair_count::pairs_among(p)) + (self.left + u64::from(*right));
+            lacking += usize::from(u64::from(*most) < split);
         }
         lacking == 0
     }
