@@ -11,6 +11,7 @@ ghost use Rattle.head.specs.OnHead.{on_head};
 ghost use Rattle.best.specs.Runs.{NamedRuns, FullRuns, Ranked, All-prop};
 ghost use Rattle.std.proofs.Props.{props};
 
+use layout::Counted;
 use spans::{MOST_SUMS, SMALL_SUMS};
 use spread::Ranking;
 
@@ -46,7 +47,13 @@ impl Full<'_> {
         let mut owner = [0u8; OWNERS];
         spans::sum_spans(m, self.sets, self.quantities, sums);
         table::fill_table(m, sums, table);
-        layout::plan_lines(m, self.mounted, self.sets, sums, table, &mut owner, plan);
+        let counted = Counted {
+            m,
+            mounted: self.mounted,
+            sums,
+            table,
+        };
+        counted.plan_lines(self.sets, &mut owner, plan);
     }
 
     // The same: for a small rack in small places, which are made more quickly.
@@ -89,36 +96,40 @@ fn plan_ranks(
     full.plan_runs(plan, &mut table[..r * r]);
 }
 
-// The plan and the table of runs of the named tips, by their ranks: the sets end renumbered.
-fn plan_named(
+// A rack of m tips, the tip that is mounted, and the tips that the lines name.
+#[derive(Clone, Copy)]
+struct Rack {
     m: usize,
     mounted: Option<usize>,
     names: u64,
-    sets: &mut [u64],
-    quantities: &[u8],
-    plan: &mut [u8],
-    table: &mut [u32],
-)
-    requires runs { NamedRuns m quantities.now sets.old }
-    requires named { names ≡ names_of sets.old }
-    requires lines { length plan.old ≡ length sets.old }
-    requires cells { length table.old ≡ m * m }
-    ensures plan { plan.new ≡ best_plan_q (on_head mounted) m quantities.now sets.old }
-    ensures table { table.new ≡ table_of m (repeated quantities.now sets.old) }
-{
-    let mut rank_list = [0u8; model::MOST_TIPS];
-    let mut tip_list = [0u8; model::MOST_TIPS];
-    let count = ranks::list_tips(names, m, &mut rank_list, &mut tip_list);
-    ranks::renumber_lines(sets, &rank_list);
-    let on = ranks::renumber_mounted(mounted, names, &rank_list);
-    plan_ranks(count, on, sets, quantities, plan, table);
-    spread::name_tips(&tip_list, plan);
-    let ranking = Ranking {
-        set: names,
-        m,
-        count,
-    };
-    spread::spread_table(&ranking, table);
+}
+
+impl Rack {
+    // The plan and the table of runs of the named tips, by their ranks: the sets end renumbered.
+    fn plan_named(&self, sets: &mut [u64], quantities: &[u8], plan: &mut [u8], table: &mut [u32])
+        requires runs { NamedRuns self.now.m quantities.now sets.old }
+        requires named { self.now.names ≡ names_of sets.old }
+        requires lines { length plan.old ≡ length sets.old }
+        requires cells { length table.old ≡ self.now.m * self.now.m }
+        ensures plan { plan.new ≡ best_plan_q (on_head self.now.mounted) self.now.m quantities.now sets.old }
+        ensures table { table.new ≡ table_of self.now.m (repeated quantities.now sets.old) }
+    {
+        let m = self.m;
+        let names = self.names;
+        let mut rank_list = [0u8; model::MOST_TIPS];
+        let mut tip_list = [0u8; model::MOST_TIPS];
+        let count = ranks::list_tips(names, m, &mut rank_list, &mut tip_list);
+        ranks::renumber_lines(sets, &rank_list);
+        let on = ranks::renumber_mounted(self.mounted, names, &rank_list);
+        plan_ranks(count, on, sets, quantities, plan, table);
+        spread::name_tips(&tip_list, plan);
+        let ranking = Ranking {
+            set: names,
+            m,
+            count,
+        };
+        spread::spread_table(&ranking, table);
+    }
 }
 
 // The most placement pairs of the lines, each of which is a run of the named tips. The sets are the caller's working copy, which is used up.
@@ -146,7 +157,8 @@ pub fn plan_lines(
         };
         full.plan_runs(plan, table);
     } else {
-        plan_named(m, mounted, names, sets, quantities, plan, table);
+        let rack = Rack { m, mounted, names };
+        rack.plan_named(sets, quantities, plan, table);
     }
     table[m - 1]
 }

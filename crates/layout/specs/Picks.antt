@@ -31,10 +31,6 @@ pub record Ready (m : ℕ) (lines sums table : List ℕ) : Type 0 where
   pub summed : sums ≡ sums_of m lines
   pub filled : table ≡ table_of m lines
 
--- the sums and the table are those of some such lines
-abbrev pub Filled : ℕ → List ℕ → List ℕ → Type 0
-Filled m sums table = (lines : List ℕ) × Ready m lines sums table
-
 -- what the search for an interval's tip takes from them, whatever the lines are
 pub record Searchable (m : ℕ) (sums table : List ℕ) : Type 0 where
   pub some : 0 < m

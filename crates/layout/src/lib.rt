@@ -7,21 +7,22 @@ ghost use Rattle.model.specs.Count.{All};
 ghost use Rattle.model.specs.Plan.{Domain};
 ghost use Rattle.model.specs.Interval.{any, is_run, plan_for};
 ghost use Rattle.head.specs.OnHead.{on_head};
-ghost use Rattle.layout.specs.Picks.{most_by, split_by, lowest_by, pick_by, Ready, Filled, Searchable};
+ghost use Rattle.layout.specs.Picks.{most_by, split_by, lowest_by, pick_by, Ready, Searchable};
 ghost use Rattle.layout.specs.Owners.{owner_of, owned, laid};
 
 // The lines of a rack of m tips, counted: their sums, the most pairs of each interval of tips, and the tip that is mounted.
 #[derive(Clone, Copy)]
-struct Counted<'a> {
-    m: usize,
-    mounted: Option<usize>,
-    sums: &'a [u32],
-    table: &'a [u32],
-    ghost searchable: { Searchable m sums.now table.now },
+pub struct Counted<'a> {
+    pub m: usize,
+    pub mounted: Option<usize>,
+    pub sums: &'a [u32],
+    pub table: &'a [u32],
+    pub ghost searchable: { Searchable m sums.now table.now },
 }
 
 impl Counted<'_> {
     // The most pairs of the interval of first tip a and width w, from the table; 0 for one of no width.
+    // That the interval is in the rack, here and below, bounds the two numbers that are passed: no value holds them with the rack.
     #[tactic(auto, unfolding(crate::specs::Picks::most_by))]
     fn most(&self, a: usize, w: usize) -> u32
         requires { a + w ≤ self.now.m }
@@ -68,6 +69,7 @@ impl Counted<'_> {
     }
 
     // An interval, which RULES calls a stretch, is laid by its tip: it takes its runs, and the two intervals beside it are laid.
+    // That the owners have a place for each run, here and below, is the size of a buffer that is written.
     fn lay(&self, a: usize, w: usize, owner: &mut [u8])
         requires inside { a + w ≤ self.now.m }
         requires places { self.now.m * self.now.m ≤ length owner.old }
@@ -79,6 +81,20 @@ impl Counted<'_> {
             self.lay(a, i, owner);
             self.lay(a + i + 1, w - (i + 1), owner);
         }
+    }
+
+    // The plan of sets that are unbroken runs, those counted or others, where any tip may be chosen.
+    // The owner of each run is kept in a place that is lent, at its lowest tip * m + its highest.
+    pub fn plan_lines(&self, sets: &[u64], owner: &mut [u8], plan: &mut [u8])
+        requires domains { All (Domain self.now.m) sets.now }
+        requires runs { All (λ s. T (is_run s)) sets.now }
+        requires places { self.now.m * self.now.m ≤ length owner.old }
+        requires size { length plan.old ≡ length sets.now }
+        ensures { (lines : List ℕ) → Ready self.now.m lines self.now.sums.now self.now.table.now
+            → plan.new ≡ plan_for (on_head self.now.mounted) any self.now.m lines sets.now }
+    {
+        self.lay(0, self.m, owner);
+        plan_owners(self.m, sets, owner, plan);
     }
 }
 
@@ -117,33 +133,4 @@ fn plan_owners(m: usize, lines: &[u64], owner: &[u8], plan: &mut [u8])
     for (i, line) in lines.iter().enumerate() {
         plan[i] = owner_of(m, owner, *line);
     }
-}
-
-// The plan of sets that are unbroken runs, from the sums and the table of the lines counted, where any tip may be chosen.
-// The owner of each run is kept in a place that is lent, at its lowest tip * m + its highest.
-pub fn plan_lines(
-    m: usize,
-    mounted: Option<usize>,
-    sets: &[u64],
-    sums: &[u32],
-    table: &[u32],
-    owner: &mut [u8],
-    plan: &mut [u8],
-)
-    requires filled { Filled m sums.now table.now }
-    requires domains { All (Domain m) sets.now }
-    requires runs { All (λ s. T (is_run s)) sets.now }
-    requires places { m * m ≤ length owner.old }
-    requires size { length plan.old ≡ length sets.now }
-    ensures { (lines : List ℕ) → Ready m lines sums.now table.now
-        → plan.new ≡ plan_for (on_head mounted) any m lines sets.now }
-{
-    let counted = Counted {
-        m,
-        mounted,
-        sums,
-        table,
-    };
-    counted.lay(0, m, owner);
-    plan_owners(m, sets, owner, plan);
 }

@@ -21,7 +21,9 @@ pub returns-in_err-line_refusal : goal.returns-in_err-line_refusal
 unfolding sound_refusal count_ok
 returns-in_err-line_refusal c =
     let e : refusal_of c.from_residual.result ≡ told_of c.in_err-line_refusal.field-0.0 = search rules in
-    e ∙ or_ok _ (rw (sym c.rack_ok.ensures ∙ c.if-not-rack_ok.false, le-leb _ 512 c.if-count-gt-MOST_LINES.false) refl) (or_err _ _ (c.in_err-line_refusal.ensures))
+    e
+    ∙ or_ok _ (rw (sym c.rack_ok.ensures ∙ c.if-not-rack_ok.false, le-leb _ 512 c.if-count-gt-MOST_LINES.false) refl)
+    (or_err _ _ c.in_err-line_refusal.ensures)
 
 pub returns : goal.returns
 unfolding sound_refusal count_ok

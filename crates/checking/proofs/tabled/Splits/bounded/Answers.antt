@@ -57,11 +57,14 @@ loop-next-preserved c =
     let split : ℕ → ℕ = split_at s.left s.shift s.nexts.now s.firsts.now s.rights.now in
     let fits : ℕ → Bool = λ j. nat_le (split j) (slice_index s.mosts.now j) in
     let one : (c.from-lacking.result == 0) ≡ fits i
-    = rw (c.from-lacking.ensures, c.from-in-loop-next-2.ensures, c.from.ensures ∙ c.pairs_among.ensures, c.from-in-loop-next.ensures, h.first, h.second, h.third, h.fourth)
-    (grind (arith, nat_tests)) in
+    = rw (c.from-lacking.ensures, c.from-in-loop-next-2.ensures, c.from.ensures ∙ c.pairs_among.ensures, c.from-in-loop-next.ensures)
+    (rw (h.first, h.second, h.third, h.fourth) (grind (arith, nat_tests))) in
     let more : length (c.loop-next.yielded ++ ((c.in-Some.next, c.in-Some.first), (c.in-Some.right, c.in-Some.most)) ∷ []) ≡ i + 1
     = length-append c.loop-next.yielded _ in
-    rw more (record { few = rw c.from-lacking.ensures (grind (arith, nat_tests)); counted = every_next fits i c.loop-next.lacking c.from-lacking.result c.loop-next.invariant.counted one })
+    rw more (record {
+      few = rw c.from-lacking.ensures (grind (arith, nat_tests));
+      counted = every_next fits i c.loop-next.lacking c.from-lacking.result c.loop-next.invariant.counted one;
+    })
 
 pub returns : goal.returns
 unfolding ends_at

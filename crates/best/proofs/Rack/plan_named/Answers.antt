@@ -1,6 +1,6 @@
 use Rattle.head.specs.OnHead.{on_head}
 use Rattle.best.proofs.Ranks.{listable, tips-listed, ranks_ready, plan_fits, steps}
-use Rattle.best.proofs.plan_named.Goals as goal
+use Rattle.best.proofs.Rack.plan_named.Goals as goal
 
 pub renumber_lines-requires : goal.renumber_lines-requires
 renumber_lines-requires c =
@@ -30,6 +30,6 @@ pub returns : goal.returns
 returns c =
     let p = c.requires in
     let e = c.list_tips-count.ensures in
-    let (plan, table) = steps p.runs p.named e.size e.ranks e.named (on_head c.args.mounted) c.plan_ranks.new.table c.renumber_lines.ensures
+    let (plan, table) = steps p.runs p.named e.size e.ranks e.named (on_head c.args.self.now.mounted) c.plan_ranks.new.table c.renumber_lines.ensures
     c.renumber_mounted-on.ensures c.plan_ranks.ensures.plan c.plan_ranks.ensures.table c.name_tips.ensures c.spread_table.ensures in
     record { plan = plan; table = table }
