@@ -28,6 +28,7 @@ pub struct Found {
 }
 
 // The placements of a line that has the tip.
+// That a tip is below 64, here and below, bounds a number that is passed: no value holds it.
 fn placed(set: u64, tip: usize, quantity: u8) -> u32
     requires { tip < most_tips }
     ensures { result ≡ cond (has set tip) quantity 0 }
@@ -111,6 +112,7 @@ fn better(first: Option<Tips>, next: Tips) -> Option<Tips>
 }
 
 // The tips with the most pairs, of these the lowest u, then the lowest v.
+// The rack stands beside the lines: it is no length of them.
 fn choose_tips(m: usize, lines: &[u64], quantities: &[u8], all: u32) -> Option<Tips>
     requires good { GoodLines m quantities.now lines.now }
     requires all { all ≡ total quantities.now }
@@ -140,6 +142,7 @@ fn tip_for(set: u64, tip: usize, other: usize) -> u8
 }
 
 // The lines that have the tip on it, and the others on the other one.
+// That the plan has a place for each line, here and below, is the size of a buffer that is written.
 fn lay_lines(tip: usize, other: usize, lines: &[u64], plan: &mut [u8])
     requires tip { tip < most_tips }
     requires other { other < most_tips }

@@ -37,6 +37,7 @@ pub fn first_not_run(lines: &[u64]) -> Option<usize>
 
 // The rank of each tip below m, and the tip of each rank; the answer is the number of tips of the set below m.
 // The lists stay where they were made: to hand out a struct with both arrays takes a fifth longer where no line names a tip.
+// The rack stands beside the lists, which have a place for each tip of the largest rack.
 #[tactic(auto, unfolding(model::specs::Renumber::rank))]
 pub fn list_tips(set: u64, m: usize, ranks: &mut [u8], named: &mut [u8]) -> usize
     requires rack { m ≤ most_tips }

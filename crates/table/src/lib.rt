@@ -135,6 +135,7 @@ impl Source<'_> {
 }
 
 // C of the interval from a to b at a * m + b, and 0 below the diagonal: the table of all lines that have these sums.
+// The rack stands beside the table: that is a part of the caller's buffer, and a row's width is the rack.
 pub fn fill_table(m: usize, sums: &[u32], table: &mut [u32])
     requires { ((lines : List ℕ) × RunSums m lines sums.now) × (length table.old ≡ m * m) }
     ensures { (lines : List ℕ) → RunSums m lines sums.now → table.new ≡ table_of m lines }
