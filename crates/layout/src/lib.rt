@@ -2,7 +2,6 @@
 #![tactic(auto)]
 
 ghost use Rattle.std.specs.Prelude.{◌≡◌, ℕ, ◌+◌, ◌*◌, ◌≤◌, ◌<◌, List, map, T, length};
-ghost use Rattle.model.specs.Limits.{most_tips};
 ghost use Rattle.model.specs.Count.{All};
 ghost use Rattle.model.specs.Plan.{Domain};
 ghost use Rattle.model.specs.Interval.{any, is_run, plan_for};
@@ -68,8 +67,22 @@ impl Counted<'_> {
         }
     }
 
-    // An interval, which RULES calls a stretch, is laid by its tip: it takes its runs, and the two intervals beside it are laid.
+    // Tip a + i owns the runs of the interval that have it: they begin at a tip from a to a + i, and end at one from a + i to the last.
     // That the owners have a place for each run, here and below, is the size of a buffer that is written.
+    fn own_runs(&self, a: usize, w: usize, i: usize, owner: &mut [u8])
+        requires own { i < w }
+        requires inside { a + w ≤ self.now.m }
+        requires places { self.now.m * self.now.m ≤ length owner.old }
+        ensures { owner.new ≡ owned self.now.m a w (a + i) owner.old }
+    {
+        let m = self.m;
+        let tip = a + i;
+        for lo in a..tip + 1 {
+            owner[lo * m + tip..lo * m + (a + w)].fill(tip as u8);
+        }
+    }
+
+    // An interval, which RULES calls a stretch, is laid by its tip: it takes its runs, and the two intervals beside it are laid.
     fn lay(&self, a: usize, w: usize, owner: &mut [u8])
         requires inside { a + w ≤ self.now.m }
         requires places { self.now.m * self.now.m ≤ length owner.old }
@@ -77,9 +90,30 @@ impl Counted<'_> {
     {
         if 0 < w {
             let i = self.tip(a, w);
-            own_runs(self.m, a, w, i, owner);
+            self.own_runs(a, w, i, owner);
             self.lay(a, i, owner);
             self.lay(a + i + 1, w - (i + 1), owner);
+        }
+    }
+
+    // The owner of a line that is a run.
+    fn owner_of(&self, owner: &[u8], line: u64) -> u8
+        requires domain { Domain self.now.m line }
+        requires places { self.now.m * self.now.m ≤ length owner.now }
+        ensures { result ≡ owner_of self.now.m owner.now line }
+    {
+        owner[tips::lowest(line) * self.m + tips::highest(line)]
+    }
+
+    // Each line is planned on its owner.
+    fn plan_owners(&self, lines: &[u64], owner: &[u8], plan: &mut [u8])
+        requires domains { All (Domain self.now.m) lines.now }
+        requires places { self.now.m * self.now.m ≤ length owner.now }
+        requires size { length plan.old ≡ length lines.now }
+        ensures { plan.new ≡ map (owner_of self.now.m owner.now) lines.now }
+    {
+        for (i, line) in lines.iter().enumerate() {
+            plan[i] = self.owner_of(owner, *line);
         }
     }
 
@@ -94,43 +128,6 @@ impl Counted<'_> {
             → plan.new ≡ plan_for (on_head self.now.mounted) any self.now.m lines sets.now }
     {
         self.lay(0, self.m, owner);
-        plan_owners(self.m, sets, owner, plan);
-    }
-}
-
-// Tip a + i owns the runs of the interval that have it: they begin at a tip from a to a + i, and end at one from a + i to the last.
-fn own_runs(m: usize, a: usize, w: usize, i: usize, owner: &mut [u8])
-    requires own { i < w }
-    requires inside { a + w ≤ m }
-    requires rack { m ≤ most_tips }
-    requires places { m * m ≤ length owner.old }
-    ensures { owner.new ≡ owned m a w (a + i) owner.old }
-{
-    let tip = a + i;
-    for lo in a..tip + 1 {
-        owner[lo * m + tip..lo * m + (a + w)].fill(tip as u8);
-    }
-}
-
-// The owner of a line that is a run.
-fn owner_of(m: usize, owner: &[u8], line: u64) -> u8
-    requires rack { m ≤ most_tips }
-    requires domain { Domain m line }
-    requires places { m * m ≤ length owner.now }
-    ensures { result ≡ owner_of m owner.now line }
-{
-    owner[tips::lowest(line) * m + tips::highest(line)]
-}
-
-// Each line is planned on its owner.
-fn plan_owners(m: usize, lines: &[u64], owner: &[u8], plan: &mut [u8])
-    requires rack { m ≤ most_tips }
-    requires domains { All (Domain m) lines.now }
-    requires places { m * m ≤ length owner.now }
-    requires size { length plan.old ≡ length lines.now }
-    ensures { plan.new ≡ map (owner_of m owner.now) lines.now }
-{
-    for (i, line) in lines.iter().enumerate() {
-        plan[i] = owner_of(m, owner, *line);
+        self.plan_owners(sets, owner, plan);
     }
 }
