@@ -23,6 +23,7 @@ struct Rooms<const N: usize> {
     places: [u16; N],
     sets: [u64; N],
     taken: [u8; N],
+    ghost few: { N ≤ most_lines },
 }
 
 impl<const N: usize> Rooms<N> {
@@ -57,9 +58,8 @@ impl<const N: usize> Rooms<N> {
 
     // One round: the tip is taken for each line that has it. Unless these are all that are left, their placements come off the counts.
     fn take_lines(&mut self, tip: usize, quantities: &[u8], left: &mut [u64], plan: &mut [u8])
-        requires ready { RoundReady tip self.old.unplanned quantities.now left.old plan.old self.old.counts
+        requires { RoundReady tip self.old.unplanned quantities.now left.old plan.old self.old.counts
             self.old.list self.old.places self.old.sets self.old.taken }
-        requires size { N ≤ most_lines }
         ensures done { RoundDone tip quantities.now left.old plan.old
             left.new plan.new self.new.counts self.new.unplanned self.new.list }
         ensures sizes { Sizes self.old.list self.old.places self.old.sets self.old.taken
@@ -86,9 +86,8 @@ impl<const N: usize> Rooms<N> {
         left: &mut [u64],
         plan: &mut [u8],
     ) -> u32
-        requires ready { RoundsReady rack quantities.now left.old plan.old self.old.counts
+        requires { RoundsReady rack quantities.now left.old plan.old self.old.counts
             self.old.list self.old.places self.old.sets self.old.taken }
-        requires size { N ≤ most_lines }
         ensures { QuickShared (on_head mounted) rack quantities.now left.old result plan.new left.new }
     {
         self.unplanned = left.len();

@@ -4,10 +4,10 @@ use Rattle.greedy.proofs.Lists.{round_findable, round_rising, round_listed, roun
 use Rattle.greedy.proofs.Rooms.take_lines.Goals as goal
 
 pub find_places-found-requires : goal.find_places-found-requires
-find_places-found-requires g c = round_findable c.requires.ready
+find_places-found-requires g c = round_findable c.requires
 
 pub take_places-requires : goal.take_places-requires
-take_places-requires g c = (search rules, round_listed c.requires.ready c.find_places-found.auto.places c.find_places-found.ensures)
+take_places-requires g c = (search rules, round_listed c.requires c.find_places-found.auto.places c.find_places-found.ensures)
 
 pub returns-then-found-before-clause-done : goal.returns-then-found-before-clause-done
 returns-then-found-before-clause-done g c =
@@ -15,9 +15,9 @@ returns-then-found-before-clause-done g c =
     let found = c.find_places-found.ensures in
     let taken = c.take_places.ensures.taken in
     rw c.take_places.ensures.kept (record {
-      done = round_taken c.requires.ready places found taken;
+      done = round_taken c.requires places found taken;
       most = omega arith;
-      unplanned = round_last c.requires.ready places found taken c.if-found-before.true;
+      unplanned = round_last c.requires places found taken c.if-found-before.true;
       counts_are = λ n. absurd (n refl);
     })
 
@@ -32,22 +32,22 @@ returns-then-found-before-clause-sizes g c =
 
 pub drop_places-self-requires : goal.drop_places-self-requires
 drop_places-self-requires g c =
-    rw c.take_places.ensures.kept (round_rising c.requires.ready c.find_places-found.auto.places c.find_places-found.ensures)
+    rw c.take_places.ensures.kept (round_rising c.requires c.find_places-found.auto.places c.find_places-found.ensures)
 
 pub count_tips-gone-requires : goal.count_tips-gone-requires
 count_tips-gone-requires g c =
     let t = c.take_places.ensures in
-    round_countable c.requires.ready c.find_places-found.auto.places c.find_places-found.ensures t.taken t.sets t.quantities
+    round_countable c.requires c.find_places-found.auto.places c.find_places-found.ensures t.taken t.sets t.quantities
 
 pub subtract-requires : goal.subtract-requires
 subtract-requires g c =
     let t = c.take_places.ensures in
-    let sum = round_sum c.requires.ready c.find_places-found.auto.places c.find_places-found.ensures t.taken in
-    rw t.kept (part_some c.requires.ready.counts_are c.count_tips-gone.ensures _ sum)
+    let sum = round_sum c.requires c.find_places-found.auto.places c.find_places-found.ensures t.taken in
+    rw t.kept (part_some c.requires.counts_are c.count_tips-gone.ensures _ sum)
 
 pub returns-clause-done : goal.returns-clause-done
 returns-clause-done g c =
-    let ready = c.requires.ready in
+    let ready = c.requires in
     let places = c.find_places-found.auto.places in
     let found = c.find_places-found.ensures in
     let t = c.take_places.ensures in
@@ -67,7 +67,7 @@ returns-clause-sizes g c =
     let size = rw t.kept at c.drop_places-self.auto.list in
     let before = length-take c.args.self.now.unplanned c.args.self.now.list in
     record {
-      list_size = rw t.kept (simp (length-append, length-drop) (omega (arith, size, before, c.requires.ready.most, c.requires.ready.fit.for_lines)));
+      list_size = rw t.kept (simp (length-append, length-drop) (omega (arith, size, before, c.requires.most, c.requires.fit.for_lines)));
       places_size = rw t.kept c.find_places-found.auto.places;
       sets_size = t.sets;
       taken_size = t.quantities;
