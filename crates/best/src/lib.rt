@@ -32,7 +32,7 @@ struct Full<'a> {
 
 impl Full<'_> {
     // The plan and the table, with room for the sums and for the owner of each run.
-    // That the table has m * m places, here and below, is the size of a buffer that is written.
+    // The clause on the table's length stays here and below: it is the size of a buffer that is written.
     fn plan_in<const SUMS: usize, const OWNERS: usize>(&self, plan: &mut [u8], table: &mut [u32])
         requires sums { sums_size self.now.m ≤ SUMS }
         requires owners { self.now.m * self.now.m ≤ OWNERS }

@@ -19,7 +19,7 @@ pub struct Common {
     pub tips: u64,
 }
 
-// That the rack is at most 64, here and below, bounds a number that is passed.
+// `rack ≤ 64` stays a clause here and below: it bounds a number that is passed.
 pub fn common_tip(rack: usize, lines: &[u64], quantities: &[u8]) -> Common
     requires { (rack ≤ 64) × Countable quantities.now lines.now }
     ensures top { result.top ≡ top rack (repeated quantities.now lines.now) }

@@ -77,7 +77,7 @@ fn carry_up(carry: Pair, sums: &mut [Pair; crate::PLANES])
     }
 }
 
-// Thirty-two lines more. That the sums have room for them, here and below, is a fact of two buffers: no value holds both.
+// Thirty-two lines more. `Fits` stays a clause here and below: it is a fact of two buffers, and no value holds both.
 pub fn add_block(lines: &[u64; 32], sums: &mut [Pair; crate::PLANES])
     requires { Fits lines.now sums.old }
     ensures { Added lines.now sums.old sums.new }

@@ -29,7 +29,7 @@ pub fn bounds_of(quantities: &[u8]) -> Bounds
 }
 
 // A set whose quantity has the digit j; else no tip. A product, because a branch would often be mispredicted.
-// That j is below 8, here and below, bounds a number that is passed.
+// `j < 8` stays a clause here and below: it bounds a number that is passed.
 fn pick(j: usize, quantity: u8, set: u64) -> u64
     requires { j < 8 }
     ensures { result ≡ pick_by j quantity set }
@@ -38,7 +38,8 @@ fn pick(j: usize, quantity: u8, set: u64) -> u64
     set * digit
 }
 
-// The lines that have the digit j, in the place of as many lines. That the lengths are the same, here and below, is a fact of two slices of the caller.
+// The lines that have the digit j, in the place of as many lines.
+// The clause on the lengths stays here and below: it is a fact of two slices of the caller.
 fn pick_lines(j: usize, lines: &[u64], quantities: &[u8], chosen: &mut [u64])
     requires digit { j < 8 }
     requires same { length quantities.now ≡ length lines.now }

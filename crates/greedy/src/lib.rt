@@ -14,7 +14,7 @@ const FEW: usize = 64;
 
 // Quick sharing of at most N lines between two rounds: how many placements left allow each tip; the lines without a tip, at the front of a list; and
 // room for the places, sets and quantities of those taken in a round. The caller's quantities, sets and plan stay parameters: a struct would hold two
-// `&mut`, and each contract would say of both that they are still the same.
+// `&mut`, and each contract would have to say that both are still the same.
 #[derive(Drop)]
 struct Rooms<const N: usize> {
     counts: [u64; counts::PLANES],

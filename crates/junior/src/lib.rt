@@ -28,7 +28,7 @@ pub struct Found {
 }
 
 // The placements of a line that has the tip.
-// That a tip is below 64, here and below, bounds a number that is passed: no value holds it.
+// `tip < most_tips` stays a clause here and below: it bounds a number that is passed.
 fn placed(set: u64, tip: usize, quantity: u8) -> u32
     requires { tip < most_tips }
     ensures { result ≡ cond (has set tip) quantity 0 }
@@ -112,7 +112,7 @@ fn better(first: Option<Tips>, next: Tips) -> Option<Tips>
 }
 
 // The tips with the most pairs, of these the lowest u, then the lowest v.
-// The rack stands beside the lines: it is no length of them.
+// The rack stands beside the lines: it is not their length.
 fn choose_tips(m: usize, lines: &[u64], quantities: &[u8], all: u32) -> Option<Tips>
     requires good { GoodLines m quantities.now lines.now }
     requires all { all ≡ total quantities.now }
@@ -142,7 +142,7 @@ fn tip_for(set: u64, tip: usize, other: usize) -> u8
 }
 
 // The lines that have the tip on it, and the others on the other one.
-// That the plan has a place for each line, here and below, is the size of a buffer that is written.
+// The clause on the plan's length stays here and below: it is the size of a buffer that is written.
 fn lay_lines(tip: usize, other: usize, lines: &[u64], plan: &mut [u8])
     requires tip { tip < most_tips }
     requires other { other < most_tips }

@@ -21,7 +21,7 @@ pub struct Counted<'a> {
 
 impl Counted<'_> {
     // The most pairs of the interval of first tip a and width w, from the table; 0 for one of no width.
-    // That the interval is in the rack, here and below, bounds the two numbers that are passed: no value holds them with the rack.
+    // `a + w ≤ m` stays a clause here and below: it bounds two numbers that are passed, and no value holds them with the rack.
     #[tactic(auto, unfolding(crate::specs::Picks::most_by))]
     fn most(&self, a: usize, w: usize) -> u32
         requires { a + w ≤ self.now.m }
@@ -68,7 +68,7 @@ impl Counted<'_> {
     }
 
     // Tip a + i owns the runs of the interval that have it: they begin at a tip from a to a + i, and end at one from a + i to the last.
-    // That the owners have a place for each run, here and below, is the size of a buffer that is written.
+    // The clause on the owners' length stays here and below: it is the size of a buffer that is written.
     fn own_runs(&self, a: usize, w: usize, i: usize, owner: &mut [u8])
         requires own { i < w }
         requires inside { a + w ≤ self.now.m }

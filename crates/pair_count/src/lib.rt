@@ -8,7 +8,7 @@ ghost use Rattle.model.specs.Plan.{choose2};
 // A place for 0 to 2,048 placements.
 const SIZE: usize = model::MOST_PLACEMENTS + 1;
 
-// Place p has p(p-1)/2, as the service manual prints it. A static, which is read where it is: the compiler writes a constant table to the stack.
+// Place p has p(p-1)/2, as the service manual prints it. It is a static: the compiler writes a constant table to the stack of its reader.
 static PAIRS: [u32; SIZE] = [
     0, 0, 1, 3, 6, 10, 15, 21, 28, 36, 45, 55, 66, 78, 91, 105, 120, 136, 153, 171, 190, 210, 231,
     253, 276, 300, 325, 351, 378, 406, 435, 465, 496, 528, 561, 595, 630, 666, 703, 741, 780, 820,

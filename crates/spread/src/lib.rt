@@ -31,7 +31,7 @@ fn cell_at(r: usize, table: &[u32], first: usize, end: usize) -> u32
     }
 }
 
-// The table's size, here and below, is that of a buffer that is written: a struct of it and the ranking would hold a `&mut`.
+// The clause on the table's length stays here and below: it is the size of a buffer that is written.
 // Row a of the table, from its last place backwards: what is read stands at the place that is written, or before it.
 fn spread_row(ranking: &Ranking, a: usize, first: usize, table: &mut [u32])
     requires inside { a < ranking.now.m }

@@ -18,7 +18,7 @@ impl Lines<'_> {
         best
     }
 
-    // The narrowest intervals first. The contracts here and in the other files name lines: `Lines` keeps their sums alone.
+    // The narrowest intervals first. The contracts here and in the other files name lines: `Lines` keeps only their sums.
     pub fn fill_inside(&self, inner: &mut [u32])
         requires sums { (lines : List ℕ) × RunSums self.now.names self.now.m 0 lines self.now.sums.now }
         requires size { self.now.m * self.now.m ≤ length inner.old }

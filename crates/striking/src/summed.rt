@@ -21,7 +21,7 @@ pub struct Lines<'a> {
 
 impl Lines<'_> {
     // The pairs on tip c, with q placements more, of the lines lying within the interval. No line has a tip that is not named.
-    // That an interval is in the rack, here and in the other files, bounds the numbers of one that is passed: an interval does not hold the rack.
+    // The clause that an interval is in the rack stays here and in the other files: an interval does not hold the rack.
     pub fn pairs_at(&self, of: Interval, c: usize, q: u32) -> u64
         requires inside { of.first + of.width ≤ self.now.m }
         requires from { of.first ≤ c }
@@ -38,7 +38,7 @@ impl Lines<'_> {
     }
 
     // The split of the interval at its tip i, with q placements more on it.
-    // That a table has a place for each interval, here and in the other files, is the size of a buffer, which is read while it is written.
+    // The clause on a table's length stays here and in the other files: it is the size of a buffer that is read while it is written.
     pub fn split_at(&self, of: Interval, i: usize, q: u32, inner: &[u32]) -> u64
         requires size { self.now.m * self.now.m ≤ length inner.now }
         requires inside { of.first + of.width ≤ self.now.m }

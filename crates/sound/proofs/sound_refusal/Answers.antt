@@ -1,11 +1,10 @@
-use native.Mathlib.Omega.{arith}
 use mathlib.Core.Path.{◌≡◌, refl, sym, ◌∙◌}
-use Rattle.std.proofs.Common.{length, rules}
+use Rattle.std.proofs.Common.{rules}
 use borrow.Author.Tests.{lt-leb, le-leb}
-use Rattle.refusal.specs.Refusal.{none, or_else}
+use Rattle.refusal.specs.Refusal.{or_else}
 use Rattle.refusal.specs.Reasons.{refusal_of, told_of}
 use Rattle.refusal.proofs.Laws.{or_err, or_ok}
-use Rattle.sound.specs.Sound.{count_ok, range_refusal, sound_refusal}
+use Rattle.sound.specs.Sound.{count_ok, sound_refusal}
 use Rattle.sound.proofs.sound_refusal.Goals.{then-not-rack_ok-via-then-not-rack_ok, then-not-rack_ok-via-else-not-rack_ok+then-count-gt-MOST_LINES}
 use Rattle.sound.proofs.sound_refusal.Goals as goal
 
