@@ -5,12 +5,14 @@ ghost use Rattle.std.specs.Prelude.{◌≡◌, ◌≤◌, length};
 ghost use Rattle.model.specs.Limits.{most_tips, most_lines, most_placements};
 ghost use Rattle.placements.specs.Repeated.{total};
 ghost use Rattle.head.specs.OnHead.{on_head};
+ghost use Rattle.job.specs.Header.{version_number};
 ghost use Rattle.refusal.specs.Refusal.{none};
 ghost use Rattle.refusal.specs.Reasons.{refusal_of, unkept_of, margin_in};
 ghost use Rattle.call_refusals.specs.State.{stage_refusal, state_refusal};
 ghost use Rattle.call_refusals.specs.Calls.{add_refusal, keep_refusal, mounted_refusal};
 ghost use Rattle.call_refusals.specs.Calls.{plan_refusal, run_refusal, best_refusal, write_refusal};
 
+use job::Version;
 use refusal::{Reason, Refused, Unkept};
 
 mod junior_call;
@@ -115,9 +117,9 @@ pub fn best_refusal(rack: usize, lines: &[u64], room: usize, places: usize) -> R
 }
 
 // An output of `room` bytes that is shorter than the file of the lines in that version.
-pub fn write_refusal(version: u64, count: usize, room: usize) -> Result<(), Refused>
+pub fn write_refusal(version: Version, count: usize, room: usize) -> Result<(), Refused>
     requires { count ≤ most_lines }
-    ensures { refusal_of result ≡ write_refusal none version count room }
+    ensures { refusal_of result ≡ write_refusal none (version_number version) count room }
 {
-    refusal::refuse_when(room < job::file_length(version, count), Reason::ShortOutput)
+    refusal::refuse_when(room < version.file_length(count), Reason::ShortOutput)
 }

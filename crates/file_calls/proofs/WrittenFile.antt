@@ -15,7 +15,7 @@ use Rattle.refusal.specs.Refusal.{accepts, or_else, when, lent_by, Given}
 use Rattle.refusal.proofs.Laws.{accepted}
 use Rattle.job.specs.Job.{Bytes, file_length, paired, bytes_of_lines, file_of, version_for, written_of}
 use Rattle.job.specs.Job.{version_in, rack_in, quantities_in, InShorterForm, ReadsAs}
-use Rattle.job.proofs.Header.{version_back}
+use Rattle.job.proofs.HeaderLaws.{version_back}
 use Rattle.job.proofs.Reading.{bytes_quantities}
 use Rattle.job.proofs.Writing.{version-for, length-file_of, written_back}
 use Rattle.call_refusals.specs.Calls.{write_refusal}

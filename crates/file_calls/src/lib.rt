@@ -49,10 +49,10 @@ pub fn twos_complement(x: i32) -> u64
 pub fn read_outcome(file: &[u8]) -> Result<Counts, Refused>
     ensures { outcome_of result ≡ read_in file.now }
 {
-    reading::read_refusal(file)?;
+    let opened = reading::open(file)?;
     Ok(Counts {
-        first: job::rack_in(file) as u64,
-        second: job::count_in(file) as u64,
+        first: opened.header.rack as u64,
+        second: opened.header.count as u64,
         third: 0,
     })
 }

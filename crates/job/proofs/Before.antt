@@ -22,7 +22,7 @@ use Rattle.job.specs.Job.{bytes_of, mark, header_length, set_length, counted, li
 use Rattle.job.specs.Job.{written_of, number_at, mark_in, version_in, rack_in, count_in, set_in, sets_in, quantities_in, version_ok}
 use Rattle.job.specs.Job.{start_number, size_number, header_number, line_number, line_numbers, read_refusal}
 use Rattle.job.specs.Before.{bytes_of_sets, plain_file_of, plain_sets_in, plain_header_number, set_number, plain_refusal}
-use Rattle.job.proofs.Header.{header_good}
+use Rattle.job.proofs.HeaderLaws.{header_good}
 use Rattle.job.proofs.Lines.{length-paired}
 use Rattle.job.proofs.Reading.{length-sets_in, length-quantities_in, length_numbers, set_there, number-there, plain-total, bad_in, over_in}
 use Rattle.job.proofs.Reading.{within-total, read_refused, read_bad, read_within}

@@ -17,7 +17,7 @@ use Rattle.placements.specs.Good.{GoodLines}
 use Rattle.refusal.specs.Refusal.{none}
 use Rattle.job.specs.Job.{Bytes, header_length, line_length, file_length, paired, header_of, bytes_of_lines, file_of, version_for, written_of}
 use Rattle.job.specs.Job.{version_in, rack_in, count_in, sets_in, quantities_in, header_number, read_refusal, GoodHeader, InShorterForm, ReadsAs}
-use Rattle.job.proofs.Header.{header_good, header_again, length-header_of, mark_back, version_back, rack_back, count_back}
+use Rattle.job.proofs.HeaderLaws.{header_good, header_again, length-header_of, mark_back, version_back, rack_back, count_back}
 use Rattle.job.proofs.Lines.{Held, length-paired, length-bytes_of_lines, sets_back, quantities_back, lines_again}
 use Rattle.job.proofs.Reading.{length-sets_in, length-quantities_in, sets_after, quantities_after, bytes_quantities, plain_quantities}
 use Rattle.job.proofs.Reading.{read_good, read_iff, read_none}

@@ -1,16 +1,19 @@
 // The lines of a job file, each with its set and its quantity, read from its bytes, and whether they are good.
 #![tactic(auto)]
 
-ghost use Rattle.std.specs.Prelude.{◌≡◌, cond, ◌&&◌, ◌+◌, ◌*◌, ◌<◌, ◌≤◌, ◌^◌, eqb, leb, length, get_or, bit_or};
+ghost use Rattle.std.specs.Prelude.{◌≡◌, cond, ◌&&◌, ◌+◌, ◌*◌, ◌<◌, ◌≤◌, ◌^◌, eqb, leb, length, get_or, bit_or, IfOk};
 ghost use Rattle.model.specs.Plan.{is_empty, in_rack};
-ghost use Rattle.model.specs.Limits.{most_placements};
+ghost use Rattle.model.specs.Limits.{most_lines, most_placements};
 ghost use Rattle.placements.specs.Totals.{first_over};
-ghost use Rattle.job.specs.Job.{number_at, set_length, file_length, version_in, count_in, set_from, quantity_from, set_in, quantity_in};
-ghost use Rattle.job.specs.Job.{sets_in, quantities_in, line_numbers, good_lines, GoodHeader};
+ghost use Rattle.job.specs.Job.{number_at, set_length, file_length, count_in, set_from, quantity_from, set_in, quantity_in};
+ghost use Rattle.job.specs.Job.{sets_in, quantities_in, line_numbers, good_lines, header_number};
+ghost use Rattle.job.specs.Header.{version_number, IsHeaderOf};
 ghost use Rattle.refusal.specs.Refusal.{scan, refuse_at};
-ghost use Rattle.refusal.specs.Reasons.{refusal_of};
+ghost use Rattle.refusal.specs.Reasons.{refusal_of, number_in};
+ghost use Rattle.job.specs.declared.Version.TheVariants.{Plain, Counted};
 ghost use Rattle.job_read.specs.Swapped.{swapped};
 
+use job::{Header, Version};
 use refusal::{Reason, Refused};
 
 // The number of a set's eight bytes.
@@ -54,38 +57,23 @@ fn swapped_at(file: &[u8], i: usize) -> u64
 
 // The set and the quantity of line `i` in a file of that version; without quantities it is 1.
 #[tactic(auto, using(job::proofs::Lines::set_inside))]
-pub fn set_of(file: &[u8], version: u64, i: usize) -> u64
-    requires { file_length version (i + 1) ≤ length file.now }
-    ensures { result ≡ set_from version file.now i }
+pub fn set_of(file: &[u8], version: Version, i: usize) -> u64
+    requires { file_length (version_number version) (i + 1) ≤ length file.now }
+    ensures { result ≡ set_from (version_number version) file.now i }
 {
-    set_at(file, job::file_length(version, i))
+    set_at(file, version.file_length(i))
 }
 
 #[tactic(auto, using(job::proofs::Numbers::number_one, job::proofs::Lines::quantity_inside))]
-pub fn quantity_of(file: &[u8], version: u64, i: usize) -> u8
-    requires { file_length version (i + 1) ≤ length file.now }
-    ensures { result ≡ quantity_from version file.now i }
+pub fn quantity_of(file: &[u8], version: Version, i: usize) -> u8
+    requires { file_length (version_number version) (i + 1) ≤ length file.now }
+    ensures { result ≡ quantity_from (version_number version) file.now i }
 {
-    if version == job::COUNTED {
-        file[job::file_length(version, i) + job::SET]
+    if version.is_counted() {
+        file[version.file_length(i) + job::SET]
     } else {
         1
     }
-}
-
-// The set and the quantity of line `i`.
-pub fn set_in(file: &[u8], i: usize) -> u64
-    requires { GoodHeader file.now × (i < count_in file.now) }
-    ensures { result ≡ set_in file.now i }
-{
-    set_of(file, job::version_in(file), i)
-}
-
-pub fn quantity_in(file: &[u8], i: usize) -> u8
-    requires { GoodHeader file.now × (i < count_in file.now) }
-    ensures { result ≡ quantity_in file.now i }
-{
-    quantity_of(file, job::version_in(file), i)
 }
 
 // What is gathered of the lines read so far: the union of the sets, the number of empty sets and of quantities 0, and the total.
@@ -125,105 +113,151 @@ const NONE: Gathered = Gathered {
     total: 0,
 };
 
-// The lines are good. The loop has no branch, so that it is quick where they are: the version stays, and the compiler makes a loop of each.
-// The union is that of the sets with their bytes the other way round, and is swapped once.
-pub fn good_lines(file: &[u8]) -> bool
-    requires { GoodHeader file.now }
-    ensures { result ≡ good_lines file.now }
-{
-    let version = job::version_in(file);
-    let mut swapped = NONE;
-    for i in 0..job::count_in(file) {
-        let set = swapped_at(file, job::file_length(version, i));
-        swapped = swapped.with(set, quantity_of(file, version, i));
-    }
-    let gathered = Gathered {
-        union: swapped.union.swap_bytes(),
-        ..swapped
-    };
-    gathered.is_good(job::rack_in(file))
+// A file with a good header and as many bytes as the header says.
+#[derive(Clone, Copy)]
+pub struct JobFile<'a> {
+    pub bytes: &'a [u8],
+    pub header: Header,
+    ghost good: { header_number bytes.now ≡ 0 },
+    ghost header_is: { IsHeaderOf bytes.now header },
+    ghost few_lines: { header.count ≤ most_lines },
 }
 
-// Reads the sets of a file without quantities, and tells in the same pass whether the lines are good.
-fn read_plain(file: &[u8], sets: &mut [u64]) -> bool
-    requires good_header { GoodHeader file.now }
-    requires file_value { version_in file.now ≡ 1 }
-    requires sets_len { length sets.old ≡ count_in file.now }
-    ensures good { result ≡ good_lines file.now }
-    ensures sets { sets.new ≡ sets_in file.now }
-{
-    let mut gathered = NONE;
-    for (i, set) in sets.iter_mut().enumerate() {
-        *set = set_by_bytes(file, job::file_length(job::PLAIN, i));
-        gathered = gathered.with(*set, 1);
+impl<'a> JobFile<'a> {
+    // Opens a file. It is refused by its first bytes, then by the number of its lines, then by its length.
+    pub fn open(file: &'a [u8]) -> Result<JobFile<'a>, Reason>
+        ensures refusal { number_in result ≡ header_number file.now }
+        ensures same { IfOk result (λ opened. opened.bytes.now ≡ file.now) }
+    {
+        let header = Header::read(file)?;
+        if model::MOST_LINES < header.count {
+            return Err(Reason::FileLines);
+        }
+        if file.len() != header.version.file_length(header.count) {
+            return Err(Reason::FileLength);
+        }
+        Ok(JobFile {
+            bytes: file,
+            header,
+        })
     }
-    gathered.is_good(job::rack_in(file))
-}
 
-// Reads the sets and the quantities of a file that has them, and tells in the same pass whether the lines are good.
-fn read_counted(file: &[u8], sets: &mut [u64], quantities: &mut [u8]) -> bool
-    requires good_header { GoodHeader file.now }
-    requires file_value { version_in file.now ≡ 2 }
-    requires sets_len { length sets.old ≡ count_in file.now }
-    requires quantities_len { length quantities.old ≡ count_in file.now }
-    ensures good { result ≡ good_lines file.now }
-    ensures sets { sets.new ≡ sets_in file.now }
-    ensures quantities { quantities.new ≡ quantities_in file.now }
-{
-    let mut gathered = NONE;
-    for i in 0..sets.len() {
-        let set = set_of(file, job::COUNTED, i);
-        let quantity = quantity_of(file, job::COUNTED, i);
-        sets[i] = set;
-        quantities[i] = quantity;
-        gathered = gathered.with(set, quantity);
+    // The set and the quantity of line `i`.
+    #[tactic(auto, using(crate::proofs::There::line_there))]
+    pub fn line(self, i: usize) -> (u64, u8)
+        requires { i < self.header.count }
+        ensures set { result.0 ≡ set_in self.entry.bytes.now i }
+        ensures quantity { result.1 ≡ quantity_in self.entry.bytes.now i }
+    {
+        let version = self.header.version;
+        (
+            set_of(self.bytes, version, i),
+            quantity_of(self.bytes, version, i),
+        )
     }
-    gathered.is_good(job::rack_in(file))
-}
 
-// Reads the sets and the quantities of the lines, and tells whether the lines are good. One loop for both versions stores a quantity 1 with each
-// set of a file without quantities, and takes a third more time there.
-pub fn read_lines(file: &[u8], sets: &mut [u64], quantities: &mut [u8]) -> bool
-    requires good_header { GoodHeader file.now }
-    requires sets_len { length sets.old ≡ count_in file.now }
-    requires quantities_len { length quantities.old ≡ count_in file.now }
-    ensures good { result ≡ good_lines file.now }
-    ensures sets { sets.new ≡ sets_in file.now }
-    ensures quantities { quantities.new ≡ quantities_in file.now }
-{
-    if job::version_in(file) == job::COUNTED {
-        return read_counted(file, sets, quantities);
+    // The lines are good. The loop has no branch, so that it is quick where they are: the version stays, and the compiler makes a loop
+    // of each. The union is that of the sets with their bytes the other way round, and is swapped once.
+    #[tactic(auto, using(job::proofs::Lines::file_few, crate::proofs::There::line_there))]
+    pub fn good_lines(self) -> bool
+        ensures { result ≡ good_lines self.entry.bytes.now }
+    {
+        let version = self.header.version;
+        let mut swapped = NONE;
+        for i in 0..self.header.count {
+            let set = swapped_at(self.bytes, version.file_length(i));
+            swapped = swapped.with(set, quantity_of(self.bytes, version, i));
+        }
+        let gathered = Gathered {
+            union: swapped.union.swap_bytes(),
+            ..swapped
+        };
+        gathered.is_good(self.header.rack)
     }
-    quantities.fill(1);
-    read_plain(file, sets)
-}
 
-// The first line that is refused, with why.
-pub fn check_lines(file: &[u8]) -> Result<(), Refused>
-    requires { GoodHeader file.now }
-    ensures { refusal_of result ≡ scan (λ n. eqb n 0) (λ i. get_or (line_numbers file.now) i 0) (line_numbers file.now) }
-{
-    let rack = job::rack_in(file);
-    for i in 0..job::count_in(file) {
-        if let Err(reason) = job::check_line(rack, set_in(file, i), quantity_in(file, i)) {
-            return Err(reason.at(i));
+    // Reads the sets of a file without quantities, and tells in the same pass whether the lines are good.
+    #[tactic(auto, using(job::proofs::Lines::file_few, crate::proofs::There::line_there))]
+    fn read_plain(self, sets: &mut [u64]) -> bool
+        requires plain { self.header.version ≡ Plain }
+        requires sets_len { length sets.old ≡ self.header.count }
+        ensures good { result ≡ good_lines self.entry.bytes.now }
+        ensures sets { sets.new ≡ sets_in self.entry.bytes.now }
+    {
+        let mut gathered = NONE;
+        for (i, set) in sets.iter_mut().enumerate() {
+            *set = set_by_bytes(self.bytes, Version::Plain.file_length(i));
+            gathered = gathered.with(*set, 1);
+        }
+        gathered.is_good(self.header.rack)
+    }
+
+    // Reads the sets and the quantities of a file that has them, and tells in the same pass whether the lines are good.
+    #[tactic(auto, using(job::proofs::Lines::file_few, crate::proofs::There::line_there))]
+    fn read_counted(self, sets: &mut [u64], quantities: &mut [u8]) -> bool
+        requires counted { self.header.version ≡ Counted }
+        requires sets_len { length sets.old ≡ self.header.count }
+        requires quantities_len { length quantities.old ≡ self.header.count }
+        ensures good { result ≡ good_lines self.entry.bytes.now }
+        ensures sets { sets.new ≡ sets_in self.entry.bytes.now }
+        ensures quantities { quantities.new ≡ quantities_in self.entry.bytes.now }
+    {
+        let mut gathered = NONE;
+        for i in 0..sets.len() {
+            let set = set_of(self.bytes, Version::Counted, i);
+            let quantity = quantity_of(self.bytes, Version::Counted, i);
+            sets[i] = set;
+            quantities[i] = quantity;
+            gathered = gathered.with(set, quantity);
+        }
+        gathered.is_good(self.header.rack)
+    }
+
+    // Reads the sets and the quantities of the lines, and tells whether the lines are good. One loop for both versions stores a quantity 1 with each
+    // set of a file without quantities, and takes a third more time there.
+    pub fn read_lines(self, sets: &mut [u64], quantities: &mut [u8]) -> bool
+        requires sets_len { length sets.old ≡ self.header.count }
+        requires quantities_len { length quantities.old ≡ self.header.count }
+        ensures good { result ≡ good_lines self.entry.bytes.now }
+        ensures sets { sets.new ≡ sets_in self.entry.bytes.now }
+        ensures quantities { quantities.new ≡ quantities_in self.entry.bytes.now }
+    {
+        match self.header.version {
+            Version::Plain => {
+                quantities.fill(1);
+                self.read_plain(sets)
+            }
+            Version::Counted => self.read_counted(sets, quantities),
         }
     }
-    Ok(())
-}
 
-// The first line with which the total passes.
-pub fn check_total(file: &[u8]) -> Result<(), Refused>
-    requires { GoodHeader file.now }
-    ensures { refusal_of result ≡ refuse_at 30 (first_over most_placements (quantities_in file.now)) (count_in file.now) }
-{
-    let mut left = model::MOST_PLACEMENTS;
-    for i in 0..job::count_in(file) {
-        let quantity = usize::from(quantity_in(file, i));
-        if left < quantity {
-            return Err(Reason::TooManyPlacements.at(i));
+    // The first line that is refused, with why.
+    pub fn check_lines(self) -> Result<(), Refused>
+        ensures { refusal_of result
+            ≡ scan (λ n. eqb n 0) (λ i. get_or (line_numbers self.entry.bytes.now) i 0) (line_numbers self.entry.bytes.now) }
+    {
+        for i in 0..self.header.count {
+            let (set, quantity) = self.line(i);
+            if let Err(reason) = job::check_line(self.header.rack, set, quantity) {
+                return Err(reason.at(i));
+            }
         }
-        left -= quantity;
+        Ok(())
     }
-    Ok(())
+
+    // The first line with which the total passes.
+    pub fn check_total(self) -> Result<(), Refused>
+        ensures { refusal_of result
+            ≡ refuse_at 30 (first_over most_placements (quantities_in self.entry.bytes.now)) (count_in self.entry.bytes.now) }
+    {
+        let mut left = model::MOST_PLACEMENTS;
+        for i in 0..self.header.count {
+            let (_, quantity) = self.line(i);
+            let quantity = usize::from(quantity);
+            if left < quantity {
+                return Err(Reason::TooManyPlacements.at(i));
+            }
+            left -= quantity;
+        }
+        Ok(())
+    }
 }

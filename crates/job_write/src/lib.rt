@@ -4,33 +4,43 @@
 ghost use Rattle.std.specs.Prelude.{◌≡◌, cond, ◌++◌, ◌+◌, ◌≤◌, eqb, length, take, drop, set};
 ghost use Rattle.job.specs.Job.{header_length, set_length, counted, line_length, file_length, bytes_of, paired, header_of, bytes_of_lines};
 ghost use Rattle.job.specs.Job.{version_for, written_of};
+ghost use Rattle.job.specs.Header.{version_number};
+
+use job::{Header, Version};
 
 // The version that the quantities are written in. The loop has no branch: it gathers the bits in which some quantity is not 1.
-pub fn version_for(quantities: &[u8]) -> u64
-    ensures { result ≡ version_for quantities.now }
+pub fn version_for(quantities: &[u8]) -> Version
+    ensures { version_number result ≡ version_for quantities.now }
 {
     let mut others = 0;
     for quantity in quantities {
         others |= quantity ^ 1;
     }
     if others == 0 {
-        job::PLAIN
+        Version::Plain
     } else {
-        job::COUNTED
+        Version::Counted
     }
 }
 
 // Writes the header to the first bytes.
-pub fn put_header(version: u64, rack: usize, count: usize, out: &mut [u8])
+pub fn put_header(header: Header, out: &mut [u8])
     requires { header_length ≤ length out.old }
-    ensures { out.new ≡ header_of version rack count ++ drop header_length out.old }
+    ensures { out.new
+        ≡ header_of (version_number header.version) header.rack header.count ++ drop header_length out.old }
 {
     let mark = job::MARK.to_be_bytes();
-    let version = version.to_be_bytes();
-    let rack = rack.to_be_bytes();
-    let count = count.to_be_bytes();
+    let rack = header.rack.to_be_bytes();
+    let count = header.count.to_be_bytes();
     out[..job::HEADER].copy_from_slice(&[
-        mark[5], mark[6], mark[7], version[6], version[7], rack[7], count[6], count[7],
+        mark[5],
+        mark[6],
+        mark[7],
+        0,
+        header.version.number(),
+        rack[7],
+        count[6],
+        count[7],
     ]);
 }
 
@@ -55,39 +65,40 @@ fn put_set_by_bytes(set: u64, at: usize, out: &mut [u8])
 
 // Writes the quantity after the set of the line at `at`, where the version has quantities.
 #[tactic(auto, using(job::proofs::Lines::line_two))]
-pub fn put_quantity(version: u64, quantity: u8, at: usize, out: &mut [u8])
-    requires { at + line_length version ≤ length out.old }
-    ensures { out.new ≡ cond (counted version) (set out.old (at + set_length) quantity) out.old }
+pub fn put_quantity(version: Version, quantity: u8, at: usize, out: &mut [u8])
+    requires { at + line_length (version_number version) ≤ length out.old }
+    ensures { out.new
+        ≡ cond (counted (version_number version)) (set out.old (at + set_length) quantity) out.old }
 {
-    if version == job::COUNTED {
+    if version.is_counted() {
         out[at + job::SET] = quantity;
     }
 }
 
 // Writes the lines after the header. The version stays, and the compiler makes a loop of each; a set is read after the quantity is written,
 // so that its eight bytes become one store.
-fn put_lines(version: u64, quantities: &[u8], sets: &[u64], out: &mut [u8])
+fn put_lines(version: Version, quantities: &[u8], sets: &[u64], out: &mut [u8])
     requires quantities_len { length quantities.now ≡ length sets.now }
-    requires out_len { length out.old ≡ file_length version (length sets.now) }
+    requires out_len { length out.old ≡ file_length (version_number version) (length sets.now) }
     ensures { out.new ≡ take header_length out.old
-        ++ bytes_of_lines version (paired sets.now quantities.now) }
+        ++ bytes_of_lines (version_number version) (paired sets.now quantities.now) }
 {
     for i in 0..sets.len() {
-        let at = job::file_length(version, i);
+        let at = version.file_length(i);
         put_quantity(version, quantities[i], at, out);
         put_set_by_bytes(sets[i], at, out);
     }
 }
 
 // The version of a file of so many lines and bytes; without lines it is the shorter one.
-fn version_by(count: usize, bytes: usize) -> u64
+fn version_by(count: usize, bytes: usize) -> Version
     requires { file_length 1 count ≤ bytes }
-    ensures { result ≡ cond (eqb bytes (file_length 1 count)) 1 2 }
+    ensures { version_number result ≡ cond (eqb bytes (file_length 1 count)) 1 2 }
 {
-    if bytes == job::file_length(job::PLAIN, count) {
-        job::PLAIN
+    if bytes == Version::Plain.file_length(count) {
+        Version::Plain
     } else {
-        job::COUNTED
+        Version::Counted
     }
 }
 
@@ -97,7 +108,13 @@ pub fn write_file(rack: usize, quantities: &[u8], sets: &[u64], out: &mut [u8])
     requires out_len { length out.old ≡ file_length (version_for quantities.now) (length sets.now) }
     ensures { out.new ≡ written_of rack quantities.now sets.now }
 {
-    let version = version_by(sets.len(), out.len());
-    put_header(version, rack, sets.len(), out);
+    let count = sets.len();
+    let version = version_by(count, out.len());
+    let header = Header {
+        version,
+        rack,
+        count,
+    };
+    put_header(header, out);
     put_lines(version, quantities, sets, out);
 }

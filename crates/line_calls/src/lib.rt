@@ -137,7 +137,7 @@ pub fn write(
     let count = lines.len();
     let version = job_write::version_for(quantities);
     call_refusals::write_refusal(version, count, out.len())?;
-    let bytes = job::file_length(version, count);
+    let bytes = version.file_length(count);
     job_write::write_file(rack, quantities, lines, &mut out[..bytes]);
     Ok(bytes)
 }

@@ -6,7 +6,7 @@ use mathlib.Core.Path.{◌≡◌}
 use mathlib.Core.List.{List}
 use lib.ListN.{length}
 use Rattle.job.specs.Job.{header_length, line_length, file_length, version_in, start_number}
-use Rattle.job.proofs.Header.{start_good}
+use Rattle.job.proofs.HeaderLaws.{start_good}
 use Rattle.mending.specs.Mending.{read_count}
 use Rattle.mending.proofs.Lengths.{read_whole}
 

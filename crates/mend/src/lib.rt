@@ -32,7 +32,7 @@ pub fn mend(file: &[u8], out: &mut [u8], report: &mut [u8]) -> Result<Sizes, Ref
     ensures rule { MendRuleOf file.now out.new report.new
         (refusal_of result).number (mended_told result).bytes (mended_told result).report_bytes }
 {
-    job::check_start(file)?;
+    let started = Started::open(file)?;
     if read::is_accepted(file) {
         refusal::refuse_when(out.len() < file.len(), Reason::ShortOutput)?;
         return Ok(Sizes {
@@ -40,7 +40,7 @@ pub fn mend(file: &[u8], out: &mut [u8], report: &mut [u8]) -> Result<Sizes, Ref
             report_bytes: 0,
         });
     }
-    let measured = measure::measure(Started::new(file));
+    let measured = measure::measure(started);
     let bytes = measured.mended_length();
     let report_bytes = measured.report_length();
     if out.len() < bytes || report.len() < report_bytes {

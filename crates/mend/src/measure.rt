@@ -35,11 +35,10 @@ impl<'a> Measured<'a> {
     }
 
     // The count written differs from the count found, by the number of lines kept.
-    #[tactic(auto, using(crate::proofs::There::start_long))]
     pub fn is_recounted(self) -> bool
         ensures { result ≡ recounted self.entry.file.bytes.now }
     {
-        self.kept != job::count_in(self.file.bytes)
+        self.kept != self.file.header.count
     }
 
     // The bytes of the report.
@@ -56,14 +55,14 @@ impl<'a> Measured<'a> {
     pub fn mended_length(self) -> usize
         ensures { result ≡ length (mended_file self.entry.file.bytes.now) }
     {
-        job::file_length(self.file.version, self.kept)
+        self.file.header.version.file_length(self.kept)
     }
 }
 
 pub fn measure<'a>(file: Started<'a>) -> Measured<'a>
     ensures { result.file.bytes.now ≡ file.entry.bytes.now }
 {
-    let mut running = Running::new(file.rack);
+    let mut running = Running::new(file.header.rack);
     let mut kept = 0;
     let mut changes = 0;
     for i in 0..file.count {

@@ -55,7 +55,7 @@ fn put_changes(file: Started<'_>, report: &mut [u8]) -> usize
     requires { Room report.old 0 (bytes_of_changes (line_changes file.bytes.now)) }
     ensures { Put report.old 0 (bytes_of_changes (line_changes file.entry.bytes.now)) result report.new }
 {
-    let mut running = Running::new(file.rack);
+    let mut running = Running::new(file.header.rack);
     let mut at = 0;
     for i in 0..file.count {
         let line = file.line(i);

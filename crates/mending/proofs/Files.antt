@@ -13,7 +13,7 @@ use Rattle.model.proofs.Lists.{all-mapped}
 use Rattle.placements.specs.Good.{GoodLines}
 use Rattle.job.specs.Job.{Bytes, header_length, line_length, file_length, file_of, version_in, rack_in, count_in}
 use Rattle.job.specs.Job.{sets_in, quantities_in, read_refusal, GoodStart, GoodHeader, ReadsAs}
-use Rattle.job.proofs.Header.{version_back}
+use Rattle.job.proofs.HeaderLaws.{version_back}
 use Rattle.job.proofs.Lines.{paired_again, paired_quantities, line_long, Held}
 use Rattle.job.proofs.Reading.{read_iff}
 use Rattle.job.proofs.Writing.{reads_as, form_again}

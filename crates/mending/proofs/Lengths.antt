@@ -9,7 +9,7 @@ use lib.ListN.{length, length-append}
 use Rattle.model.specs.Limits.{most_lines}
 use Rattle.job.specs.Job.{bytes_of, header_length, set_length, line_length, file_length}
 use Rattle.job.specs.Job.{header_of, bytes_of_lines, file_of, version_in, rack_in, GoodStart}
-use Rattle.job.proofs.Header.{length-header_of}
+use Rattle.job.proofs.HeaderLaws.{length-header_of}
 use Rattle.job.proofs.Lines.{file_few, length-bytes_of_lines}
 use Rattle.mending.specs.Mending.{noted, changes, read_count, read_lines, lines_kept_in, mended_file, whole_file, recounted}
 use Rattle.mending.specs.Mending.{has_more_bytes, changes_in, bytes_of_changes, mended_report}

@@ -4,7 +4,7 @@ use native.Mathlib.Omega.{arith}
 use mathlib.Core.Path.{◌≡◌}
 use mathlib.Core.List.{List}
 use Rattle.job.specs.Job.{Bytes, rack_in, start_number}
-use Rattle.job.proofs.Header.{start_good}
+use Rattle.job.proofs.HeaderLaws.{start_good}
 use Rattle.mending.specs.Mending.{mended_file, mended_report}
 use Rattle.mending.specs.Rules.{MendRule}
 use Rattle.mending.proofs.Kept.{mended_has}

@@ -1,7 +1,8 @@
 use Rattle.std.proofs.Common.{◌++◌, length, take, drop, sym, ap, ◌∙◌, arith}
 use lib.Seq.{take_at}
 use Rattle.job.specs.Job.{header_length, file_length, paired, header_of, bytes_of_lines, file_of, version_for}
-use Rattle.job.proofs.Header.{length-header_of}
+use Rattle.job.specs.Header.{version_number}
+use Rattle.job.proofs.HeaderLaws.{length-header_of}
 use Rattle.job.proofs.Lines.{length-paired}
 use Rattle.job_write.proofs.Laws.{version_by-length, plain_shorter}
 use Rattle.job_write.proofs.write_file.Goals as goal
@@ -21,7 +22,7 @@ pub returns : goal.returns
 unfolding file_of
 returns c =
     let a = c.args in
-    let v = c.version_by-version.result in
+    let v = version_number c.version_by-version.result in
     let sets = a.sets.now in
     let lines = paired sets a.quantities.now in
     let head = header_of v a.rack (length sets) in

@@ -5,6 +5,7 @@ use Rattle.std.proofs.Common.{rules, Err, length}
 use Rattle.refusal.specs.Refusal.{none}
 use Rattle.refusal.proofs.Laws.{reason_not_0}
 use Rattle.job.specs.Job.{file_length}
+use Rattle.job.specs.Header.{version_number}
 use Rattle.job.proofs.Lines.{file_few}
 use Rattle.call_refusals.proofs.Calls.{write_none}
 use Rattle.line_calls.proofs.JobFile.{write-refused, write_accepted}
@@ -21,7 +22,7 @@ returns-in_err-write_refusal c =
     rw same (record { answer = answer; buffer = buffer })
 
 pub file_length-bytes-requires : goal.file_length-bytes-requires
-file_length-bytes-requires c = omega (arith, file_few c.version_for-version.result _ c.requires.few-lines)
+file_length-bytes-requires c = omega (arith, file_few (version_number c.version_for-version.result) _ c.requires.few-lines)
 
 pub slice_bounds-write_file-end : goal.slice_bounds-write_file-end
 slice_bounds-write_file-end c =

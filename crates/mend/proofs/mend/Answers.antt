@@ -21,14 +21,14 @@ refused_taken : (e : Refused) (test : Bool) (n : ℕ) → told_of e ≡ when tes
 refused_taken e true n h = refl
 refused_taken e false n h = absurd (reason_not_0 e.reason (ap (λ r. r.number) h))
 
-pub returns-in_err-check_start : goal.returns-in_err-check_start
-returns-in_err-check_start c =
+pub returns-in_err-started : goal.returns-in_err-started
+returns-in_err-started c =
     let a = c.args in
-    let reason = c.in_err-check_start.field-0.0 in
+    let reason = c.in_err-started.field-0.0 in
     let n = reason_number reason in
     let e : Refused = record { reason = reason; place = 0 } in
     let same : c.from_residual.result ≡ Err e = search rules in
-    let told : n ≡ start_number a.file.now = c.in_err-check_start.ensures in
+    let told : n ≡ start_number a.file.now = c.in_err-started.ensures.refusal in
     rw same (call_refused a.file.now a.out.now a.report.now (refused_by n) n refl
     (ap refuse told ∙ start_refused a.file.now a.out.now a.report.now (λ z. reason_not_0 reason (told ∙ z))) (reason_not_0 reason))
 
@@ -42,7 +42,7 @@ returns-in_err-refuse_when c =
     let test = ltb (length out) (length file) in
     let told : told_of e ≡ when test 11 = c.in_err-refuse_when.ensures in
     let taken : test ≡ true = refused_taken e test 11 told in
-    let started : start_number file ≡ 0 = sym c.in_ok-check_start.ensures in
+    let started : start_number file ≡ 0 = sym c.in_ok-started.ensures.refusal in
     let made_of_bytes : Bytes file = all_get_d 0 file (λ i l. (c.type_inv.file i).fits) in
     let accepted : (read_refusal file).number ≡ 0 = eqb→eq _ 0 (T_true (sym c.is_accepted.ensures ∙ c.if-is_accepted.true)) in
     let whole = (accepted_same file accepted made_of_bytes).0 in
@@ -55,7 +55,7 @@ pub returns-then-is_accepted : goal.returns-then-is_accepted
 returns-then-is_accepted c =
     let file = c.args.file.now in
     let out = c.args.out.now in
-    let started : start_number file ≡ 0 = sym c.in_ok-check_start.ensures in
+    let started : start_number file ≡ 0 = sym c.in_ok-started.ensures.refusal in
     let made_of_bytes : Bytes file = all_get_d 0 file (λ i l. (c.type_inv.file i).fits) in
     let accepted : (read_refusal file).number ≡ 0 = eqb→eq _ 0 (T_true (sym c.is_accepted.ensures ∙ c.if-is_accepted.true)) in
     let test = ltb (length out) (length file) in
@@ -68,8 +68,8 @@ returns-then-out-bytes c =
     let file = c.args.file.now in
     let out = c.args.out.now in
     let report = c.args.report.now in
-    let started : start_number file ≡ 0 = sym c.in_ok-check_start.ensures in
-    let same = c.measure-measured.ensures ∙ c.new.ensures in
+    let started : start_number file ≡ 0 = sym c.in_ok-started.ensures.refusal in
+    let same = c.measure-measured.ensures ∙ c.in_ok-started.ensures.same in
     let bytes = rw same at c.mended_length-bytes.ensures in
     let report_bytes = rw same at c.report_length-report_bytes.ensures in
     let short : (length out < length (mended_file file)) ⊎ (length report < length (mended_report file)) =
@@ -82,9 +82,9 @@ returns-then-out-bytes c =
 pub returns : goal.returns
 returns c =
     let file = c.args.file.now in
-    let started : start_number file ≡ 0 = sym c.in_ok-check_start.ensures in
+    let started : start_number file ≡ 0 = sym c.in_ok-started.ensures.refusal in
     let made_of_bytes : Bytes file = all_get_d 0 file (λ i l. (c.type_inv.file i).fits) in
-    let same = c.measure-measured.ensures ∙ c.new.ensures in
+    let same = c.measure-measured.ensures ∙ c.in_ok-started.ensures.same in
     let bytes = rw same at c.mended_length-bytes.ensures in
     let report_bytes = rw same at c.report_length-report_bytes.ensures in
     let written = rw same at c.write_file.ensures in

@@ -11,8 +11,8 @@ loop-i-init c =
     let running = c.new-running in
     let file = c.args.file in
     record {
-      passed = pass_start file.bytes.now running.result.rack file.count running.result.total (running.ensures.rack ∙ file.rack_is) file.count_is
-          running.ensures.total;
+      passed = pass_start file.bytes.now running.result.rack file.count running.result.total
+          (running.ensures.rack ∙ file.header_is.rack-is) file.count_is running.ensures.total;
       filled = fill_start _ _;
     }
 

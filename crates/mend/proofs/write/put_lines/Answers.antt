@@ -1,5 +1,6 @@
 use Rattle.std.proofs.Common.{◌+◌, length, ap, ◌∙◌, arith}
 use Rattle.job.specs.Job.{bytes_of_lines}
+use Rattle.job.specs.Header.{version_number}
 use Rattle.mending.specs.Mending.{kept, lines_kept_in}
 use Rattle.mend.proofs.Filled.{fill_start, fill_room, fill_next}
 use Rattle.mend.proofs.Pass.{pass_start, pass_end, pass_next, lines_next}
@@ -12,8 +13,8 @@ loop-i-init c =
     let running = c.new-running in
     let file = c.args.file in
     record {
-      passed = pass_start file.bytes.now running.result.rack file.count running.result.total (running.ensures.rack ∙ file.rack_is) file.count_is
-          running.ensures.total;
+      passed = pass_start file.bytes.now running.result.rack file.count running.result.total
+          (running.ensures.rack ∙ file.header_is.rack-is) file.count_is running.ensures.total;
       filled = fill_start _ _;
     }
 
@@ -22,11 +23,12 @@ put_kept-at-requires c =
     let file = c.args.file in
     let at = c.loop-i in
     let line = c.line-line in
-    let same = ap (λ v. length (bytes_of_lines v (lines_kept_in file.bytes.now))) file.version_is in
+    let v = version_number file.header.version in
+    let same = ap (λ w. length (bytes_of_lines w (lines_kept_in file.bytes.now))) file.header_is.version-is in
     fill_room at.invariant.filled _ _
     (lines_next file.bytes.now _ _ at.i at.running.total line.result.set line.result.quantity at.invariant.passed (omega arith)
-    line.ensures.set line.ensures.quantity file.version)
-    (omega (arith, c.requires, lines_room file.bytes.now (at.i + 1) file.version, same))
+    line.ensures.set line.ensures.quantity v)
+    (omega (arith, c.requires, lines_room file.bytes.now (at.i + 1) v, same))
 
 pub loop-i-preserved : goal.loop-i-preserved
 loop-i-preserved c =
@@ -34,18 +36,19 @@ loop-i-preserved c =
     let at = c.loop-i in
     let line = c.line-line in
     let next = c.after-running in
-    let same = ap (λ v. length (bytes_of_lines v (lines_kept_in file.bytes.now))) file.version_is in
+    let v = version_number file.header.version in
+    let same = ap (λ w. length (bytes_of_lines w (lines_kept_in file.bytes.now))) file.header_is.version-is in
     record {
       passed = pass_next file.bytes.now _ _ at.i at.running.total line.result.set line.result.quantity at.invariant.passed (omega arith)
           line.ensures.set line.ensures.quantity next.result.rack next.result.total next.ensures.rack next.ensures.total;
       filled = fill_next at.invariant.filled _ _
           (lines_next file.bytes.now _ _ at.i at.running.total line.result.set line.result.quantity at.invariant.passed (omega arith)
-          line.ensures.set line.ensures.quantity file.version)
-          (omega (arith, c.requires, lines_room file.bytes.now (at.i + 1) file.version, same)) c.put_kept-at.ensures (omega arith);
+          line.ensures.set line.ensures.quantity v)
+          (omega (arith, c.requires, lines_room file.bytes.now (at.i + 1) v, same)) c.put_kept-at.ensures (omega arith);
     }
 
 pub returns : goal.returns
 returns c =
     let file = c.args.file in
     let at = c.loop-i in
-    rw (file.version_is, pass_end file.bytes.now _ _ at.i at.running.total at.invariant.passed (omega arith)) at at.invariant.filled.put
+    rw (file.header_is.version-is, pass_end file.bytes.now _ _ at.i at.running.total at.invariant.passed (omega arith)) at at.invariant.filled.put

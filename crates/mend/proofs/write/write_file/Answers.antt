@@ -28,6 +28,6 @@ returns c =
     let n = length (lines_kept_in file) in
     let header : c.put_header.new.out ≡ header_of (version_in file) (rack_in file) n ++ drop header_length out =
     c.put_header.ensures
-    ∙ ap₂ (λ v m. header_of v m measured.kept ++ drop header_length out) measured.file.version_is measured.file.rack_is
+    ∙ ap₂ (λ v m. header_of v m measured.kept ++ drop header_length out) measured.file.header_is.version-is measured.file.header_is.rack-is
     ∙ ap (λ k. header_of (version_in file) (rack_in file) k ++ drop header_length out) measured.kept_is in
     (printed (both (omega arith) (header-put (version_in file) (rack_in file) n out header) c.put_lines.ensures)).bytes

@@ -1,23 +1,24 @@
-use Rattle.std.proofs.Common.{◌∙◌, ◌&&◌, leb, sym, ap, refl, arith}
+use Rattle.std.proofs.Common.{◌≡◌, ◌∙◌, ◌&&◌, leb, sym, ap, refl, arith}
 use lib.Seq.{take_all}
 use Rattle.model.specs.Count.{list_of}
 use Rattle.model.specs.Limits.{most_placements}
 use Rattle.model.proofs.ListOf.{filled_more}
-use Rattle.job.specs.Job.{set_in, quantity_in, sets_in, quantities_in, set_from, quantity_from}
+use Rattle.job.specs.Job.{version_in, set_in, quantity_in, sets_in, quantities_in, set_from, quantity_from}
+use Rattle.job.specs.Header.{version_number}
 use Rattle.job.proofs.Good.{all_good, read_start, read_next, read_end}
-use Rattle.job_read.proofs.read_counted.Goals as goal
+use Rattle.job_read.proofs.JobFile.read_counted.Goals as goal
 
 pub loop-i-init : goal.loop-i-init
 unfolding list_of
-loop-i-init c = record { sets = refl; quantities = refl; read = read_start c.args.file.now }
+loop-i-init c = record { sets = refl; quantities = refl; read = read_start c.args.self.bytes.now }
 
 pub loop-i-preserved : goal.loop-i-preserved
 loop-i-preserved c =
-    let file = c.args.file.now in
+    let file = c.args.self.bytes.now in
     let at = c.loop-i in
     let set = c.set_of-set.result in
     let quantity = c.quantity_of-quantity.result in
-    let version = sym c.requires.file_value in
+    let version : 2 ≡ version_in file = ap version_number (sym c.requires.counted) ∙ c.args.self.header_is.version-is in
     let s = c.set_of-set.ensures ∙ ap (λ v. set_from v file at.i) version in
     let q = c.quantity_of-quantity.ensures ∙ ap (λ v. quantity_from v file at.i) version in
     record {
@@ -29,10 +30,10 @@ loop-i-preserved c =
 
 pub returns-clause-good : goal.returns-clause-good
 returns-clause-good c =
-    let file = c.args.file.now in
+    let file = c.args.self.bytes.now in
     let at = c.loop-i in
     c.is_good.ensures
-    ∙ ap (λ m. all_good m at.gathered.union at.gathered.zeros && leb at.gathered.total most_placements) c.rack_in.ensures
+    ∙ ap (λ m. all_good m at.gathered.union at.gathered.zeros && leb at.gathered.total most_placements) c.args.self.header_is.rack-is
     ∙ read_end file at.i at.gathered.union at.gathered.zeros at.gathered.total (omega arith) at.invariant.read
 
 pub returns-clause-sets : goal.returns-clause-sets
@@ -40,11 +41,11 @@ unfolding sets_in
 returns-clause-sets c =
     sym (take_all c.loop-i.i c.loop-i.sets (omega arith))
     ∙ c.loop-i.invariant.sets
-    ∙ ap (list_of (set_in c.args.file.now)) (omega arith)
+    ∙ ap (list_of (set_in c.args.self.bytes.now)) (omega arith)
 
 pub returns-clause-quantities : goal.returns-clause-quantities
 unfolding quantities_in
 returns-clause-quantities c =
     sym (take_all c.loop-i.i c.loop-i.quantities (omega arith))
     ∙ c.loop-i.invariant.quantities
-    ∙ ap (list_of (quantity_in c.args.file.now)) (omega arith)
+    ∙ ap (list_of (quantity_in c.args.self.bytes.now)) (omega arith)

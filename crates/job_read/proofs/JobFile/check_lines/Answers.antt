@@ -2,34 +2,26 @@ use mathlib.Core.Path.{◌≡◌, refl, sym, ap, ap₂, ◌∙◌}
 use mathlib.Core.Bool.{true, false}
 use native.Mathlib.Omega.{arith}
 use borrow.Author.Tests.{eq-eqb, ne_eqb, le-ltb}
-use Rattle.std.proofs.Common.{◌≤◌, ◌<◌, ℕ, eqb, length, get_or}
-use Rattle.refusal.specs.Told.{Refusal}
+use Rattle.std.proofs.Common.{◌≤◌, ◌<◌, eqb, length, get_or}
 use Rattle.refusal.specs.Refusal.{scan}
 use Rattle.refusal.specs.Reasons.{reason_number}
 use Rattle.refusal.proofs.Laws.{reason_not_0, scan-at}
-use Rattle.model.specs.Count.{first_fail}
 use Rattle.model.proofs.Fails.{fails_next, fails_end}
 use Rattle.job.specs.Job.{rack_in, count_in, line_number, line_numbers}
 use Rattle.job.proofs.Reading.{bad_in, length_numbers, number-there}
-use Rattle.job_read.proofs.check_lines.Goals as goal
-
-pub set_in-requires : goal.set_in-requires
-set_in-requires c = (c.requires, omega (arith, c.count_in-i-end.ensures))
-
-pub quantity_in-requires : goal.quantity_in-requires
-quantity_in-requires c = (c.requires, omega (arith, c.count_in-i-end.ensures))
+use Rattle.job_read.proofs.JobFile.check_lines.Goals as goal
 
 pub returns-in-Err : goal.returns-in-Err
 returns-in-Err c =
-    let file = c.args.file.now in
+    let file = c.args.self.bytes.now in
     let i = c.loop-i.i in
     let reason = c.in-Err.reason in
     let numbers = line_numbers file in
-    let here : i < count_in file = omega (arith, c.count_in-i-end.ensures) in
+    let here : i < count_in file = omega (arith, c.args.self.header_is.count-is) in
     let number : reason_number reason ≡ get_or numbers i 0 =
     c.in-Err.ensures
-    ∙ ap (λ m. line_number m c.set_in.result c.quantity_in.result) c.rack_in-rack.ensures
-    ∙ ap₂ (line_number (rack_in file)) c.set_in.ensures c.quantity_in.ensures
+    ∙ ap (λ m. line_number m c.line-set.result.0 c.line-set.result.1) c.args.self.header_is.rack-is
+    ∙ ap₂ (line_number (rack_in file)) c.line-set.ensures.set c.line-set.ensures.quantity
     ∙ number-there file i here in
     let fail = sym (ne_eqb (get_or numbers i 0) 0 (λ z. reason_not_0 reason (number ∙ z))) in
     let there : i < length numbers = omega (arith, length_numbers file, here) in
@@ -40,13 +32,13 @@ returns-in-Err c =
 
 pub loop-i-preserved : goal.loop-i-preserved
 loop-i-preserved c =
-    let file = c.args.file.now in
+    let file = c.args.self.bytes.now in
     let i = c.loop-i.i in
-    let here : i < count_in file = omega (arith, c.count_in-i-end.ensures) in
+    let here : i < count_in file = omega (arith, c.args.self.header_is.count-is) in
     let number : 0 ≡ get_or (line_numbers file) i 0 =
     c.in_default.ensures
-    ∙ ap (λ m. line_number m c.set_in.result c.quantity_in.result) c.rack_in-rack.ensures
-    ∙ ap₂ (line_number (rack_in file)) c.set_in.ensures c.quantity_in.ensures
+    ∙ ap (λ m. line_number m c.line-set.result.0 c.line-set.result.1) c.args.self.header_is.rack-is
+    ∙ ap₂ (line_number (rack_in file)) c.line-set.ensures.set c.line-set.ensures.quantity
     ∙ number-there file i here in
     let pass = sym (eq-eqb (get_or (line_numbers file) i 0) 0 (sym number)) in
     fails_next (λ n. eqb n 0) (line_numbers file) i true (omega (arith, length_numbers file, here)) pass c.loop-i.invariant
@@ -54,7 +46,7 @@ loop-i-preserved c =
 pub returns : goal.returns
 unfolding scan
 returns c =
-    let file = c.args.file.now in
-    let past : length (line_numbers file) ≤ c.loop-i.i = omega (arith, length_numbers file, c.count_in-i-end.ensures) in
+    let file = c.args.self.bytes.now in
+    let past : length (line_numbers file) ≤ c.loop-i.i = omega (arith, length_numbers file, c.args.self.header_is.count-is) in
     let bad : bad_in file ≡ c.loop-i.i = fails_end (λ n. eqb n 0) (line_numbers file) c.loop-i.i past c.loop-i.invariant in
     rw (le-ltb (bad_in file) (length (line_numbers file)) (omega (arith, bad, past))) refl

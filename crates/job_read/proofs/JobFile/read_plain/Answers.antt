@@ -3,27 +3,31 @@ use lib.Seq.{take_all}
 use Rattle.model.specs.Count.{list_of}
 use Rattle.model.specs.Limits.{most_placements}
 use Rattle.model.proofs.ListOf.{filled_more}
-use Rattle.job.proofs.Lines.{file_inside, set_inside}
-use Rattle.job.specs.Job.{set_length, number_at, set_in, quantity_in, sets_in, set_from}
+use Rattle.job.proofs.Lines.{set_inside}
+use Rattle.job.specs.Header.{version_number}
+use Rattle.job.specs.Job.{version_in, set_length, number_at, set_in, quantity_in, sets_in, set_from}
 use Rattle.job.proofs.Good.{all_good, read_start, read_next, read_end}
-use Rattle.job_read.proofs.read_plain.Goals as goal
+use Rattle.job_read.proofs.There.{line_there}
+use Rattle.job_read.proofs.JobFile.read_plain.Goals as goal
 
 pub loop-i-init : goal.loop-i-init
 unfolding list_of
-loop-i-init c = record { sets = refl; read = read_start c.args.file.now }
+loop-i-init c = record { sets = refl; read = read_start c.args.self.bytes.now }
 
 pub set_by_bytes-requires : goal.set_by_bytes-requires
 set_by_bytes-requires c =
-    omega (arith, set_inside 1 c.loop-i.i, file_inside c.requires.good_header (sym c.requires.file_value) c.loop-i.i (omega arith))
+    let self = c.args.self in
+    let version : 1 ≡ version_in self.bytes.now = ap version_number (sym c.requires.plain) ∙ self.header_is.version-is in
+    omega (arith, set_inside 1 c.loop-i.i, line_there self.bytes.now self.good 1 c.loop-i.i version (omega arith))
 
 pub loop-i-preserved : goal.loop-i-preserved
 loop-i-preserved c =
-    let file = c.args.file.now in
+    let file = c.args.self.bytes.now in
     let at = c.loop-i in
     let set = c.set_by_bytes.result in
-    let version = c.requires.file_value in
-    let s = c.set_by_bytes.ensures ∙ ap (number_at set_length file) c.file_length.ensures ∙ ap (λ v. set_from v file at.i) (sym version) in
-    let q : 1 ≡ quantity_in file at.i = rw version refl in
+    let version : 1 ≡ version_in file = ap version_number (sym c.requires.plain) ∙ c.args.self.header_is.version-is in
+    let s = c.set_by_bytes.ensures ∙ ap (number_at set_length file) c.file_length.ensures ∙ ap (λ v. set_from v file at.i) version in
+    let q : 1 ≡ quantity_in file at.i = rw (sym version) refl in
     record {
       sets = filled_more (set_in file) at.sets at.i set (omega arith) at.invariant.sets s;
       read = rw (c.with-gathered.ensures.union, c.with-gathered.ensures.zeros, c.with-gathered.ensures.total)
@@ -32,10 +36,10 @@ loop-i-preserved c =
 
 pub returns-clause-good : goal.returns-clause-good
 returns-clause-good c =
-    let file = c.args.file.now in
+    let file = c.args.self.bytes.now in
     let at = c.loop-i in
     c.is_good.ensures
-    ∙ ap (λ m. all_good m at.gathered.union at.gathered.zeros && leb at.gathered.total most_placements) c.rack_in.ensures
+    ∙ ap (λ m. all_good m at.gathered.union at.gathered.zeros && leb at.gathered.total most_placements) c.args.self.header_is.rack-is
     ∙ read_end file at.i at.gathered.union at.gathered.zeros at.gathered.total (omega arith) at.invariant.read
 
 pub returns-clause-sets : goal.returns-clause-sets
@@ -43,4 +47,4 @@ unfolding sets_in
 returns-clause-sets c =
     sym (take_all c.loop-i.i c.loop-i.sets (omega arith))
     ∙ c.loop-i.invariant.sets
-    ∙ ap (list_of (set_in c.args.file.now)) (omega arith)
+    ∙ ap (list_of (set_in c.args.self.bytes.now)) (omega arith)

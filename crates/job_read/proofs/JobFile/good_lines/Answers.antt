@@ -2,29 +2,31 @@ use Rattle.std.proofs.Common.{◌∙◌, ◌&&◌, leb, sym, ap, ap₂, arith}
 use Rattle.model.specs.Limits.{most_placements}
 use Rattle.job.specs.Job.{set_length, number_at, set_from, quantity_from}
 use Rattle.job.proofs.Good.{all_good, read_start, read_next, read_end}
-use Rattle.job.proofs.Lines.{file_inside, set_inside}
+use Rattle.job.specs.Header.{version_number}
+use Rattle.job.proofs.Lines.{set_inside}
 use Rattle.job_read.specs.Swapped.{swapped}
+use Rattle.job_read.proofs.There.{line_there}
 use Rattle.job_read.proofs.Swapped.{swapped_or, empty_swapped, swapped_is}
-use Rattle.job_read.proofs.good_lines.Goals as goal
+use Rattle.job_read.proofs.JobFile.good_lines.Goals as goal
 
 pub loop-i-init : goal.loop-i-init
 unfolding swapped
-loop-i-init c = read_start c.args.file.now
+loop-i-init c = read_start c.args.self.bytes.now
 
 pub swapped_at-set-requires : goal.swapped_at-set-requires
 swapped_at-set-requires c =
     omega (
       arith,
-      set_inside c.version_in-version.result c.loop-i.i,
-      file_inside c.requires c.version_in-version.ensures c.loop-i.i (omega arith),
+      set_inside (version_number c.args.self.header.version) c.loop-i.i,
+      line_there c.args.self.bytes.now c.args.self.good _ c.loop-i.i c.args.self.header_is.version-is (omega arith),
     )
 
 pub loop-i-preserved : goal.loop-i-preserved
 loop-i-preserved c =
-    let file = c.args.file.now in
+    let file = c.args.self.bytes.now in
     let at = c.loop-i in
     let set = c.swapped_at-set.result in
-    let version = c.version_in-version.ensures in
+    let version = c.args.self.header_is.version-is in
     let s = c.swapped_at-set.ensures ∙ ap (number_at set_length file) c.file_length.ensures ∙ ap (λ v. set_from v file at.i) version in
     let q = c.quantity_of.ensures ∙ ap (λ v. quantity_from v file at.i) version in
     rw (
@@ -39,9 +41,9 @@ loop-i-preserved c =
 
 pub returns : goal.returns
 returns c =
-    let file = c.args.file.now in
+    let file = c.args.self.bytes.now in
     let at = c.loop-i in
     c.is_good.ensures
     ∙ ap₂ (λ m u. all_good m u at.swapped.zeros && leb at.swapped.total most_placements)
-    c.rack_in.ensures (c.swap_bytes.ensures ∙ swapped_is at.swapped.union)
+    c.args.self.header_is.rack-is (c.swap_bytes.ensures ∙ swapped_is at.swapped.union)
     ∙ read_end file at.i (swapped set_length at.swapped.union) at.swapped.zeros at.swapped.total (omega arith) at.invariant

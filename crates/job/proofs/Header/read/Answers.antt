@@ -1,0 +1,62 @@
+use mathlib.Core.Path.{◌≡◌, refl, sym, ap, ◌∙◌}
+use native.Mathlib.Omega.{arith}
+use borrow.Author.Tests.{lt-ltb, le-ltb, eq-eqb, ne_eqb}
+use Rattle.std.proofs.Common.{true, false}
+use Rattle.model.specs.Plan.{rack_ok}
+use Rattle.job.specs.Job.{version_ok, version_in, rack_in, start_number}
+use Rattle.job.proofs.Numbers.{number_one}
+use Rattle.job.proofs.Header.read.Goals as goal
+
+pub returns-then-file-lt-HEADER-clause-refusal : goal.returns-then-file-lt-HEADER-clause-refusal
+unfolding start_number
+returns-then-file-lt-HEADER-clause-refusal c = rw (lt-ltb _ _ c.if-file-lt-HEADER.true) refl
+
+pub returns-then-mark_in-ne-MARK-clause-refusal : goal.returns-then-mark_in-ne-MARK-clause-refusal
+unfolding start_number
+returns-then-mark_in-ne-MARK-clause-refusal c =
+    rw (le-ltb _ _ c.if-file-lt-HEADER.false, ne_eqb _ _ (λ e. c.if-mark_in-ne-MARK.true (c.mark_in.ensures ∙ e))) refl
+
+pub returns-in_default-clause-refusal : goal.returns-in_default-clause-refusal
+unfolding start_number
+returns-in_default-clause-refusal c =
+    let unknown : version_ok (version_in c.args.file.now) ≡ false =
+    ap version_ok (sym c.two_at.ensures) ∙ sym c.in_default.ensures.known in
+    rw (
+      le-ltb _ _ c.if-file-lt-HEADER.false,
+      eq-eqb _ _ (sym c.mark_in.ensures ∙ c.if-mark_in-ne-MARK.false),
+      unknown,
+    ) refl
+
+pub returns-then-not-rack_ok-clause-refusal : goal.returns-then-not-rack_ok-clause-refusal
+unfolding start_number
+returns-then-not-rack_ok-clause-refusal c =
+    let known : version_ok (version_in c.args.file.now) ≡ true =
+    ap version_ok (sym c.two_at.ensures) ∙ sym c.in-Some.ensures.known in
+    let rack : c.from-rack.result ≡ rack_in c.args.file.now = omega (arith, c.from-rack.ensures, number_one c.args.file.now 5 (omega arith)) in
+    rw (
+      le-ltb _ _ c.if-file-lt-HEADER.false,
+      eq-eqb _ _ (sym c.mark_in.ensures ∙ c.if-mark_in-ne-MARK.false),
+      known,
+      ap rack_ok (sym rack) ∙ sym c.rack_ok.ensures ∙ c.if-not-rack_ok.true,
+    ) refl
+
+pub returns-clause-refusal : goal.returns-clause-refusal
+unfolding start_number
+returns-clause-refusal c =
+    let known : version_ok (version_in c.args.file.now) ≡ true =
+    ap version_ok (sym c.two_at.ensures) ∙ sym c.in-Some.ensures.known in
+    let rack : c.from-rack.result ≡ rack_in c.args.file.now = omega (arith, c.from-rack.ensures, number_one c.args.file.now 5 (omega arith)) in
+    rw (
+      le-ltb _ _ c.if-file-lt-HEADER.false,
+      eq-eqb _ _ (sym c.mark_in.ensures ∙ c.if-mark_in-ne-MARK.false),
+      known,
+      ap rack_ok (sym rack) ∙ sym c.rack_ok.ensures ∙ c.if-not-rack_ok.false,
+    ) refl
+
+pub returns-clause-header : goal.returns-clause-header
+returns-clause-header c =
+    record {
+      version-is = c.in-Some.ensures.number ∙ c.two_at.ensures;
+      rack-is = omega (arith, c.from-rack.ensures, number_one c.args.file.now 5 (omega arith));
+      count-is = omega (arith, c.from-count.ensures, c.two_at-2.ensures);
+    }
