@@ -5,75 +5,65 @@ ghost use Rattle.std.specs.Prelude.{◌≡◌, cond, ◌&&◌, ◌+◌, ◌*◌,
 ghost use Rattle.model.specs.Plan.{is_empty, in_rack};
 ghost use Rattle.model.specs.Limits.{most_lines, most_placements};
 ghost use Rattle.placements.specs.Totals.{first_over};
-ghost use Rattle.job.specs.Job.{number_at, set_length, file_length, count_in, set_from, quantity_from, set_in, quantity_in};
+ghost use Rattle.job.specs.Job.{number_of, set_length, file_length, count_in, set_from, quantity_from, set_in, quantity_in};
 ghost use Rattle.job.specs.Job.{sets_in, quantities_in, line_numbers, good_lines, header_number};
 ghost use Rattle.job.specs.Header.{version_number, IsHeaderOf};
 ghost use Rattle.refusal.specs.Refusal.{scan, refuse_at};
 ghost use Rattle.refusal.specs.Reasons.{refusal_of, number_in};
 ghost use Rattle.job.specs.declared.Version.TheVariants.{Plain, Counted};
-ghost use Rattle.job_read.specs.Swapped.{swapped};
 
 use job::{Header, Version};
 use refusal::{Reason, Refused};
 
-// The number of a set's eight bytes.
-#[tactic(auto, using(job::proofs::Numbers::number_eight))]
-fn set_at(file: &[u8], i: usize) -> u64
-    requires { i + set_length ≤ length file.now }
-    ensures { result ≡ number_at set_length file.now i }
+// The eight bytes of the set of line `i` in a file of that version. They are a slice: `first_chunk` tests the length in each turn of a loop,
+// and reading then takes more than twice the instructions.
+#[tactic(auto, using(job::proofs::Lines::set_inside))]
+fn set_bytes(file: &[u8], version: Version, i: usize) -> &[u8]
+    requires { file_length (version_number version) (i + 1) ≤ length file.now }
+    ensures eight { length result.now ≡ set_length }
+    ensures number { number_of result.now ≡ set_from (version_number version) file.now i }
+{
+    let at = version.file_length(i);
+    &file[at..at + job::SET]
+}
+
+// The number of a set's bytes.
+fn set_at_once(bytes: &[u8]) -> u64
+    requires { length bytes.now ≡ set_length }
+    ensures { result ≡ number_of bytes.now }
 {
     u64::from_be_bytes([
-        file[i],
-        file[i + 1],
-        file[i + 2],
-        file[i + 3],
-        file[i + 4],
-        file[i + 5],
-        file[i + 6],
-        file[i + 7],
+        bytes[0], bytes[1], bytes[2], bytes[3], bytes[4], bytes[5], bytes[6], bytes[7],
     ])
 }
 
 // The same byte by byte. It becomes one load only after loops are vectorized: a loop that only stores sets takes more than twice the time by
 // `from_be_bytes`, since two sets are then swapped at once, without an instruction for it.
-fn set_by_bytes(file: &[u8], i: usize) -> u64
-    requires { i + set_length ≤ length file.now }
-    ensures { result ≡ number_at set_length file.now i }
+fn set_by_bytes(bytes: &[u8]) -> u64
+    requires { length bytes.now ≡ set_length }
+    ensures { result ≡ number_of bytes.now }
 {
     let mut set = 0;
-    for byte in &file[i..i + job::SET] {
+    for byte in bytes {
         set = set * 256 + u64::from(*byte);
     }
     set
 }
 
-// The number with its bytes the other way round: the compiler swaps nothing, and makes one load before loops are vectorized.
-fn swapped_at(file: &[u8], i: usize) -> u64
-    requires { i + set_length ≤ length file.now }
-    ensures { swapped set_length result ≡ number_at set_length file.now i }
-{
-    set_at(file, i).swap_bytes()
-}
-
 // The set and the quantity of line `i` in a file of that version; without quantities it is 1.
-#[tactic(auto, using(job::proofs::Lines::set_inside))]
-pub fn set_of(file: &[u8], version: Version, i: usize) -> u64
-    requires { file_length (version_number version) (i + 1) ≤ length file.now }
-    ensures { result ≡ set_from (version_number version) file.now i }
-{
-    set_at(file, version.file_length(i))
-}
-
 #[tactic(auto, using(job::proofs::Numbers::number_one, job::proofs::Lines::quantity_inside))]
-pub fn quantity_of(file: &[u8], version: Version, i: usize) -> u8
+pub fn line_of(file: &[u8], version: Version, i: usize) -> (u64, u8)
     requires { file_length (version_number version) (i + 1) ≤ length file.now }
-    ensures { result ≡ quantity_from (version_number version) file.now i }
+    ensures set { result.0 ≡ set_from (version_number version) file.now i }
+    ensures quantity { result.1 ≡ quantity_from (version_number version) file.now i }
 {
-    if version.is_counted() {
+    let set = set_at_once(set_bytes(file, version, i));
+    let quantity = if version.is_counted() {
         file[version.file_length(i) + job::SET]
     } else {
         1
-    }
+    };
+    (set, quantity)
 }
 
 // What is gathered of the lines read so far: the union of the sets, the number of empty sets and of quantities 0, and the total.
@@ -149,11 +139,7 @@ impl<'a> JobFile<'a> {
         ensures set { result.0 ≡ set_in self.entry.bytes.now i }
         ensures quantity { result.1 ≡ quantity_in self.entry.bytes.now i }
     {
-        let version = self.header.version;
-        (
-            set_of(self.bytes, version, i),
-            quantity_of(self.bytes, version, i),
-        )
+        line_of(self.bytes, self.header.version, i)
     }
 
     // The lines are good. The loop has no branch, so that it is quick where they are: the version stays, and the compiler makes a loop
@@ -165,8 +151,8 @@ impl<'a> JobFile<'a> {
         let version = self.header.version;
         let mut swapped = NONE;
         for i in 0..self.header.count {
-            let set = swapped_at(self.bytes, version.file_length(i));
-            swapped = swapped.with(set, quantity_of(self.bytes, version, i));
+            let (set, quantity) = line_of(self.bytes, version, i);
+            swapped = swapped.with(set.swap_bytes(), quantity);
         }
         let gathered = Gathered {
             union: swapped.union.swap_bytes(),
@@ -185,7 +171,7 @@ impl<'a> JobFile<'a> {
     {
         let mut gathered = NONE;
         for (i, set) in sets.iter_mut().enumerate() {
-            *set = set_by_bytes(self.bytes, Version::Plain.file_length(i));
+            *set = set_by_bytes(set_bytes(self.bytes, Version::Plain, i));
             gathered = gathered.with(*set, 1);
         }
         gathered.is_good(self.header.rack)
@@ -203,8 +189,7 @@ impl<'a> JobFile<'a> {
     {
         let mut gathered = NONE;
         for i in 0..sets.len() {
-            let set = set_of(self.bytes, Version::Counted, i);
-            let quantity = quantity_of(self.bytes, Version::Counted, i);
+            let (set, quantity) = line_of(self.bytes, Version::Counted, i);
             sets[i] = set;
             quantities[i] = quantity;
             gathered = gathered.with(set, quantity);
@@ -212,8 +197,8 @@ impl<'a> JobFile<'a> {
         gathered.is_good(self.header.rack)
     }
 
-    // Reads the sets and the quantities of the lines, and tells whether the lines are good. One loop for both versions stores a quantity 1 with each
-    // set of a file without quantities, and takes a third more time there.
+    // Reads the sets and the quantities of the lines, and tells whether the lines are good. One loop for both versions stores a quantity 1
+    // with each set of a file without quantities, and takes a third more time there. The buffers are the caller's: no type holds their length.
     pub fn read_lines(self, sets: &mut [u64], quantities: &mut [u8]) -> bool
         requires sets_len { length sets.old ≡ self.header.count }
         requires quantities_len { length quantities.old ≡ self.header.count }

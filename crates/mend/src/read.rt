@@ -50,10 +50,8 @@ impl<'a> Started<'a> {
         ensures set { result.set ≡ set_in self.entry.bytes.now i }
         ensures quantity { result.quantity ≡ quantity_in self.entry.bytes.now i }
     {
-        Line {
-            set: job_read::set_of(self.bytes, self.header.version, i),
-            quantity: job_read::quantity_of(self.bytes, self.header.version, i),
-        }
+        let (set, quantity) = job_read::line_of(self.bytes, self.header.version, i);
+        Line { set, quantity }
     }
 
     // Bytes follow the last line read.

@@ -1,34 +1,41 @@
-use Rattle.std.proofs.Common.{◌≡◌, ◌+◌, ◌≤◌, ◌-◌, take, drop, get_or, refl, ap, ◌∙◌, arith, add-one}
+use Rattle.std.proofs.Common.{◌≡◌, ℕ, ◌+◌, ◌*◌, ◌^◌, ◌<◌, ◌≤◌, List, length, take, get_or, ap, refl, ◌∙◌, arith, add-one}
 use native.Mathlib.Nat.{pow-succ'}
+use lib.Seq.{take_all}
 use Rattle.std.proofs.Math.Nat.{pow-le-pow_right}
-use Rattle.std.proofs.lemmas.List.{get_or-take, get_or-drop}
-use Rattle.job.specs.Job.{set_length, number_at, number_of}
+use Rattle.job.specs.Job.{number_at, number_of}
 use Rattle.job.proofs.Numbers.{number_parts, number_one}
 use Rattle.job_read.proofs.set_by_bytes.Goals as goal
 
 pub loop-byte-init : goal.loop-byte-init
-unfolding number_at number_of
+unfolding number_of
 loop-byte-init c = record { number = refl; small = omega arith }
 
 -- a number of at most seven bytes has room for one more
+seven : (k x : ℕ) → k < 8 → x < 256 ^ k → x < 256 ^ 7
+seven k x h small = let few : k ≤ 7 = omega arith in omega (arith, pow-le-pow_right {n = 256} (omega arith) few)
+
 pub overflow_mul-set : goal.overflow_mul-set
-overflow_mul-set c =
-    let few : c.loop-byte.byte-index ≤ 7 = omega arith in
-    omega (arith, c.loop-byte.invariant.small, pow-le-pow_right {n = 256} (omega arith) few)
+overflow_mul-set c = omega (arith, seven c.loop-byte.byte-index c.loop-byte.set (omega arith) c.loop-byte.invariant.small)
+
+pub overflow_add-set : goal.overflow_add-set
+overflow_add-set c = omega (arith, seven c.loop-byte.byte-index c.loop-byte.set (omega arith) c.loop-byte.invariant.small)
+
+-- one byte more
+more : (k : ℕ) (bytes : List ℕ) → k < length bytes → number_of (take (k + 1) bytes) ≡ number_of (take k bytes) * 256 + get_or bytes k 0
+unfolding number_at
+more k bytes h =
+    let at : 0 + k ≡ k = omega arith in
+    let parts : number_of (take k bytes) * 256 ^ 1 + number_at 1 bytes k ≡ number_of (take (k + 1) bytes) =
+    rw at at (number_parts k 1 bytes 0 (omega arith)) in
+    omega (arith, parts, number_one bytes k h)
 
 pub loop-byte-preserved : goal.loop-byte-preserved
 loop-byte-preserved c =
-    let file = c.args.file.now in
-    let i = c.args.i in
     let k = c.loop-byte.byte-index in
-    let there : get_or (take (i + set_length - i) (drop i file)) k 0 ≡ get_or file (i + k) 0 =
-    rw (get_or-take (i + set_length - i) (drop i file) k 0 (omega arith), get_or-drop) refl in
     record {
-      number = omega (arith, number_parts k 1 file i (omega arith), number_one file (i + k) (omega arith));
+      number = omega (arith, more k c.args.bytes.now (omega arith), c.loop-byte.invariant.number);
       small = rw add-one (omega (arith, pow-succ' 256 k, c.loop-byte.invariant.small));
     }
 
 pub returns : goal.returns
-returns c =
-    let all : c.loop-byte.byte-index ≡ set_length = omega arith in
-    c.loop-byte.invariant.number ∙ ap (λ k. number_at k c.args.file.now c.args.i) all
+returns c = c.loop-byte.invariant.number ∙ ap number_of (take_all c.loop-byte.byte-index c.args.bytes.now (omega arith))

@@ -1,34 +1,25 @@
 use Rattle.std.proofs.Common.{◌∙◌, ◌&&◌, leb, sym, ap, ap₂, arith}
 use Rattle.model.specs.Limits.{most_placements}
-use Rattle.job.specs.Job.{set_length, number_at, set_from, quantity_from}
+use Rattle.job.specs.Job.{set_length, set_from, quantity_from}
 use Rattle.job.proofs.Good.{all_good, read_start, read_next, read_end}
-use Rattle.job.specs.Header.{version_number}
-use Rattle.job.proofs.Lines.{set_inside}
 use Rattle.job_read.specs.Swapped.{swapped}
-use Rattle.job_read.proofs.There.{line_there}
-use Rattle.job_read.proofs.Swapped.{swapped_or, empty_swapped, swapped_is}
+use Rattle.job_read.proofs.Swapped.{swapped_or, empty_swapped, swapped_is, swapped_back}
 use Rattle.job_read.proofs.JobFile.good_lines.Goals as goal
 
 pub loop-i-init : goal.loop-i-init
 unfolding swapped
 loop-i-init c = read_start c.args.self.bytes.now
 
-pub swapped_at-set-requires : goal.swapped_at-set-requires
-swapped_at-set-requires c =
-    omega (
-      arith,
-      set_inside (version_number c.args.self.header.version) c.loop-i.i,
-      line_there c.args.self.bytes.now c.args.self.good _ c.loop-i.i c.args.self.header_is.version-is (omega arith),
-    )
-
 pub loop-i-preserved : goal.loop-i-preserved
 loop-i-preserved c =
     let file = c.args.self.bytes.now in
     let at = c.loop-i in
-    let set = c.swapped_at-set.result in
+    let line = c.line_of-set in
+    let set = c.swap_bytes.result in
     let version = c.args.self.header_is.version-is in
-    let s = c.swapped_at-set.ensures ∙ ap (number_at set_length file) c.file_length.ensures ∙ ap (λ v. set_from v file at.i) version in
-    let q = c.quantity_of.ensures ∙ ap (λ v. quantity_from v file at.i) version in
+    let back = ap (swapped set_length) c.swap_bytes.ensures ∙ swapped_back line.result.0 (omega arith) in
+    let s = back ∙ line.ensures.set ∙ ap (λ v. set_from v file at.i) version in
+    let q = line.ensures.quantity ∙ ap (λ v. quantity_from v file at.i) version in
     rw (
       c.with-swapped.ensures.union,
       c.with-swapped.ensures.zeros,
@@ -36,7 +27,7 @@ loop-i-preserved c =
       swapped_or set_length at.swapped.union set,
       sym (empty_swapped set_length set (omega arith)),
     )
-    (read_next file at.i (swapped set_length at.swapped.union) at.swapped.zeros at.swapped.total (swapped set_length set) c.quantity_of.result
+    (read_next file at.i (swapped set_length at.swapped.union) at.swapped.zeros at.swapped.total (swapped set_length set) line.result.1
     (omega arith) (omega arith) s q at.invariant)
 
 pub returns : goal.returns
@@ -45,5 +36,5 @@ returns c =
     let at = c.loop-i in
     c.is_good.ensures
     ∙ ap₂ (λ m u. all_good m u at.swapped.zeros && leb at.swapped.total most_placements)
-    c.args.self.header_is.rack-is (c.swap_bytes.ensures ∙ swapped_is at.swapped.union)
+    c.args.self.header_is.rack-is (c.swap_bytes-2.ensures ∙ swapped_is at.swapped.union)
     ∙ read_end file at.i (swapped set_length at.swapped.union) at.swapped.zeros at.swapped.total (omega arith) at.invariant

@@ -16,11 +16,12 @@ pub loop-i-preserved : goal.loop-i-preserved
 loop-i-preserved c =
     let file = c.args.self.bytes.now in
     let at = c.loop-i in
-    let set = c.set_of-set.result in
-    let quantity = c.quantity_of-quantity.result in
+    let line = c.line_of-set in
+    let set = line.result.0 in
+    let quantity = line.result.1 in
     let version : 2 ≡ version_in file = ap version_number (sym c.requires.counted) ∙ c.args.self.header_is.version-is in
-    let s = c.set_of-set.ensures ∙ ap (λ v. set_from v file at.i) version in
-    let q = c.quantity_of-quantity.ensures ∙ ap (λ v. quantity_from v file at.i) version in
+    let s = line.ensures.set ∙ ap (λ v. set_from v file at.i) version in
+    let q = line.ensures.quantity ∙ ap (λ v. quantity_from v file at.i) version in
     record {
       sets = filled_more (set_in file) at.sets at.i set (omega arith) at.invariant.sets s;
       quantities = filled_more (quantity_in file) at.quantities at.i quantity (omega arith) at.invariant.quantities q;

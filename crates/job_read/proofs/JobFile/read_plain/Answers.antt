@@ -3,9 +3,8 @@ use lib.Seq.{take_all}
 use Rattle.model.specs.Count.{list_of}
 use Rattle.model.specs.Limits.{most_placements}
 use Rattle.model.proofs.ListOf.{filled_more}
-use Rattle.job.proofs.Lines.{set_inside}
 use Rattle.job.specs.Header.{version_number}
-use Rattle.job.specs.Job.{version_in, set_length, number_at, set_in, quantity_in, sets_in, set_from}
+use Rattle.job.specs.Job.{version_in, set_in, quantity_in, sets_in, set_from}
 use Rattle.job.proofs.Good.{all_good, read_start, read_next, read_end}
 use Rattle.job_read.proofs.There.{line_there}
 use Rattle.job_read.proofs.JobFile.read_plain.Goals as goal
@@ -14,11 +13,11 @@ pub loop-i-init : goal.loop-i-init
 unfolding list_of
 loop-i-init c = record { sets = refl; read = read_start c.args.self.bytes.now }
 
-pub set_by_bytes-requires : goal.set_by_bytes-requires
-set_by_bytes-requires c =
+pub set_bytes-requires : goal.set_bytes-requires
+set_bytes-requires c =
     let self = c.args.self in
     let version : 1 ≡ version_in self.bytes.now = ap version_number (sym c.requires.plain) ∙ self.header_is.version-is in
-    omega (arith, set_inside 1 c.loop-i.i, line_there self.bytes.now self.good 1 c.loop-i.i version (omega arith))
+    line_there self.bytes.now self.good 1 c.loop-i.i version (omega arith)
 
 pub loop-i-preserved : goal.loop-i-preserved
 loop-i-preserved c =
@@ -26,7 +25,7 @@ loop-i-preserved c =
     let at = c.loop-i in
     let set = c.set_by_bytes.result in
     let version : 1 ≡ version_in file = ap version_number (sym c.requires.plain) ∙ c.args.self.header_is.version-is in
-    let s = c.set_by_bytes.ensures ∙ ap (number_at set_length file) c.file_length.ensures ∙ ap (λ v. set_from v file at.i) version in
+    let s = c.set_by_bytes.ensures ∙ c.set_bytes.ensures.number ∙ ap (λ v. set_from v file at.i) version in
     let q : 1 ≡ quantity_in file at.i = rw (sym version) refl in
     record {
       sets = filled_more (set_in file) at.sets at.i set (omega arith) at.invariant.sets s;
