@@ -5,7 +5,6 @@ use mathlib.Core.Bool.{Bool, true, false}
 use mathlib.Core.List.{List, ◌++◌}
 use native.Mathlib.Omega.{arith}
 use lib.ListN.{length, drop, length-append}
-use lib.Seq.{drop-drop}
 use borrow.Author.Tests.{eqb-true, eqb-false}
 use Rattle.model.specs.Limits.{most_lines}
 use Rattle.refusal.specs.Told.{Refusal}
@@ -21,10 +20,10 @@ use Rattle.panel.proofs.Merged.{known, merged-rule}
 use Rattle.board.specs.declared.Board.{Board}
 use Rattle.board.specs.Answers.{Merged}
 use Rattle.board.specs.Answers.{Alone}
-use Rattle.board.specs.Board.{lines_of, quantities_of, sound, state_refusal, no_sets, no_quantities, empty_board}
+use Rattle.board.specs.Board.{lines_of, quantities_of, state_refusal, no_sets, no_quantities, empty_board}
 use Rattle.board.specs.Panel.{states_refusal, merge_refusal, panel_of, merged, merge_of, MergeRule, alone_of, alone_buffer}
 use Rattle.board.proofs.Sets.{no-sets, no-quantities, Full, same_size, ReadyBoard, ready, given, state-free, lines-count}
-use Rattle.board.proofs.JobFileRule.{front, rest, filled, after}
+use Rattle.board.proofs.JobFileRule.{front, rest, filled}
 
 module _ (a b : Board) (full : Full a) (other : Full b) where
   module _ {first second state : Refusal} (e : first ≡ state_refusal Closed a) (f : second ≡ state_refusal Closed b)
@@ -81,11 +80,11 @@ module _ (a b : Board) (full : Full a) (other : Full b) where
         n = a.count + b.count
 
         lines-rule : PanelRule a.rack (quantities_of a) (lines_of a) (quantities_of b) (lines_of b) qs lines
-        lines-rule = merged-rule state given-first given_second (number_of h z)
+        lines-rule = merged-rule state (λ z. given-first.good z) (λ z. given_second.good z) (number_of h z)
 
         -- neither state refuses, so the lines are as many as the counts
         free : state.number ≡ 0
-        free = (known state given-first given_second (number_of h z)).free
+        free = (known state (quantities_of a) (lines_of a) (quantities_of b) (lines_of b) (number_of h z)).free
 
         ready_first : ReadyBoard Closed a
         ready_first = ready Closed a full e (or_none first second (number_of g free)).0
@@ -105,25 +104,15 @@ module _ (a b : Board) (full : Full a) (other : Full b) where
         quantities_size : length qs ≡ n
         quantities_size = lines-rule.good.same ∙ lines_size
 
-        -- behind the first's lines its array is as it was without lines, and so it is behind those of both
-        behind : (blank xs : List ℕ) → drop a.count xs ≡ drop a.count blank → drop n xs ≡ drop n blank
-        behind blank xs s = sym (drop-drop b.count a.count xs) ∙ ap (drop b.count) s ∙ drop-drop b.count a.count blank
+        panel_sets : {sets : List ℕ} → sets ≡ merged_by d (lines_of a) (lines_of b) no_sets → sets ≡ lines ++ drop n no_sets
+        panel_sets s = s ∙ accepted _ _ {d = d} refl z ∙ ap₂ (λ k l. lines ++ drop (k + l) no_sets) first_count second_count
 
-        panel_sets : {sets : List ℕ} → sets ≡ merged_by d (lines_of a) (lines_of b) a.sets → sets ≡ lines ++ drop n no_sets
-        panel_sets s =
-            s ∙ accepted _ _ {d = d} refl z
-            ∙ ap₂ (λ k l. lines ++ drop (k + l) a.sets) first_count second_count
-            ∙ ap (λ l. lines ++ l) (behind no_sets a.sets (after no-sets a.count a.sets full.sets_full ready_first.sound.rest))
-
-        panel_quantities : {quantities : List ℕ} → quantities ≡ merged_by d (quantities_of a) (quantities_of b) a.quantities
+        panel_quantities : {quantities : List ℕ} → quantities ≡ merged_by d (quantities_of a) (quantities_of b) no_quantities
             → quantities ≡ qs ++ drop n no_quantities
         panel_quantities s =
             s ∙ accepted _ _ {d = d} refl z
-            ∙ ap₂ (λ k l. qs ++ drop (k + l) a.quantities)
+            ∙ ap₂ (λ k l. qs ++ drop (k + l) no_quantities)
             (ready_first.sound.good.same ∙ first_count) (ready_second.sound.good.same ∙ second_count)
-            ∙ ap (λ l. qs ++ l)
-            (behind no_quantities a.quantities
-            (after no-quantities a.count a.quantities full.quantities_full ready_first.sound.quantities_rest))
 
         pub few : n ≤ most_lines
         few = omega (arith, lines-rule.good.few-lines, lines_size)
@@ -148,7 +137,7 @@ module _ (a b : Board) (full : Full a) (other : Full b) where
             }
 
         pub merge_accepted : {sets quantities : List ℕ}
-            → sets ≡ merged_by d (lines_of a) (lines_of b) a.sets → quantities ≡ merged_by d (quantities_of a) (quantities_of b) a.quantities
+            → sets ≡ merged_by d (lines_of a) (lines_of b) no_sets → quantities ≡ merged_by d (quantities_of a) (quantities_of b) no_quantities
             → let r = merged a b (record { rack = a.rack; stage = Closed; count = n; sets = sets; quantities = quantities }) none in
             (r ≡ merge_of a b) × MergeRule a b r
         unfolding merge_of
@@ -188,6 +177,6 @@ module _ (a b : Board) (full : Full a) (other : Full b) where
     -- neither board's state refuses, and the racks are the same
     pub states_free : ((state_refusal Closed a).number ≡ 0) × ((state_refusal Closed b).number ≡ 0) × (a.rack ≡ b.rack)
     states_free =
-        let k = known (states_refusal a b) (given-first refl refl refl) (given_second refl refl refl) merge_free in
+        let k = known (states_refusal a b) (quantities_of a) (lines_of a) (quantities_of b) (lines_of b) merge_free in
         let (first, second) = or_none (state_refusal Closed a) (state_refusal Closed b) k.free in
         (first, second, k.same_rack)

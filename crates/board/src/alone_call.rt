@@ -3,7 +3,7 @@ ghost use Rattle.std.specs.Prelude.{◌≡◌, length};
 ghost use Rattle.board.specs.Told.{alone_answered};
 ghost use Rattle.board.specs.Panel.{alone_of, alone_buffer, AloneRule};
 
-use crate::{AlonePairs, Board, Stage};
+use crate::{AlonePairs, Board};
 use refusal::Refused;
 
 impl Board {
@@ -14,20 +14,8 @@ impl Board {
         ensures plan { plan.new ≡ alone_buffer self.now other.now plan.old }
         ensures rule { AloneRule self.now other.now plan.new (alone_answered self.now other.now result) }
     {
-        self.state(Stage::Closed)?;
-        other.state(Stage::Closed)?;
-        let count = self.count;
-        let others = other.count;
-        let mut left = self.sets;
-        let mut other_left = other.sets;
-        panel::alone(
-            self.rack,
-            &mut left[..count],
-            &self.quantities[..count],
-            other.rack,
-            &mut other_left[..others],
-            &other.quantities[..others],
-            plan,
-        )
+        let lines = self.lines()?;
+        let others = other.lines()?;
+        panel::alone(lines, others, plan)
     }
 }

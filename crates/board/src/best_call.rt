@@ -4,7 +4,7 @@ ghost use Rattle.head.specs.OnHead.{on_head};
 ghost use Rattle.board.specs.Told.{shared_answered};
 ghost use Rattle.board.specs.Sharing.{best_of, best_buffer, best_table, BestRule};
 
-use crate::{Board, Stage};
+use crate::Board;
 use refusal::Refused;
 
 impl Board {
@@ -21,17 +21,8 @@ impl Board {
         ensures table { table.new ≡ best_table self.now (on_head mounted) (length plan.old) table.old }
         ensures rule { BestRule self.now plan.new (shared_answered self.now result) }
     {
-        self.state(Stage::Closed)?;
+        let lines = self.lines()?;
         call_refusals::mounted_refusal(self.rack, mounted)?;
-        let count = self.count;
-        let mut left = self.sets;
-        line_calls::best(
-            self.rack,
-            mounted,
-            &mut left[..count],
-            &self.quantities[..count],
-            plan,
-            table,
-        )
+        line_calls::best(lines, mounted, plan, table)
     }
 }

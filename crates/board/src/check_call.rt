@@ -3,7 +3,7 @@ ghost use Rattle.std.specs.Prelude.{◌≡◌};
 ghost use Rattle.board.specs.Told.{answered};
 ghost use Rattle.board.specs.Check.{check_of, CheckRule};
 
-use crate::{Board, Stage};
+use crate::Board;
 use refusal::Refused;
 
 impl Board {
@@ -11,15 +11,7 @@ impl Board {
         ensures answer { answered self.now result ≡ check_of self.now plan.now claim table.now }
         ensures rule { CheckRule self.now plan.now claim table.now (answered self.now result) }
     {
-        self.state(Stage::Closed)?;
-        let count = self.count;
-        line_calls::check(
-            self.rack,
-            &self.sets[..count],
-            &self.quantities[..count],
-            plan,
-            claim,
-            table,
-        )
+        let lines = self.lines()?;
+        line_calls::check(lines, plan, claim, table)
     }
 }

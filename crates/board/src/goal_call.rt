@@ -3,7 +3,7 @@ ghost use Rattle.std.specs.Prelude.{◌≡◌};
 ghost use Rattle.board.specs.Told.{answered};
 ghost use Rattle.board.specs.Goal.{goal_of, GoalRule};
 
-use crate::{Board, Stage};
+use crate::Board;
 use refusal::Refused;
 
 impl Board {
@@ -12,16 +12,10 @@ impl Board {
         ensures answer { answered self.new result ≡ goal_of self.old goal }
         ensures rule { GoalRule self.old goal (answered self.new result) }
     {
-        self.state(Stage::Closed)?;
+        let lines = self.lines()?;
         let count = self.count;
         let mut struck = self.sets;
-        line_calls::goal(
-            self.rack,
-            &self.sets[..count],
-            &self.quantities[..count],
-            goal,
-            &mut struck[..count],
-        )?;
+        line_calls::goal(lines, goal, &mut struck[..count])?;
         self.sets = struck;
         Ok(())
     }

@@ -3,7 +3,7 @@ ghost use Rattle.std.specs.Prelude.{◌≡◌, length};
 ghost use Rattle.board.specs.Told.{junior_answered};
 ghost use Rattle.board.specs.Junior.{junior_of, junior_buffer, JuniorRule};
 
-use crate::{Board, Found, Stage};
+use crate::{Board, Found};
 use refusal::Refused;
 
 impl Board {
@@ -13,13 +13,7 @@ impl Board {
         ensures buffer { plan.new ≡ junior_buffer self.now plan.old }
         ensures rule { JuniorRule self.now (length plan.old) plan.new (junior_answered self.now result) }
     {
-        self.state(Stage::Closed)?;
-        let count = self.count;
-        line_calls::junior(
-            self.rack,
-            &self.sets[..count],
-            &self.quantities[..count],
-            plan,
-        )
+        let lines = self.lines()?;
+        line_calls::junior(lines, plan)
     }
 }

@@ -12,25 +12,15 @@ impl Board {
         ensures answer { merged_answered self.now other.now result ≡ merge_of self.now other.now }
         ensures rule { MergeRule self.now other.now (merged_answered self.now other.now result) }
     {
-        self.state(Stage::Closed)?;
-        other.state(Stage::Closed)?;
-        let count = self.count;
-        let others = other.count;
-        let mut sets = self.sets;
-        let mut quantities = self.quantities;
-        panel::merge(
-            self.rack,
-            count,
-            &mut sets,
-            &mut quantities,
-            other.rack,
-            &other.sets[..others],
-            &other.quantities[..others],
-        )?;
+        let lines = self.lines()?;
+        let others = other.lines()?;
+        let mut sets = sound::no_sets();
+        let mut quantities = sound::no_quantities();
+        panel::merge(lines, others, &mut sets, &mut quantities)?;
         Ok(Board {
             rack: self.rack,
             stage: Stage::Closed,
-            count: count + others,
+            count: self.count + other.count,
             sets,
             quantities,
         })

@@ -4,7 +4,7 @@ ghost use Rattle.head.specs.OnHead.{on_head};
 ghost use Rattle.board.specs.Told.{shared_answered};
 ghost use Rattle.board.specs.Sharing.{quick_of, quick_buffer, HalfRule};
 
-use crate::{Board, Stage};
+use crate::Board;
 use refusal::Refused;
 
 impl Board {
@@ -14,16 +14,8 @@ impl Board {
         ensures buffer { plan.new ≡ quick_buffer self.now (on_head mounted) plan.old }
         ensures rule { HalfRule self.now plan.new (shared_answered self.now result) }
     {
-        self.state(Stage::Closed)?;
+        let lines = self.lines()?;
         call_refusals::mounted_refusal(self.rack, mounted)?;
-        let count = self.count;
-        let mut left = self.sets;
-        line_calls::quick(
-            self.rack,
-            mounted,
-            &mut left[..count],
-            &self.quantities[..count],
-            plan,
-        )
+        line_calls::quick(lines, mounted, plan)
     }
 }

@@ -2,16 +2,15 @@
 use Prim.Native.Nat.{ℕ}
 use mathlib.Core.Path.{◌≡◌, refl, sym, ap, subst, ◌∙◌}
 use mathlib.Core.Logic.{◌↔◌}
-use mathlib.Core.List.{List, ◌++◌}
+use mathlib.Core.List.{List, append-nil}
 use native.Mathlib.Omega.{arith}
-use lib.ListN.{length, take, drop, length-append, length-drop}
-use lib.Seq.{length-take-le}
+use lib.ListN.{length, take, drop_of_length-le}
 use Rattle.placements.specs.Good.{GoodLines}
 use Rattle.refusal.specs.Told.{Refusal}
 use Rattle.refusal.specs.declared.Refused.{Refused}
 use Rattle.refusal.specs.Reasons.{told_of}
-use Rattle.refusal.specs.Refusal.{none, lent_by, Given}
-use Rattle.refusal.proofs.Laws.{number_of, reason_not_0, lent_front}
+use Rattle.refusal.specs.Refusal.{none}
+use Rattle.refusal.proofs.Laws.{number_of, reason_not_0, accepted}
 use Rattle.goals.specs.Goal.{strike}
 use Rattle.job.specs.Job.{Bytes, version_for, rack_in, sets_in, quantities_in, read_refusal, InShorterForm, ReadsAs}
 use Rattle.job.proofs.Reading.{read_good}
@@ -24,49 +23,39 @@ use Rattle.line_calls.proofs.Refused.{Same, goal_same, write_same, write_buffer_
 use Rattle.file_calls.specs.Outcomes.{Outcome, refused_outcome}
 use Rattle.file_calls.specs.Goal.{file_outcome, goal_refusal_in, struck_in, goal_in, goal_file_in, GoalRuleOf}
 use Rattle.file_calls.proofs.ReadLines.{AsRead}
-use Rattle.file_calls.proofs.WrittenFile.{left-lines, given-left, same_number, decided, earlier_none, reads, shorter}
+use Rattle.file_calls.proofs.WrittenFile.{same_number, decided, earlier_none, reads, shorter}
 
--- ---- the lines that striking leaves in the first places
+-- ---- the lines that striking leaves
 
-module _ {d : Refusal} {m n : ℕ} {qs sets : List ℕ} (given : Given d m n qs sets) (K : ℕ)
-    {r : Refusal} (p : r ≡ goal_of d m (take n qs) (take n sets) K)
-    {last : List ℕ} (q : last ≡ struck_sets d m (take n qs) (take n sets) K sets) where
-  abbrev struck-lines : List ℕ
-  struck-lines = strike m (take n qs) (take n sets) K
+module _ (d : Refusal) {m : ℕ} {qs sets : List ℕ} (given : d.number ≡ 0 → GoodLines m qs sets) (K : ℕ)
+    {r : Refusal} (p : r ≡ goal_of d m qs sets K) (z : r.number ≡ 0) where
+  struck-free : d.number ≡ 0
+  struck-free = (laws.asked-none d sets (laws.goal-free d K given (number_of p z))).0
 
-  struck-free : r.number ≡ 0 → d.number ≡ 0
-  struck-free z = (laws.asked-none d (take n sets) (laws.goal-free d K given.good (number_of p z))).0
+  -- they are good, and in their places there is nothing else
+  pub good-struck : GoodLines m qs (strike m qs sets K)
+  good-struck = laws.goal_good d K given (number_of p z)
 
-  good : r.number ≡ 0 → GoodLines m (take n qs) struck-lines
-  good z = laws.goal_good d K given.good (number_of p z)
-
-  by_refusal : last ≡ lent_by r (length (take n sets)) struck-lines sets
+  pub struck-all : (old : List ℕ) → length old ≡ length sets → {last : List ℕ} → last ≡ struck_sets d m qs sets K old → last ≡ strike m qs sets K
   unfolding struck_sets
-  by_refusal = q ∙ ap (λ x. lent_by x (length (take n sets)) struck-lines sets) (sym p)
-
-  left : r.number ≡ 0 → take n last ≡ struck-lines
-  left = left-lines given r struck-free good by_refusal
-
-  -- what writing is given
-  pub given-struck : length last ≡ length sets → Given r m n qs last
-  given-struck = given-left given r struck-free good by_refusal
+  struck-all old size q =
+      let nothing = drop_of_length-le old {i = length sets} (omega (arith, size)) in
+      q ∙ accepted _ old p z ∙ rw nothing (append-nil (strike m qs sets K))
 
 -- ---- from the lines that were read to the file
 
-module _ (file : List ℕ) {d : Refusal} (e : d ≡ read_refusal file) {m n : ℕ} {qs sets : List ℕ} (given : Given d m n qs sets)
-    (same : d.number ≡ 0 → AsRead file m (take n qs) (take n sets)) (K : ℕ)
-    {r : Refusal} (p : r ≡ goal_of d m (take n qs) (take n sets) K)
-    {last : List ℕ} (q : last ≡ struck_sets d m (take n qs) (take n sets) K sets) (out : List ℕ) where
+module _ (file : List ℕ) {d : Refusal} (e : d ≡ read_refusal file) {m : ℕ} {qs sets : List ℕ} (given : d.number ≡ 0 → GoodLines m qs sets)
+    (same : d.number ≡ 0 → AsRead file m qs sets) (K : ℕ) {r : Refusal} (p : r ≡ goal_of d m qs sets K)
+    {last : List ℕ} (q : r.number ≡ 0 → last ≡ strike m qs sets K) (out : List ℕ) where
   refusal_in : r ≡ goal_refusal_in file K
   refusal_in = p ∙ goal_same d same K ∙ ap (λ x. goal_of x (rack_in file) (quantities_in file) (sets_in file) K) e
 
-  same_struck : r.number ≡ 0 → Same m (rack_in file) (take n qs) (quantities_in file) (take n last) (struck_in file K)
+  same_struck : r.number ≡ 0 → Same m (rack_in file) qs (quantities_in file) last (struck_in file K)
   same_struck z =
-      let (rack, quantities, read) = same (struck-free given K p q z) in
-      (rack, quantities, left given K p q z ∙ rw (rack, quantities, read) refl)
+      let (rack, quantities, read) = same (struck-free d given K p z) in
+      (rack, quantities, q z ∙ rw (rack, quantities, read) refl)
 
-  pub goal-in : {w : FileAnswer} {bytes : List ℕ} → w ≡ write_of r (take n qs) (take n last) (length out)
-      → bytes ≡ write_buffer r m (take n qs) (take n last) out
+  pub goal-in : {w : FileAnswer} {bytes : List ℕ} → w ≡ write_of r qs last (length out) → bytes ≡ write_buffer r m qs last out
       → (file_outcome w ≡ goal_in file K (length out)) × (bytes ≡ goal_file_in file K out)
   unfolding goal_in goal_file_in
   goal-in f g = (
@@ -74,24 +63,6 @@ module _ (file : List ℕ) {d : Refusal} (e : d ≡ read_refusal file) {m n : �
         ∙ ap (λ x. file_outcome (write_of x (quantities_in file) (struck_in file K) (length out))) refusal_in,
     g ∙ write_buffer_same r same_struck out ∙ ap (λ x. write_buffer x (rack_in file) (quantities_in file) (struck_in file K) out) refusal_in,
   )
-
--- ---- the places after striking changed those of the lines
-
-module _ {m n : ℕ} {qs sets : List ℕ} (given : Given none m n qs sets) (K : ℕ)
-    (p : none ≡ goal_of none m (take n qs) (take n sets) K) {new : List ℕ}
-    (q : new ≡ struck_sets none m (take n qs) (take n sets) K (take n sets)) (size : length new ≡ length (take n sets)) where
-  front : length (take n sets) ≡ n
-  front = length-take-le n sets (given.room refl)
-
-  pub whole-struck : new ++ drop n sets ≡ struck_sets none m (take n qs) (take n sets) K sets
-  unfolding struck_sets
-  whole-struck =
-      let r = goal_of none m (take n qs) (take n sets) K in
-      ap (λ l. l ++ drop n sets) q ∙ rw front (lent_front r n (strike m (take n qs) (take n sets) K) sets (given.room refl))
-
-  pub given-whole : Given none m n qs (new ++ drop n sets)
-  given-whole =
-      given-struck given K p whole-struck (omega (arith, length-append new (drop n sets), length-drop n sets, size, front, given.room refl))
 
 -- ---- the rule
 
@@ -155,11 +126,10 @@ goal-ruled file K out bytes {o} {last} p q =
     (subst (λ x. GoalRuleOf file K (goal_file_in file K out) x) (sym p) (goal-rule file K out bytes))
 
 -- striking is refused: nothing is written
-pub goal-refused : (file : List ℕ) → none ≡ read_refusal file → {m n : ℕ} {qs sets : List ℕ} → Given none m n qs sets
-    → (none.number ≡ 0 → AsRead file m (take n qs) (take n sets)) → (K : ℕ) (out : List ℕ) (e : Refused)
-    → told_of e ≡ goal_of none m (take n qs) (take n sets) K
+pub goal-refused : (file : List ℕ) → none ≡ read_refusal file → {m : ℕ} {qs sets : List ℕ} → (none.number ≡ 0 → GoodLines m qs sets)
+    → (none.number ≡ 0 → AsRead file m qs sets) → (K : ℕ) (out : List ℕ) (e : Refused) → told_of e ≡ goal_of none m qs sets K
     → (refused_outcome e 0 ≡ goal_in file K (length out)) × (out ≡ goal_file_in file K out)
-goal-refused file r {m} {n} {qs} {sets} given same K out e p =
-    let left = struck_sets none m (take n qs) (take n sets) K sets in
-    let (f, g) = write_stopped (told_of e) m (take n qs) (take n left) out (reason_not_0 e.reason) in
-    goal-in file r given same K p {last = left} refl out f g
+goal-refused file r {m} {qs} {sets} given same K out e p =
+    let left = strike m qs sets K in
+    let (f, g) = write_stopped (told_of e) m qs left out (reason_not_0 e.reason) in
+    goal-in file r given same K p {last = left} (λ _. refl) out f g

@@ -2,19 +2,19 @@
 use Prim.Native.Nat.{ℕ}
 use mathlib.Core.Path.{◌≡◌, refl, sym, ap, subst, ◌∙◌}
 use mathlib.Core.Logic.{◌↔◌}
-use mathlib.Core.List.{List, ◌++◌}
+use mathlib.Core.List.{List, append-nil}
 use native.Mathlib.Omega.{arith}
 use lib.IntN.{ℤ, pos}
 use mathlib.Core.Bool.{Bool, true, false, cond}
 use lib.Dec.{eqb, ltb}
-use lib.ListN.{length, take, drop, length-append, length-drop}
-use lib.Seq.{length-take-le}
+use lib.ListN.{length, take}
+use lib.Seq.{drop-length}
 use Rattle.model.specs.CommonTip.{margin}
 use Rattle.placements.specs.Repeated.{repeated}
 use Rattle.placements.specs.Good.{GoodLines}
 use Rattle.placements.specs.Keep.{prune_q}
 use Rattle.refusal.specs.Told.{Refusal}
-use Rattle.refusal.specs.Refusal.{none, or_else, when, lent_by, Given}
+use Rattle.refusal.specs.Refusal.{none, or_else, when}
 use Rattle.job.specs.Job.{Bytes, file_length, version_for, rack_in, sets_in, quantities_in, read_refusal, InShorterForm, ReadsAs}
 use Rattle.job.proofs.Reading.{read_good}
 use Rattle.call_refusals.specs.Calls.{is_negative, keep_refusal, write_refusal}
@@ -23,7 +23,7 @@ use Rattle.std.specs.Prelude.{Ok, Err}
 use Rattle.refusal.specs.declared.Refused.{Refused}
 use Rattle.refusal.specs.declared.Unkept.{Unkept}
 use Rattle.refusal.specs.Reasons.{reason_number, told_of}
-use Rattle.refusal.proofs.Laws.{reason_not_0, lent_front}
+use Rattle.refusal.proofs.Laws.{reason_not_0, accepted}
 use Rattle.line_calls.proofs.JobFile.{write_stopped}
 use Rattle.line_calls.specs.Answers.{KeepAnswer, keep_told, file_told}
 use Rattle.line_calls.specs.Answers.{FileAnswer}
@@ -35,68 +35,56 @@ use Rattle.file_calls.specs.Outcomes.{Outcome, twos_complement, refused_outcome}
 use Rattle.file_calls.specs.Calls.{keep_outcome, keep_in, keep_file_in}
 use Rattle.file_calls.specs.Rules.{KeepRuleOf}
 use Rattle.file_calls.proofs.ReadLines.{AsRead}
-use Rattle.file_calls.proofs.WrittenFile.{left-lines, given-left, same_number, decided, earlier_none, reads, shorter}
+use Rattle.file_calls.proofs.WrittenFile.{same_number, decided, earlier_none, reads, shorter}
 
--- ---- the lines that keep leaves in the first places
+-- ---- the lines that keep leaves
 
-module _ {d : Refusal} {m n : ℕ} {qs sets : List ℕ} (given : Given d m n qs sets) (k : ℕ)
-    {kept : KeepAnswer} (p : kept ≡ keep_of d m (take n qs) (take n sets) k)
-    {last : List ℕ} (q : last ≡ sets_kept d m (take n qs) (take n sets) k sets) where
-  abbrev lines : List ℕ
-  lines = take n sets
-
+module _ (d : Refusal) {m : ℕ} {qs sets : List ℕ} (given : d.number ≡ 0 → GoodLines m qs sets) (k : ℕ)
+    {kept : KeepAnswer} (p : kept ≡ keep_of d m qs sets k) where
   -- the margin, and the lines pruned
   abbrev left : ℤ
-  left = margin m (repeated (take n qs) lines) k
+  left = margin m (repeated qs sets) k
 
   abbrev pruned-lines : List ℕ
-  pruned-lines = prune_q m (take n qs) lines k
+  pruned-lines = prune_q m qs sets k
 
   -- nothing is refused where the answer refuses nothing
   by-margin : kept.refusal ≡ keep_refusal d left
   unfolding keep_of
   by-margin = ap (λ a. a.refusal) p
 
-  through : kept.refusal.number ≡ 0 → (keep_refusal d left).number ≡ 0
-  through z = ap (λ r. r.number) (sym by-margin) ∙ z
+  module _ (z : kept.refusal.number ≡ 0) where
+    through : (keep_refusal d left).number ≡ 0
+    through = ap (λ r. r.number) (sym by-margin) ∙ z
 
-  pub kept_free : kept.refusal.number ≡ 0 → d.number ≡ 0
-  kept_free z = (keep-none d left (through z)).0
+    pub kept_free : d.number ≡ 0
+    kept_free = (keep-none d left through).0
 
-  good : kept.refusal.number ≡ 0 → GoodLines m (take n qs) pruned-lines
-  good z = keep_good d k given.good (through z)
+    pub good-kept : GoodLines m qs pruned-lines
+    good-kept = keep_good d k given through
 
-  by_refusal : last ≡ lent_by kept.refusal (length lines) pruned-lines sets
-  unfolding sets_kept
-  by_refusal = q ∙ ap (λ r. lent_by r (length lines) pruned-lines sets) (sym by-margin)
-
-  pub kept-lines : kept.refusal.number ≡ 0 → take n last ≡ pruned-lines
-  kept-lines = left-lines given kept.refusal kept_free good by_refusal
-
-  -- what writing is given
-  pub given-kept : length last ≡ length sets → Given kept.refusal m n qs last
-  given-kept = given-left given kept.refusal kept_free good by_refusal
+    pub kept-lines : {last : List ℕ} → last ≡ sets_kept d m qs sets k sets → last ≡ pruned-lines
+    unfolding sets_kept
+    kept-lines q = q ∙ accepted _ sets by-margin z ∙ rw drop-length (append-nil pruned-lines)
 
 -- ---- from the lines that were read to the file
 
-module _ (file : List ℕ) {d : Refusal} (e : d ≡ read_refusal file) {m n : ℕ} {qs sets : List ℕ} (given : Given d m n qs sets)
-    (same : d.number ≡ 0 → AsRead file m (take n qs) (take n sets)) (k : ℕ)
-    {kept : KeepAnswer} (p : kept ≡ keep_of d m (take n qs) (take n sets) k)
-    {last : List ℕ} (q : last ≡ sets_kept d m (take n qs) (take n sets) k sets) (out : List ℕ) where
+module _ (file : List ℕ) {d : Refusal} (e : d ≡ read_refusal file) {m : ℕ} {qs sets : List ℕ} (given : d.number ≡ 0 → GoodLines m qs sets)
+    (same : d.number ≡ 0 → AsRead file m qs sets) (k : ℕ) {kept : KeepAnswer} (p : kept ≡ keep_of d m qs sets k)
+    {last : List ℕ} (q : kept.refusal.number ≡ 0 → last ≡ prune_q m qs sets k) (out : List ℕ) where
   abbrev pruned_in : List ℕ
   pruned_in = prune_q (rack_in file) (quantities_in file) (sets_in file) k
 
   kept_in : kept ≡ keep_of (read_refusal file) (rack_in file) (quantities_in file) (sets_in file) k
   kept_in = p ∙ keep_same d same k ∙ ap (λ r. keep_of r (rack_in file) (quantities_in file) (sets_in file) k) e
 
-  same_kept : kept.refusal.number ≡ 0 → Same m (rack_in file) (take n qs) (quantities_in file) (take n last) pruned_in
+  same_kept : kept.refusal.number ≡ 0 → Same m (rack_in file) qs (quantities_in file) last pruned_in
   same_kept z =
-      let (rack, quantities, read) = same (kept_free given k p q z) in
-      (rack, quantities, kept-lines given k p q z ∙ rw (rack, quantities, read) refl)
+      let (rack, quantities, read) = same (kept_free d given k p z) in
+      (rack, quantities, q z ∙ rw (rack, quantities, read) refl)
 
-  pub keep-in : {w : FileAnswer} {bytes : List ℕ} → w ≡ write_of kept.refusal (take n qs) (take n last) (length out)
-      → bytes ≡ write_buffer kept.refusal m (take n qs) (take n last) out
-      → (keep_outcome kept w ≡ keep_in file k (length out)) × (bytes ≡ keep_file_in file k out)
+  pub keep-in : {w : FileAnswer} {bytes : List ℕ} → w ≡ write_of kept.refusal qs last (length out)
+      → bytes ≡ write_buffer kept.refusal m qs last out → (keep_outcome kept w ≡ keep_in file k (length out)) × (bytes ≡ keep_file_in file k out)
   unfolding keep_in keep_file_in
   keep-in f g = (
     ap (keep_outcome kept) (f ∙ write_same kept.refusal same_kept out)
@@ -176,25 +164,6 @@ write-number v n room = by (ltb room (file_length v n))
     by true f = refl
     by false f = absurd (f refl)
 
--- ---- the places after keep changed those of the lines
-
-module _ {m n : ℕ} {qs sets : List ℕ} (given : Given none m n qs sets) (k : ℕ) {z : ℤ}
-    (p : keep_told (Ok z) ≡ keep_of none m (take n qs) (take n sets) k) {new : List ℕ}
-    (q : new ≡ sets_kept none m (take n qs) (take n sets) k (take n sets)) (size : length new ≡ length (take n sets)) where
-  front : length (take n sets) ≡ n
-  front = length-take-le n sets (given.room refl)
-
-  pub whole-kept : new ++ drop n sets ≡ sets_kept none m (take n qs) (take n sets) k sets
-  unfolding sets_kept
-  whole-kept =
-      let r = keep_refusal none (margin m (repeated (take n qs) (take n sets)) k) in
-      let new-lines = prune_q m (take n qs) (take n sets) k in
-      ap (λ l. l ++ drop n sets) q ∙ rw front (lent_front r n new-lines sets (given.room refl))
-
-  pub given-whole : Given none m n qs (new ++ drop n sets)
-  given-whole =
-      given-kept given k p whole-kept (omega (arith, length-append new (drop n sets), length-drop n sets, size, front, given.room refl))
-
 -- ---- what is given by a result
 
 -- the rule of what is given and left, where these are what keep gives and leaves
@@ -204,30 +173,30 @@ kept-ruled file k out bytes {o} {last} p q =
     subst (λ x. KeepRuleOf file k x o) (sym q)
     (subst (λ x. KeepRuleOf file k (keep_file_in file k out) x) (sym p) (keep-rule file k out bytes))
 
--- a refusal of writing tells no margin, and no other refusal but 26 has one
+-- a refusal of writing gives no margin, and only 26 has one
 no_margin : twos_complement (pos 0) ≡ 0
 unfolding twos_complement
 no_margin = refl
 
-module _ (file : List ℕ) (e : none ≡ read_refusal file) {m n : ℕ} {qs sets : List ℕ} (given : Given none m n qs sets)
-    (same : none.number ≡ 0 → AsRead file m (take n qs) (take n sets)) (k : ℕ) (out : List ℕ) where
+module _ (file : List ℕ) (e : none ≡ read_refusal file) {m : ℕ} {qs sets : List ℕ} (given : none.number ≡ 0 → GoodLines m qs sets)
+    (same : none.number ≡ 0 → AsRead file m qs sets) (k : ℕ) (out : List ℕ) where
   -- keep is refused: nothing is written
-  pub margin-refused : (u : Unkept) → keep_told (Err u) ≡ keep_of none m (take n qs) (take n sets) k
+  pub margin-refused : (u : Unkept) → keep_told (Err u) ≡ keep_of none m qs sets k
       → (refused_outcome u.refused (twos_complement u.margin) ≡ keep_in file k (length out)) × (out ≡ keep_file_in file k out)
   unfolding keep_of
   margin-refused u p =
-      let left = sets_kept none m (take n qs) (take n sets) k sets in
-      let (f, g) = write_stopped (told_of u.refused) m (take n qs) (take n left) out (reason_not_0 u.refused.reason) in
-      let (o, b) = keep-in file e given same k {kept = keep_told (Err u)} p {last = left} refl out f g in
+      let left = prune_q m qs sets k in
+      let (f, g) = write_stopped (told_of u.refused) m qs left out (reason_not_0 u.refused.reason) in
+      let (o, b) = keep-in file e given same k {kept = keep_told (Err u)} p {last = left} (λ _. refl) out f g in
       let number : eqb (reason_number u.refused.reason) 11 ≡ false =
-      ap (λ a. eqb a.refusal.number 11) p ∙ keep-number (margin m (repeated (take n qs) (take n sets)) k) in
+      ap (λ a. eqb a.refusal.number 11) p ∙ keep-number (margin m (repeated qs sets) k) in
       (ap (λ b. record { refusal = told_of u.refused; first = cond b 0 (twos_complement u.margin); second = 0; third = 0 }) (sym number) ∙ o, b)
 
-  module _ {z : ℤ} (p : keep_told (Ok z) ≡ keep_of none m (take n qs) (take n sets) k) {last : List ℕ}
-      (q : last ≡ sets_kept none m (take n qs) (take n sets) k sets) {bytes : List ℕ} where
-    -- the output has no room: no margin is told
-    pub write-refused : (w : Refused) → file_told (Err w) ≡ write_of none (take n qs) (take n last) (length out)
-        → bytes ≡ write_buffer none m (take n qs) (take n last) out
+  module _ {z : ℤ} (p : keep_told (Ok z) ≡ keep_of none m qs sets k) {last : List ℕ}
+      (q : none.number ≡ 0 → last ≡ prune_q m qs sets k) {bytes : List ℕ} where
+    -- the output has no room: the refusal has no margin
+    pub write-refused : (w : Refused) → file_told (Err w) ≡ write_of none qs last (length out)
+        → bytes ≡ write_buffer none m qs last out
         → (refused_outcome w (twos_complement (pos 0)) ≡ keep_in file k (length out)) × (bytes ≡ keep_file_in file k out)
     unfolding write_of
     write-refused w f g =
@@ -235,15 +204,15 @@ module _ (file : List ℕ) (e : none ≡ read_refusal file) {m n : ℕ} {qs sets
         let told = ap (λ a. a.refusal) f in
         let number : eqb (reason_number w.reason) 11 ≡ true =
         ap (λ r. eqb r.number 11) told
-        ∙ write-number (version_for (take n qs)) (length (take n last)) (length out)
+        ∙ write-number (version_for qs) (length last) (length out)
         (λ h. reason_not_0 w.reason (ap (λ r. r.number) told ∙ h)) in (
           ap (refused_outcome w) no_margin
               ∙ ap (λ b. record { refusal = told_of w; first = cond b 0 (twos_complement z); second = 0; third = 0 }) (sym number) ∙ o,
           b,
         )
 
-    pub kept-written : (size : ℕ) → file_told (Ok size) ≡ write_of none (take n qs) (take n last) (length out)
-        → bytes ≡ write_buffer none m (take n qs) (take n last) out
+    pub kept-written : (size : ℕ) → file_told (Ok size) ≡ write_of none qs last (length out)
+        → bytes ≡ write_buffer none m qs last out
         → (record { refusal = none; first = twos_complement z; second = size; third = 0 } ≡ keep_in file k (length out))
         × (bytes ≡ keep_file_in file k out)
     kept-written size f g = keep-in file e given same k p q out f g

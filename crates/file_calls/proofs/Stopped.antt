@@ -12,7 +12,6 @@ use Rattle.refusal.specs.declared.Refused.{Refused}
 use Rattle.refusal.specs.Reasons.{told_of}
 use Rattle.refusal.proofs.Laws.{reason_not_0}
 use Rattle.job.specs.Job.{read_refusal}
-use Rattle.reading.proofs.Lines.{given-refused}
 use Rattle.call_refusals.proofs.Calls.{plan_first, best_first, mounted_earlier}
 use Rattle.call_refusals.proofs.Junior.{junior_first}
 use Rattle.line_calls.proofs.CommonTip.{common_refused}
@@ -79,13 +78,13 @@ module _ (file : List ℕ) (e : Refused) (r : told_of e ≡ read_refusal file) w
   pub keep_read : (k : ℕ) (out : List ℕ)
       → (refused_outcome e (twos_complement (pos 0)) ≡ keep_in file k (length out)) × (out ≡ keep_file_in file k out)
   keep_read k out =
-      let (p, q) = keep-stopped d 0 [] [] k [] n in
+      let (p, _) = keep-stopped d 0 [] [] k [] n in
       let (f, g) = write_stopped d 0 [] [] out n in
-      let (o, b) = keep-in file r {m = 0} {n = 0} {qs = []} {sets = []} (given-refused n) (λ z. absurd (n z)) k p q out f g in
+      let (o, b) = keep-in file r {m = 0} {qs = []} {sets = []} (λ z. absurd (n z)) (λ z. absurd (n z)) k p {last = []} (λ z. absurd (n z)) out f g in
       (ap (refused_outcome e) (sym (no_margin (eqb d.number 11))) ∙ o, b)
 
   pub goal_read : (K : ℕ) (out : List ℕ) → (refused_outcome e 0 ≡ goal_in file K (length out)) × (out ≡ goal_file_in file K out)
   goal_read K out =
-      let (p, q) = goal-stopped d 0 [] [] K [] (asked_earlier d [] n) n in
+      let (p, _) = goal-stopped d 0 [] [] K [] (asked_earlier d [] n) n in
       let (f, g) = write_stopped d 0 [] [] out n in
-      goal-in file r {m = 0} {n = 0} {qs = []} {sets = []} (given-refused n) (λ z. absurd (n z)) K p q out f g
+      goal-in file r {m = 0} {qs = []} {sets = []} (λ z. absurd (n z)) (λ z. absurd (n z)) K p {last = []} (λ z. absurd (n z)) out f g

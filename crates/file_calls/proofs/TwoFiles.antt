@@ -1,20 +1,15 @@
 -- Two files: from the lines that were read to what merging them and planning each alone give, and what is written reads back as the panel's lines.
-use Prim.Native.Nat.{ℕ, ◌+◌, ◌≤◌}
-use native.Mathlib.Omega.{arith}
+use Prim.Native.Nat.{ℕ, ◌+◌}
 use mathlib.Core.Path.{◌≡◌, sym, refl, ap, ap₂, subst, ◌∙◌}
-use mathlib.Core.Bool.{Bool, true, false}
 use mathlib.Core.List.{List, ◌++◌}
 use lib.ListN.{length, take, drop}
-use lib.Seq.{length-take-le, take_at}
-use borrow.Author.Tests.{eqb-true, eqb-false}
-use Rattle.model.specs.Limits.{most_lines}
+use lib.Seq.{take_at}
 use Rattle.placements.specs.Repeated.{total}
 use Rattle.placements.specs.Good.{GoodLines}
 use Rattle.refusal.specs.Told.{Refusal}
 use Rattle.refusal.specs.declared.Refused.{Refused}
 use Rattle.refusal.specs.Reasons.{told_of}
-use Rattle.refusal.specs.Refusal.{accepts, Given}
-use Rattle.refusal.proofs.Laws.{number_of, or_first, or_none, accepted, later, reason_not_0}
+use Rattle.refusal.proofs.Laws.{number_of, or_first, or_none, accepted, reason_not_0}
 use Rattle.goals.proofs.Append.{all_append}
 use Rattle.job.specs.Job.{Bytes, file_length, version_for, written_of, rack_in, sets_in, quantities_in, read_refusal, InShorterForm, ReadsAs}
 use Rattle.job.proofs.Reading.{bytes_quantities, read_good}
@@ -26,11 +21,11 @@ use Rattle.line_calls.specs.Lines.{write_of, write_buffer}
 use Rattle.line_calls.proofs.JobFile.{write_stopped}
 use Rattle.line_calls.proofs.Refused.{Same, write_same, write_buffer_same}
 use Rattle.panel.specs.Answers.{AloneAnswer}
-use Rattle.panel.specs.Panel.{first_of, merge_refusal, merge_of, merged_by, alone_of, alone_buffer}
+use Rattle.panel.specs.Panel.{first_of, merge_refusal, merge_of, alone_of, alone_buffer}
 use Rattle.panel.specs.Rules.{PanelRule, AloneRule}
 use Rattle.panel.proofs.BothPlans.{alone_stopped, alone_refused}
 use Rattle.panel.proofs.Panel.{good_append, panel-rule}
-use Rattle.panel.proofs.Merged.{Mergeable, merge_none, known, merged-lines, merged_quantities}
+use Rattle.panel.proofs.Merged.{Mergeable, merge_none, known}
 use Rattle.panel.proofs.Refused.{merge_same, alone_same, alone_buffer_same, alone_rule_same}
 use Rattle.file_calls.specs.Outcomes.{Outcome, refused_outcome}
 use Rattle.file_calls.specs.Panel.{reads_refusal, merge_refusal_in, file_outcome, merge_of_files, merge_file_in, MergeRuleOf}
@@ -38,18 +33,9 @@ use Rattle.file_calls.specs.Panel.{alone_outcome, alone_in, alone_plan_in, Alone
 use Rattle.file_calls.proofs.ReadLines.{AsRead}
 use Rattle.file_calls.proofs.WrittenFile.{written_version}
 
--- a file that was read has few lines, and one that was not has none
-pub few-lines : {d : Refusal} {m n : ℕ} {qs sets : List ℕ} → Given d m n qs sets → ((d.number ≡ 0 → ⊥) → (m ≡ 0) × (n ≡ 0)) → n ≤ most_lines
-few-lines {d} {n} {sets} g h = by (accepts d) refl
-  where
-    by : (t : Bool) → accepts d ≡ t → n ≤ most_lines
-    by true e = let z = eqb-true d.number 0 e in omega (arith, (g.good z).few-lines, length-take-le n sets (g.room z))
-    by false e = omega (arith, (h (eqb-false d.number 0 e)).1)
-
 module _ (first second : List ℕ) {d e state : Refusal} (p : d ≡ read_refusal first) (q : e ≡ read_refusal second) (g : state ≡ first_of d e)
-    {m n o k : ℕ} {qs sets rs others : List ℕ} (lines : Given d m n qs sets) (second-lines : Given e o k rs others)
-    (same : d.number ≡ 0 → AsRead first m (take n qs) (take n sets))
-    (second-same : e.number ≡ 0 → AsRead second o (take k rs) (take k others)) where
+    {m o : ℕ} {qs sets rs others : List ℕ} (same : d.number ≡ 0 → AsRead first m qs sets)
+    (second-same : e.number ≡ 0 → AsRead second o rs others) where
   reads : state ≡ reads_refusal first second
   reads = g ∙ ap₂ first_of p q
 
@@ -57,25 +43,19 @@ module _ (first second : List ℕ) {d e state : Refusal} (p : d ≡ read_refusal
   both : state.number ≡ 0 → (d.number ≡ 0) × (e.number ≡ 0)
   both z = or_none d e (number_of g z)
 
-  pub given-first : Given state m n qs sets
-  given-first = later (λ z. (both z).0) lines
-
-  pub given_second : Given state o k rs others
-  given_second = later (λ z. (both z).1) second-lines
-
-  same_both : state.number ≡ 0 → AsRead first m (take n qs) (take n sets) × AsRead second o (take k rs) (take k others)
+  same_both : state.number ≡ 0 → AsRead first m qs sets × AsRead second o rs others
   same_both z = (same (both z).0, second-same (both z).1)
 
   pub alone-in : (plan : List ℕ) {a : AloneAnswer} {last : List ℕ}
-      → a ≡ alone_of state m (take n qs) (take n sets) o (take k rs) (take k others) (length plan)
-      → last ≡ alone_buffer state m (take n qs) (take n sets) o (take k rs) (take k others) plan
-      → AloneRule (take n qs) (take n sets) (take k rs) (take k others) last a.refusal.number a.first_pairs a.second_pairs
+      → a ≡ alone_of state m qs sets o rs others (length plan)
+      → last ≡ alone_buffer state m qs sets o rs others plan
+      → AloneRule qs sets rs others last a.refusal.number a.first_pairs a.second_pairs
       → (alone_outcome a ≡ alone_in first second (length plan))
       × ((last ≡ alone_plan_in first second plan) × AloneRuleOf first second last (alone_outcome a))
   unfolding alone_in alone_plan_in alone_of
   alone-in plan {a} s t rule =
       let free : a.refusal.number ≡ 0 → state.number ≡ 0 =
-      λ z. (plan_none state (length (take n sets) + length (take k others)) (length plan) (ap (λ x. x.refusal.number) (sym s) ∙ z)).0 in (
+      λ z. (plan_none state (length sets + length others) (length plan) (ap (λ x. x.refusal.number) (sym s) ∙ z)).0 in (
         ap alone_outcome (s ∙ alone_same state same_both plan)
             ∙ ap (λ r. alone_outcome
             (alone_of r (rack_in first) (quantities_in first) (sets_in first) (rack_in second) (quantities_in second) (sets_in second)
@@ -90,32 +70,32 @@ module _ (first second : List ℕ) {d e state : Refusal} (p : d ≡ read_refusal
       )
 
   -- the refusal of merging what was read is that of merging the files
-  pub told-in : {r : Refusal} → r ≡ merge_of state m (take n qs) (take n sets) o (take k rs) (take k others) → r ≡ merge_refusal_in first second
+  pub told-in : {r : Refusal} → r ≡ merge_of state m qs sets o rs others → r ≡ merge_refusal_in first second
   told-in h =
       h ∙ merge_same state same_both
       ∙ ap (λ x. merge_of x (rack_in first) (quantities_in first) (sets_in first) (rack_in second) (quantities_in second) (sets_in second)) reads
 
-  -- merging, then writing
-  module _ {r : Refusal} (h : r ≡ merge_of state m (take n qs) (take n sets) o (take k rs) (take k others)) {last-qs last : List ℕ}
-      (s : last ≡ merged_by r (take n sets) (take k others) sets) (t : last-qs ≡ merged_by r (take n qs) (take k rs) qs) where
+  -- merging, then writing the lines of both
+  module _ {r : Refusal} (h : r ≡ merge_of state m qs sets o rs others) {last-qs last : List ℕ}
+      (s : r.number ≡ 0 → last ≡ sets ++ others) (t : r.number ≡ 0 → last-qs ≡ qs ++ rs) where
     told_in : r ≡ merge_refusal_in first second
     told_in =
         h ∙ merge_same state same_both
         ∙ ap (λ x. merge_of x (rack_in first) (quantities_in first) (sets_in first) (rack_in second) (quantities_in second) (sets_in second)) reads
 
     same_merged : r.number ≡ 0
-        → Same m (rack_in first) (take (n + k) last-qs) (quantities_in first ++ quantities_in second) (take (n + k) last)
+        → Same m (rack_in first) last-qs (quantities_in first ++ quantities_in second) last
         (sets_in first ++ sets_in second)
     same_merged z =
-        let free = (known state given-first given_second (number_of h z)).free in
+        let free = (known state qs sets rs others (number_of h z)).free in
         let ((rack, quantities, read), (_, second-quantities, second-read)) = same_both free in (
           rack,
-          merged_quantities state given-first given_second h s t z ∙ rw (quantities, second-quantities) refl,
-          merged-lines state given-first given_second h s t z ∙ rw (read, second-read) refl,
+          t z ∙ rw (quantities, second-quantities) refl,
+          s z ∙ rw (read, second-read) refl,
         )
 
-    pub merge_in : (out : List ℕ) {w : FileAnswer} {bytes : List ℕ} → w ≡ write_of r (take (n + k) last-qs) (take (n + k) last) (length out)
-        → bytes ≡ write_buffer r m (take (n + k) last-qs) (take (n + k) last) out
+    pub merge_in : (out : List ℕ) {w : FileAnswer} {bytes : List ℕ} → w ≡ write_of r last-qs last (length out)
+        → bytes ≡ write_buffer r m last-qs last out
         → (file_outcome w ≡ merge_of_files first second (length out)) × (bytes ≡ merge_file_in first second out)
     unfolding merge_of_files merge_file_in
     merge_in out u v =

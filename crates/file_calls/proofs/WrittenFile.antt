@@ -1,17 +1,17 @@
--- Lines that a call changes and that are then written: what writing is given, and what stands in the output.
+-- Lines that a call changes and that are then written: what is in the output.
 use Prim.Native.Nat.{ℕ}
-use mathlib.Core.Path.{◌≡◌, refl, sym, ap, ap₂, ◌∙◌}
+use mathlib.Core.Path.{◌≡◌, refl, sym, ap₂, ◌∙◌}
 use mathlib.Core.Logic.{◌↔◌, ⊎_elim}
 use mathlib.Core.Bool.{Bool, true, false, cond}
 use mathlib.Core.List.{List, ◌++◌}
 use native.Mathlib.Omega.{arith}
 use lib.Dec.{ltb}
 use lib.ListN.{length, take, drop}
-use lib.Seq.{length-take-le, take_at}
+use lib.Seq.{take_at}
 use borrow.Author.Tests.{eqb-true}
 use Rattle.placements.specs.Good.{GoodLines}
 use Rattle.refusal.specs.Told.{Refusal}
-use Rattle.refusal.specs.Refusal.{accepts, or_else, when, lent_by, Given}
+use Rattle.refusal.specs.Refusal.{accepts, or_else, when}
 use Rattle.refusal.proofs.Laws.{accepted}
 use Rattle.job.specs.Job.{Bytes, file_length, paired, bytes_of_lines, file_of, version_for, written_of}
 use Rattle.job.specs.Job.{version_in, rack_in, quantities_in, InShorterForm, ReadsAs}
@@ -21,30 +21,6 @@ use Rattle.job.proofs.Writing.{version-for, length-file_of, written_back}
 use Rattle.call_refusals.specs.Calls.{write_refusal}
 use Rattle.call_refusals.proofs.Calls.{write_none}
 use Rattle.line_calls.specs.Lines.{write_of, write_buffer}
-
--- ---- the lines that a call leaves in the first places, where r is its refusal
-
-module _ {d : Refusal} {m n : ℕ} {qs sets : List ℕ} (given : Given d m n qs sets) (r : Refusal) (free : r.number ≡ 0 → d.number ≡ 0)
-    {lines : List ℕ} (good : r.number ≡ 0 → GoodLines m (take n qs) lines)
-    {last : List ℕ} (q : last ≡ lent_by r (length (take n sets)) lines sets) where
-  pub left-lines : r.number ≡ 0 → take n last ≡ lines
-  left-lines z =
-      let size : length lines ≡ n = omega (
-        arith,
-        (good z).same,
-        (given.good (free z)).same,
-        length-take-le n sets (given.room (free z)),
-      ) in
-      ap (take n) (q ∙ accepted (lines ++ drop (length (take n sets)) sets) sets {d = r} refl z)
-      ∙ take_at lines (drop (length (take n sets)) sets) n size
-
-  -- what writing is given
-  pub given-left : length last ≡ length sets → Given r m n qs last
-  given-left e = record {
-    room = λ z. omega (arith, e, given.room (free z));
-    quantity_room = λ z. given.quantity_room (free z);
-    good = λ z. rw (left-lines z) (good z);
-  }
 
 -- ---- the output
 

@@ -4,26 +4,26 @@ ghost use Rattle.file_calls.specs.Outcomes.{outcome_of};
 ghost use Rattle.file_calls.specs.Goal.{goal_in, goal_file_in, GoalRuleOf};
 
 use crate::Counts;
+use placements::Lines;
+use reading::Room;
 use refusal::Refused;
 
-// The struck sets have an array of their own, which holds the sets as they were read until all are struck.
+// The struck sets have an array of their own.
 pub fn goal_outcome(file: &[u8], goal: u32, out: &mut [u8]) -> Result<Counts, Refused>
     ensures outcome { outcome_of result ≡ goal_in file.now goal (length out.old) }
     ensures out { out.new ≡ goal_file_in file.now goal out.old }
     ensures rule { GoalRuleOf file.now goal out.new (outcome_of result) }
 {
-    let mut sets = sound::no_sets();
-    let mut quantities = sound::no_quantities();
-    let read = reading::read_lines(file, &mut sets, &mut quantities)?;
-    let count = read.count;
-    let mut struck = sets;
-    line_calls::goal(
-        read.rack,
-        &sets[..count],
-        &quantities[..count],
-        goal,
-        &mut struck[..count],
-    )?;
-    let bytes = line_calls::write(read.rack, &struck[..count], &quantities[..count], out)?;
+    let mut room = Room::new();
+    let lines = room.read(file)?;
+    let mut struck = [0u64; model::MOST_LINES];
+    let struck = &mut struck[..lines.len()];
+    line_calls::goal(lines, goal, struck)?;
+    let left = Lines {
+        rack: lines.rack,
+        sets: struck,
+        quantities: lines.quantities,
+    };
+    let bytes = line_calls::write(left, out)?;
     Ok(Counts::one(bytes as u64))
 }

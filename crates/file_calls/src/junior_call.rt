@@ -4,6 +4,7 @@ ghost use Rattle.file_calls.specs.Outcomes.{outcome_of};
 ghost use Rattle.file_calls.specs.Junior.{junior_in, junior_plan_in, JuniorRuleOf};
 
 use crate::Counts;
+use reading::Room;
 use refusal::Refused;
 
 // The counts are the plan's pairs and its tips u and v.
@@ -12,11 +13,9 @@ pub fn junior_outcome(file: &[u8], plan: &mut [u8]) -> Result<Counts, Refused>
     ensures plan { plan.new ≡ junior_plan_in file.now plan.old }
     ensures rule { JuniorRuleOf file.now (length plan.old) plan.new (outcome_of result) }
 {
-    let mut sets = sound::no_sets();
-    let mut quantities = sound::no_quantities();
-    let read = reading::read_lines(file, &mut sets, &mut quantities)?;
-    let count = read.count;
-    let found = line_calls::junior(read.rack, &sets[..count], &quantities[..count], plan)?;
+    let mut room = Room::new();
+    let lines = room.read(file)?;
+    let found = line_calls::junior(lines, plan)?;
     Ok(Counts {
         first: u64::from(found.pairs),
         second: found.u as u64,

@@ -8,6 +8,8 @@ ghost use Rattle.file_calls.specs.Calls.{read_in, common_in, keep_in, keep_file_
 ghost use Rattle.file_calls.specs.Calls.{check_in};
 ghost use Rattle.file_calls.specs.Rules.{CommonRuleOf, KeepRuleOf, HalfRuleOf, BestRuleOf, CheckRuleOf};
 
+use placements::Lines;
+use reading::Room;
 use refusal::{Refused, Unkept};
 
 mod goal_call;
@@ -61,11 +63,9 @@ pub fn common_outcome(file: &[u8]) -> Result<Counts, Refused>
     ensures outcome { outcome_of result ≡ common_in file.now }
     ensures rule { CommonRuleOf file.now (outcome_of result) }
 {
-    let mut sets = sound::no_sets();
-    let mut quantities = sound::no_quantities();
-    let read = reading::read_lines(file, &mut sets, &mut quantities)?;
-    let count = read.count;
-    let found = line_calls::common(read.rack, &sets[..count], &quantities[..count]);
+    let mut room = Room::new();
+    let lines = room.read(file)?;
+    let found = line_calls::common(lines);
     Ok(Counts {
         first: found.top as u64,
         second: found.off as u64,
@@ -73,6 +73,7 @@ pub fn common_outcome(file: &[u8]) -> Result<Counts, Refused>
     })
 }
 
+// The sets are pruned in place, so that they are lent by themselves and not by a `Room`.
 pub fn keep_outcome(file: &[u8], k: u16, out: &mut [u8]) -> Result<Counts, Unkept>
     ensures outcome { kept_outcome_of result ≡ keep_in file.now k (length out.old) }
     ensures out { out.new ≡ keep_file_in file.now k out.old }
@@ -81,9 +82,15 @@ pub fn keep_outcome(file: &[u8], k: u16, out: &mut [u8]) -> Result<Counts, Unkep
     let mut sets = sound::no_sets();
     let mut quantities = sound::no_quantities();
     let read = reading::read_lines(file, &mut sets, &mut quantities)?;
-    let count = read.count;
-    let margin = line_calls::keep(read.rack, &mut sets[..count], &quantities[..count], k)?;
-    let bytes = line_calls::write(read.rack, &sets[..count], &quantities[..count], out)?;
+    let sets = &mut sets[..read.count];
+    let quantities = &quantities[..read.count];
+    let margin = line_calls::keep(read.rack, sets, quantities, k)?;
+    let kept = Lines {
+        rack: read.rack,
+        sets,
+        quantities,
+    };
+    let bytes = line_calls::write(kept, out)?;
     Ok(Counts {
         first: twos_complement(margin),
         second: bytes as u64,
@@ -100,18 +107,10 @@ pub fn quick_outcome(
     ensures plan { plan.new ≡ quick_plan_in file.now (on_head mounted) plan.old }
     ensures rule { HalfRuleOf file.now plan.new (outcome_of result) }
 {
-    let mut sets = sound::no_sets();
-    let mut quantities = sound::no_quantities();
-    let read = reading::read_lines(file, &mut sets, &mut quantities)?;
-    let count = read.count;
-    call_refusals::mounted_refusal(read.rack, mounted)?;
-    let pairs = line_calls::quick(
-        read.rack,
-        mounted,
-        &mut sets[..count],
-        &quantities[..count],
-        plan,
-    )?;
+    let mut room = Room::new();
+    let lines = room.read(file)?;
+    call_refusals::mounted_refusal(lines.rack, mounted)?;
+    let pairs = line_calls::quick(lines, mounted, plan)?;
     Ok(Counts::one(u64::from(pairs)))
 }
 
@@ -128,19 +127,10 @@ pub fn best_outcome(
         ≡ best_table_in file.now (on_head mounted) (length plan.old) table.old }
     ensures rule { BestRuleOf file.now plan.new (outcome_of result) }
 {
-    let mut sets = sound::no_sets();
-    let mut quantities = sound::no_quantities();
-    let read = reading::read_lines(file, &mut sets, &mut quantities)?;
-    let count = read.count;
-    call_refusals::mounted_refusal(read.rack, mounted)?;
-    let pairs = line_calls::best(
-        read.rack,
-        mounted,
-        &mut sets[..count],
-        &quantities[..count],
-        plan,
-        table,
-    )?;
+    let mut room = Room::new();
+    let lines = room.read(file)?;
+    call_refusals::mounted_refusal(lines.rack, mounted)?;
+    let pairs = line_calls::best(lines, mounted, plan, table)?;
     Ok(Counts::one(u64::from(pairs)))
 }
 
@@ -149,17 +139,8 @@ pub fn check_outcome(file: &[u8], plan: &[u8], claim: u32, table: &[u32]) -> Res
     ensures outcome { outcome_of result ≡ check_in file.now plan.now claim table.now }
     ensures rule { CheckRuleOf file.now plan.now claim table.now (outcome_of result) }
 {
-    let mut sets = sound::no_sets();
-    let mut quantities = sound::no_quantities();
-    let read = reading::read_lines(file, &mut sets, &mut quantities)?;
-    let count = read.count;
-    line_calls::check(
-        read.rack,
-        &sets[..count],
-        &quantities[..count],
-        plan,
-        claim,
-        table,
-    )?;
+    let mut room = Room::new();
+    let lines = room.read(file)?;
+    line_calls::check(lines, plan, claim, table)?;
     Ok(Counts::one(0))
 }

@@ -4,6 +4,8 @@ ghost use Rattle.file_calls.specs.Outcomes.{outcome_of};
 ghost use Rattle.file_calls.specs.Panel.{merge_of_files, merge_file_in, MergeRuleOf, alone_in, alone_plan_in, AloneRuleOf};
 
 use crate::Counts;
+use placements::Lines;
+use reading::Room;
 use refusal::Refused;
 
 pub fn merge_outcome(first: &[u8], second: &[u8], out: &mut [u8]) -> Result<Counts, Refused>
@@ -11,24 +13,19 @@ pub fn merge_outcome(first: &[u8], second: &[u8], out: &mut [u8]) -> Result<Coun
     ensures out { out.new ≡ merge_file_in first.now second.now out.old }
     ensures rule { MergeRuleOf first.now second.now out.new (outcome_of result) }
 {
-    let mut sets = sound::no_sets();
-    let mut quantities = sound::no_quantities();
-    let read = reading::read_lines(first, &mut sets, &mut quantities)?;
-    let mut other_sets = sound::no_sets();
-    let mut other_quantities = sound::no_quantities();
-    let other = reading::read_lines(second, &mut other_sets, &mut other_quantities)?;
-    let other_count = other.count;
-    panel::merge(
-        read.rack,
-        read.count,
-        &mut sets,
-        &mut quantities,
-        other.rack,
-        &other_sets[..other_count],
-        &other_quantities[..other_count],
-    )?;
-    let count = read.count + other_count;
-    let bytes = line_calls::write(read.rack, &sets[..count], &quantities[..count], out)?;
+    let mut room = Room::new();
+    let lines = room.read(first)?;
+    let mut other_room = Room::new();
+    let others = other_room.read(second)?;
+    let mut both = Room::new();
+    panel::merge(lines, others, &mut both.sets, &mut both.quantities)?;
+    let count = lines.len() + others.len();
+    let panel = Lines {
+        rack: lines.rack,
+        sets: &both.sets[..count],
+        quantities: &both.quantities[..count],
+    };
+    let bytes = line_calls::write(panel, out)?;
     Ok(Counts::one(bytes as u64))
 }
 
@@ -37,23 +34,11 @@ pub fn alone_outcome(first: &[u8], second: &[u8], plan: &mut [u8]) -> Result<Cou
     ensures plan { plan.new ≡ alone_plan_in first.now second.now plan.old }
     ensures rule { AloneRuleOf first.now second.now plan.new (outcome_of result) }
 {
-    let mut sets = sound::no_sets();
-    let mut quantities = sound::no_quantities();
-    let read = reading::read_lines(first, &mut sets, &mut quantities)?;
-    let mut other_sets = sound::no_sets();
-    let mut other_quantities = sound::no_quantities();
-    let other = reading::read_lines(second, &mut other_sets, &mut other_quantities)?;
-    let count = read.count;
-    let other_count = other.count;
-    let pairs = panel::alone(
-        read.rack,
-        &mut sets[..count],
-        &quantities[..count],
-        other.rack,
-        &mut other_sets[..other_count],
-        &other_quantities[..other_count],
-        plan,
-    )?;
+    let mut room = Room::new();
+    let lines = room.read(first)?;
+    let mut other_room = Room::new();
+    let others = other_room.read(second)?;
+    let pairs = panel::alone(lines, others, plan)?;
     Ok(Counts {
         first: u64::from(pairs.first),
         second: u64::from(pairs.second),

@@ -82,7 +82,7 @@ module _ {m : ℕ} {qs lines : List ℕ} (good : GoodLines m qs lines) where
       plan_is = λ t. rw (true_T (accepts (run_refusal lines)) t) (whole lines (best_plan_q bare m qs lines) old size);
     })
 
--- what is told of a result is told of its value, where it has one
+-- what is known of a result is known of its value, where it has one
 pub best_ok : (r : Result ℕ Refused) {o : Option ℕ} → o ≡ result_ok r → {m : ℕ} {qs lines out : List ℕ}
     → BestTold m qs lines (eqb (refusal_of r).number 0) (count_in r) out → BestTold m qs lines (is_some o) (unwrap_or o 0) out
 best_ok (Ok x) e told = rw e told

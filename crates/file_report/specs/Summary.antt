@@ -9,7 +9,7 @@ use Rattle.model.specs.Interval.{named, is_run_of, C}
 use Rattle.placements.specs.Repeated.{total, repeated}
 use Rattle.placements.specs.Plans.{quick_plan_q, best_plan_q}
 use Rattle.refusal.specs.Refusal.{accepts}
-use Rattle.job.specs.Job.{header_length, set_length, rack_in, count_in, quantities_in, sets_in, read_refusal}
+use Rattle.job.specs.Job.{header_length, set_length, rack_in, quantities_in, sets_in, read_refusal}
 use Rattle.report.specs.Report.{Facts, report_of, refused_text}
 
 -- each line is a run of the named tips
@@ -33,15 +33,11 @@ facts_of m qs sets =
       best = best_plan_q bare m qs sets;
     }
 
--- what is told of best sharing of the lines: whether each is a run, and where it is so the pairs, and the plan
+-- what best sharing gives of the lines: whether each is a run, and where it is so the pairs, and the plan
 pub record BestTold (m : ℕ) (qs sets : List ℕ) (runs : Bool) (shared : ℕ) (plan : List ℕ) : Type 0 where
   pub runs_are : runs ≡ all_runs sets
   pub pairs_are : T runs → shared ≡ C (repeated qs sets) 0 m
   pub plan_is : T runs → plan ≡ best_plan_q bare m qs sets
-
--- and of the lines of a file, with the plan at the front of a buffer
-abbrev pub BestOfFile : List ℕ → Bool → ℕ → List ℕ → Type 0
-BestOfFile file runs shared buffer = BestTold (rack_in file) (quantities_in file) (sets_in file) runs shared (take (count_in file) buffer)
 
 -- the text for a file: the report on its lines, or the number of its refusal
 unfoldable pub text_of : List ℕ → List ℕ

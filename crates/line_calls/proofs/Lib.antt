@@ -6,3 +6,4 @@ pub mod Refused
 pub mod Checked
 pub mod PairGoal
 pub mod JuniorPlan
+pub mod Copied

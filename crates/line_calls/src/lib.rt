@@ -1,7 +1,7 @@
 // Each call on lines that are good: the board and a call on a file ask first what comes before.
 #![tactic(auto)]
 
-ghost use Rattle.std.specs.Prelude.{◌≡◌, Ok, length};
+ghost use Rattle.std.specs.Prelude.{◌≡◌, Ok, length, take};
 ghost use Rattle.placements.specs.Good.{GoodLines};
 ghost use Rattle.head.specs.OnHead.{on_head};
 ghost use Rattle.refusal.specs.Refusal.{none};
@@ -13,6 +13,7 @@ ghost use Rattle.line_calls.specs.Lines.{best_of, best_buffer, best_table, check
 ghost use Rattle.line_calls.specs.Rules.{CommonRule, HalfRule, BestRule, CheckRule};
 
 use common_tip::Common;
+use placements::Lines;
 use refusal::{Refused, Unkept};
 
 mod goal_call;
@@ -22,15 +23,17 @@ pub use goal_call::goal;
 pub use junior_call::junior;
 
 // The most placements that allow one tip, the least number of placements off the common tip, and the set W of the tips that reach top.
-pub fn common(rack: usize, lines: &[u64], quantities: &[u8]) -> Common
-    requires { GoodLines rack quantities.now lines.now }
-    ensures answer { common_told (Ok result) ≡ common_of none rack quantities.now lines.now }
-    ensures rule { CommonRule rack quantities.now lines.now 0 result.top result.off result.tips }
+pub fn common(lines: Lines<'_>) -> Common
+    ensures answer { common_told (Ok result)
+        ≡ common_of none lines.entry.rack lines.entry.quantities.now lines.entry.sets.now }
+    ensures rule { CommonRule lines.entry.rack lines.entry.quantities.now lines.entry.sets.now 0
+        result.top result.off result.tips }
 {
-    common_tip::common_tip(rack, lines, quantities)
+    common_tip::common_tip(lines.rack, lines.sets, lines.quantities)
 }
 
-// Keep within k: the margin, which is top - n + k of n placements. Where it is below zero the sets stay as they were.
+// Keep within k: the margin, which is top - n + k of n placements. Where it is below zero the sets stay as they were. They are pruned in
+// place, so that no call pays for a copy: hence slices and not `Lines`.
 pub fn keep(rack: usize, lines: &mut [u64], quantities: &[u8], k: u16) -> Result<i32, Unkept>
     requires { GoodLines rack quantities.now lines.old }
     ensures answer { keep_told result ≡ keep_of none rack quantities.now lines.old k }
@@ -40,104 +43,98 @@ pub fn keep(rack: usize, lines: &mut [u64], quantities: &[u8], k: u16) -> Result
     call_refusals::keep_refusal(margin)
 }
 
-// The pairs of the plan of quick sharing. The sets are the caller's working copy, which is used up.
-pub fn quick(
-    rack: usize,
-    mounted: Option<usize>,
-    lines: &mut [u64],
-    quantities: &[u8],
-    plan: &mut [u8],
-) -> Result<u32, Refused>
-    requires { GoodLines rack quantities.now lines.old }
+// The sets, in a working copy that a plan uses up. The places behind them are not read.
+fn working_copy(lines: Lines<'_>) -> [u64; model::MOST_LINES]
+    ensures { take (length lines.entry.sets.now) result ≡ lines.entry.sets.now }
+{
+    let mut left = [0u64; model::MOST_LINES];
+    left[..lines.len()].copy_from_slice(lines.sets);
+    left
+}
+
+// The pairs of the plan of quick sharing.
+pub fn quick(lines: Lines<'_>, mounted: Option<usize>, plan: &mut [u8]) -> Result<u32, Refused>
     ensures answer { plan_told result
-        ≡ quick_of none rack (on_head mounted) quantities.now lines.old (length plan.old) }
+        ≡ quick_of none lines.entry.rack (on_head mounted) lines.entry.quantities.now lines.entry.sets.now (length plan.old) }
     ensures plan { plan.new
-        ≡ quick_buffer none rack (on_head mounted) quantities.now lines.old plan.old }
-    ensures rule { HalfRule quantities.now lines.old
+        ≡ quick_buffer none lines.entry.rack (on_head mounted) lines.entry.quantities.now lines.entry.sets.now plan.old }
+    ensures rule { HalfRule lines.entry.quantities.now lines.entry.sets.now
         plan.new (refusal_of result).number (plan_told result).pairs }
 {
     let count = lines.len();
     call_refusals::plan_refusal(count, plan.len())?;
-    Ok(greedy::plan_lines(rack, mounted, lines, quantities, &mut plan[..count]))
+    let mut left = working_copy(lines);
+    Ok(greedy::plan_lines(
+        lines.rack,
+        mounted,
+        &mut left[..count],
+        lines.quantities,
+        &mut plan[..count],
+    ))
 }
 
-// The pairs of the plan of best sharing. The sets are the caller's working copy, which is renumbered.
+// The pairs of the plan of best sharing.
 pub fn best(
-    rack: usize,
+    lines: Lines<'_>,
     mounted: Option<usize>,
-    lines: &mut [u64],
-    quantities: &[u8],
     plan: &mut [u8],
     table: &mut [u32],
 ) -> Result<u32, Refused>
-    requires { GoodLines rack quantities.now lines.old }
-    ensures answer { plan_told result
-        ≡ best_of none rack quantities.now lines.old (length plan.old) (length table.old) }
-    ensures plan { plan.new ≡ best_buffer none rack (on_head mounted) quantities.now
-        lines.old plan.old (length table.old) }
-    ensures table { table.new
-        ≡ best_table none rack quantities.now lines.old (length plan.old) table.old }
-    ensures rule { BestRule quantities.now lines.old
+    ensures answer { plan_told result ≡ best_of none lines.entry.rack lines.entry.quantities.now lines.entry.sets.now
+        (length plan.old) (length table.old) }
+    ensures plan { plan.new ≡ best_buffer none lines.entry.rack (on_head mounted) lines.entry.quantities.now
+        lines.entry.sets.now plan.old (length table.old) }
+    ensures table { table.new ≡ best_table none lines.entry.rack lines.entry.quantities.now lines.entry.sets.now
+        (length plan.old) table.old }
+    ensures rule { BestRule lines.entry.quantities.now lines.entry.sets.now
         plan.new (refusal_of result).number (plan_told result).pairs }
 {
-    call_refusals::best_refusal(rack, lines, plan.len(), table.len())?;
+    call_refusals::best_refusal(lines.rack, lines.sets, plan.len(), table.len())?;
     let count = lines.len();
-    let square = rack * rack;
+    let square = lines.rack * lines.rack;
+    let mut left = working_copy(lines);
     Ok(best::plan_lines(
-        rack,
+        lines.rack,
         mounted,
-        lines,
-        quantities,
+        &mut left[..count],
+        lines.quantities,
         &mut plan[..count],
         &mut table[..square],
     ))
 }
 
 // A plan, a claimed pair count and a table from other software, which are only read. The table's first places are those of the rack.
-pub fn check(
-    rack: usize,
-    lines: &[u64],
-    quantities: &[u8],
-    plan: &[u8],
-    claim: u32,
-    table: &[u32],
-) -> Result<(), Refused>
-    requires { GoodLines rack quantities.now lines.now }
-    ensures answer { refusal_of result
-        ≡ check_of none rack quantities.now lines.now plan.now claim table.now }
+pub fn check(lines: Lines<'_>, plan: &[u8], claim: u32, table: &[u32]) -> Result<(), Refused>
+    ensures answer { refusal_of result ≡ check_of none lines.entry.rack lines.entry.quantities.now lines.entry.sets.now
+        plan.now claim table.now }
     ensures rule { CheckRule
-        (best_refusal none rack lines.now (length plan.now) (length table.now)).number
-        rack quantities.now lines.now
+        (best_refusal none lines.entry.rack lines.entry.sets.now (length plan.now) (length table.now)).number
+        lines.entry.rack lines.entry.quantities.now lines.entry.sets.now
         plan.now claim table.now (refusal_of result).number }
 {
-    call_refusals::best_refusal(rack, lines, plan.len(), table.len())?;
-    let count = lines.len();
+    call_refusals::best_refusal(lines.rack, lines.sets, plan.len(), table.len())?;
     checking::check_plan(
-        ranks::names_of(lines),
-        rack,
-        lines,
-        quantities,
-        &plan[..count],
+        ranks::names_of(lines.sets),
+        lines.rack,
+        lines.sets,
+        lines.quantities,
+        &plan[..lines.len()],
         claim,
         table,
     )
 }
 
 // The bytes of the job file that is written.
-pub fn write(
-    rack: usize,
-    lines: &[u64],
-    quantities: &[u8],
-    out: &mut [u8],
-) -> Result<usize, Refused>
-    requires { GoodLines rack quantities.now lines.now }
-    ensures answer { file_told result ≡ write_of none quantities.now lines.now (length out.old) }
-    ensures buffer { out.new ≡ write_buffer none rack quantities.now lines.now out.old }
+pub fn write(lines: Lines<'_>, out: &mut [u8]) -> Result<usize, Refused>
+    ensures answer { file_told result
+        ≡ write_of none lines.entry.quantities.now lines.entry.sets.now (length out.old) }
+    ensures buffer { out.new
+        ≡ write_buffer none lines.entry.rack lines.entry.quantities.now lines.entry.sets.now out.old }
 {
     let count = lines.len();
-    let version = job_write::version_for(quantities);
+    let version = job_write::version_for(lines.quantities);
     call_refusals::write_refusal(version, count, out.len())?;
     let bytes = version.file_length(count);
-    job_write::write_file(rack, quantities, lines, &mut out[..bytes]);
+    job_write::write_file(lines.rack, lines.quantities, lines.sets, &mut out[..bytes]);
     Ok(bytes)
 }

@@ -4,7 +4,7 @@ use mathlib.Core.Path.{◌≡◌, refl, sym, ap, ◌∙◌}
 use mathlib.Core.List.{List, ◌++◌, append_assoc, append-nil}
 use native.Mathlib.Omega.{arith}
 use lib.ListN.{length, take, drop, length-drop, drop_of_length-le}
-use lib.Seq.{length-take-le, drop-drop, take_at, drop_at}
+use lib.Seq.{drop-drop, take_at, drop_at}
 use borrow.Author.Tests.{eq-eqb, le-ltb}
 use Rattle.model.specs.Choice.{bare}
 use Rattle.model.specs.Plan.{pairs}
@@ -12,8 +12,8 @@ use Rattle.model.proofs.Loops.{part-rest}
 use Rattle.placements.specs.Repeated.{repeated}
 use Rattle.placements.proofs.Plans.{length_quick}
 use Rattle.refusal.specs.Told.{Refusal}
-use Rattle.refusal.specs.Refusal.{none, or_else, Given}
-use Rattle.refusal.proofs.Laws.{number_of, or_first, or_same, refused, accepted, lent_refused, lent_accepted}
+use Rattle.refusal.specs.Refusal.{none, or_else}
+use Rattle.refusal.proofs.Laws.{number_of, or_first, refused, accepted, lent_refused, lent_accepted}
 use Rattle.call_refusals.specs.Calls.{plan_refusal}
 use Rattle.call_refusals.proofs.Calls.{plan_none}
 use Rattle.line_calls.specs.Answers.{PlanAnswer}
@@ -28,13 +28,6 @@ pub alone_stopped : (earlier : Refusal) (lines others : List ℕ) (room : ℕ) �
     → earlier ≡ alone_refusal earlier lines others room
 unfolding plan_refusal
 alone_stopped earlier lines others room f = or_first {d = earlier} refl _ f
-
-pub alone_counts : (earlier : Refusal) (room : ℕ) {m n o p : ℕ} {qs sets rs others : List ℕ}
-    → Given earlier m n qs sets → Given earlier o p rs others → {d : Refusal} → d ≡ plan_refusal earlier (n + p) room
-    → d ≡ alone_refusal earlier (take n sets) (take p others) room
-unfolding plan_refusal
-alone_counts earlier room {n} {p} {sets} {others} g h e =
-    e ∙ or_same earlier (λ z. rw (length-take-le n sets (g.room z), length-take-le p others (h.room z)) refl)
 
 -- the half rule speaks of the first bytes of a buffer, and only where the number is 0
 half_front : {qs lines x y : List ℕ} {k l shared : ℕ} → take (length lines) x ≡ take (length lines) y → (l ≡ 0 → k ≡ 0)

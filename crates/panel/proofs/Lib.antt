@@ -1,4 +1,3 @@
-pub mod Copied
 pub mod Panel
 pub mod Merged
 pub mod BothPlans

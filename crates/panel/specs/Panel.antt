@@ -1,5 +1,5 @@
 -- Two boards on one panel, in racks of m and o tips: what merging their lines and planning each alone answer after an earlier refusal.
-use Rattle.std.specs.Prelude.{ℕ, ◌+◌, ◌≤◌, not, List, ◌++◌, eqb, ltb, length, take}
+use Rattle.std.specs.Prelude.{ℕ, ◌+◌, not, List, ◌++◌, eqb, ltb, length}
 use Rattle.model.specs.Plan.{pairs}
 use Rattle.model.specs.Choice.{bare}
 use Rattle.model.specs.Limits.{most_lines, most_placements}
@@ -13,12 +13,6 @@ use Rattle.panel.specs.Answers.{AloneAnswer}
 -- the refusal of the first board, else that of the second
 abbrev pub first_of : Refusal → Refusal → Refusal
 first_of first second = or_else first second
-
--- the lines' quantities are there, and they are few
-pub record Counted (n : ℕ) (qs : List ℕ) : Type 0 where
-  pub room : n ≤ length qs
-  pub lines : n ≤ most_lines
-  pub few : total (take n qs) ≤ most_placements
 
 -- merge: racks that differ, then too many lines together, then too many placements together
 unfoldable pub merge_refusal : Refusal → ℕ → ℕ → ℕ → ℕ → Refusal

@@ -1,6 +1,5 @@
 // Each of two boards planned alone by the quick rule, without a mounted tip: the second plan stands behind the first.
 ghost use Rattle.std.specs.Prelude.{◌≡◌, length};
-ghost use Rattle.placements.specs.Good.{GoodLines};
 ghost use Rattle.refusal.specs.Refusal.{none};
 ghost use Rattle.refusal.specs.Reasons.{refusal_of};
 ghost use Rattle.panel.specs.Answers.{alone_told};
@@ -8,43 +7,30 @@ ghost use Rattle.panel.specs.Panel.{alone_of, alone_buffer};
 ghost use Rattle.panel.specs.Rules.{AloneRule};
 
 use crate::AlonePairs;
+use placements::Lines;
 use refusal::Refused;
 
-// The sets are the caller's working copies, which are used up.
-pub fn alone(
-    rack: usize,
-    lines: &mut [u64],
-    quantities: &[u8],
-    other_rack: usize,
-    other_lines: &mut [u64],
-    other_quantities: &[u8],
-    plan: &mut [u8],
-) -> Result<AlonePairs, Refused>
-    requires good { GoodLines rack quantities.now lines.old }
-    requires other_good { GoodLines other_rack other_quantities.now other_lines.old }
+pub fn alone(first: Lines<'_>, second: Lines<'_>, plan: &mut [u8]) -> Result<AlonePairs, Refused>
     ensures answer { alone_told result ≡ alone_of none
-        rack quantities.now lines.old
-        other_rack other_quantities.now other_lines.old
+        first.entry.rack first.entry.quantities.now first.entry.sets.now
+        second.entry.rack second.entry.quantities.now second.entry.sets.now
         (length plan.old) }
     ensures plan { plan.new ≡ alone_buffer none
-        rack quantities.now lines.old
-        other_rack other_quantities.now other_lines.old
+        first.entry.rack first.entry.quantities.now first.entry.sets.now
+        second.entry.rack second.entry.quantities.now second.entry.sets.now
         plan.old }
     ensures rule { AloneRule
-        quantities.now lines.old
-        other_quantities.now other_lines.old
+        first.entry.quantities.now first.entry.sets.now
+        second.entry.quantities.now second.entry.sets.now
         plan.new (refusal_of result).number
         (alone_told result).first_pairs (alone_told result).second_pairs }
 {
-    let count = lines.len();
-    call_refusals::plan_refusal(count + other_lines.len(), plan.len())?;
-    let first = line_calls::quick(rack, None, lines, quantities, plan)?;
-    let second = line_calls::quick(
-        other_rack,
-        None,
-        other_lines,
-        other_quantities,
-        &mut plan[count..],
-    )?;
-    Ok(AlonePairs { first, second })
+    let count = first.len();
+    call_refusals::plan_refusal(count + second.len(), plan.len())?;
+    let first_pairs = line_calls::quick(first, None, plan)?;
+    let second_pairs = line_calls::quick(second, None, &mut plan[count..])?;
+    Ok(AlonePairs {
+        first: first_pairs,
+        second: second_pairs,
+    })
 }

@@ -4,5 +4,5 @@ use Rattle.file_report.proofs.best_lines.Goals as goal
 pub returns : goal.returns
 returns c =
     let laid = c.best.ensures in
-    let (good, size) = c.requires in
-    best_ok c.best.result c.ok.ensures.value (best_is good c.args.plan.now size c.table_buffer-table.ensures laid.answer laid.plan)
+    let good = c.args.lines.good in
+    best_ok c.best.result c.ok.ensures.value (best_is good c.args.plan.now c.requires c.table_buffer-table.ensures laid.answer laid.plan)

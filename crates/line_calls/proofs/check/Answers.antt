@@ -13,27 +13,29 @@ returns-in_err-best_refusal c =
     let e = c.in_err-best_refusal.field-0.0 in
     let same : c.from_residual.result ≡ Err e = search rules in
     let first =
-    check_first none a.rack a.quantities.now a.lines.now a.plan.now a.claim a.table.now c.in_err-best_refusal.ensures (reason_not_0 e.reason) in
+    check_first none a.lines.rack a.lines.quantities.now a.lines.sets.now a.plan.now a.claim a.table.now c.in_err-best_refusal.ensures (reason_not_0 e.reason) in
     rw same (record {
       answer = first;
-      rule = check_rule none a.rack a.quantities.now a.lines.now a.plan.now a.claim a.table.now (λ _. c.requires) first;
+      rule = check_rule none a.lines.rack a.lines.quantities.now a.lines.sets.now a.plan.now a.claim a.table.now (λ _. c.args.lines.good) first;
     })
 
 pub slice_bounds-check_plan-end : goal.slice_bounds-check_plan-end
-slice_bounds-check_plan-end c = sym (length-take-le _ _ (best_none none _ _ _ _ (ap (λ r. r.number) (sym c.in_ok-best_refusal.ensures))).bytes)
+slice_bounds-check_plan-end c =
+    let room = (best_none none _ _ _ _ (ap (λ r. r.number) (sym c.in_ok-best_refusal.ensures))).bytes in
+    rw c.len.ensures (sym (length-take-le _ _ room))
 
 pub check_plan-requires : goal.check_plan-requires
 check_plan-requires c =
     let free = best_none none _ _ _ _ (ap (λ r. r.number) (sym c.in_ok-best_refusal.ensures)) in
-    (record { good = c.requires; runs = free.runs; all = c.names_of.ensures }, length-take-le _ _ free.bytes, free.cells)
+    (record { good = c.args.lines.good; runs = free.runs; all = c.names_of.ensures }, rw c.len.ensures (length-take-le _ _ free.bytes), free.cells)
 
 pub returns : goal.returns
 returns c =
     let a = c.args in
     let told =
-    check_next none a.rack a.quantities.now a.lines.now a.plan.now a.claim a.table.now c.in_ok-best_refusal.ensures refl refl
+    check_next none a.lines.rack a.lines.quantities.now a.lines.sets.now a.plan.now a.claim a.table.now c.in_ok-best_refusal.ensures refl c.len.ensures
     c.check_plan.ensures in
     record {
       answer = told;
-      rule = check_rule none a.rack a.quantities.now a.lines.now a.plan.now a.claim a.table.now (λ _. c.requires) told;
+      rule = check_rule none a.lines.rack a.lines.quantities.now a.lines.sets.now a.plan.now a.claim a.table.now (λ _. c.args.lines.good) told;
     }

@@ -1,7 +1,7 @@
-use mathlib.Core.Path.{◌≡◌, refl, sym, ap, ◌∙◌}
+use mathlib.Core.Path.{◌≡◌, refl, sym, ap, ap₂, ◌∙◌}
 use native.Mathlib.Omega.{arith}
 use lib.Seq.{length-take-le}
-use Rattle.std.proofs.Common.{rules, Err, length}
+use Rattle.std.proofs.Common.{rules, Err}
 use Rattle.refusal.specs.Refusal.{none}
 use Rattle.refusal.proofs.Laws.{reason_not_0}
 use Rattle.job.specs.Job.{file_length}
@@ -17,12 +17,12 @@ returns-in_err-write_refusal c =
     let e = c.in_err-write_refusal.field-0.0 in
     let same : c.from_residual.result ≡ Err e = search rules in
     let (answer, buffer) =
-    write-refused none a.rack a.quantities.now a.lines.now a.out.now c.in_err-write_refusal.ensures c.version_for-version.ensures refl
+    write-refused none a.lines.rack a.lines.quantities.now a.lines.sets.now a.out.now c.in_err-write_refusal.ensures c.version_for-version.ensures c.len-count.ensures
     (reason_not_0 e.reason) in
     rw same (record { answer = answer; buffer = buffer })
 
 pub file_length-bytes-requires : goal.file_length-bytes-requires
-file_length-bytes-requires c = omega (arith, file_few (version_number c.version_for-version.result) _ c.requires.few-lines)
+file_length-bytes-requires c = rw c.len-count.ensures (omega (arith, file_few (version_number c.version_for-version.result) _ c.args.lines.good.few-lines))
 
 pub slice_bounds-write_file-end : goal.slice_bounds-write_file-end
 slice_bounds-write_file-end c =
@@ -38,12 +38,12 @@ write_file-requires-clause-out_len c =
     let room = (write_none none _ _ _ (ap (λ r. r.number) (sym c.in_ok-write_refusal.ensures))).1 in
     length-take-le _ _ (omega (arith, c.file_length-bytes.ensures, room))
     ∙ c.file_length-bytes.ensures
-    ∙ ap (λ v. file_length v (length c.args.lines.now)) c.version_for-version.ensures
+    ∙ ap₂ file_length c.version_for-version.ensures c.len-count.ensures
 
 pub returns : goal.returns
 returns c =
     let a = c.args in
     let (answer, buffer) =
-    write_accepted none a.rack a.quantities.now a.lines.now a.out.now c.in_ok-write_refusal.ensures c.version_for-version.ensures refl refl
+    write_accepted none a.lines.rack a.lines.quantities.now a.lines.sets.now a.out.now c.in_ok-write_refusal.ensures c.version_for-version.ensures c.len-count.ensures refl
     c.file_length-bytes.ensures c.write_file.ensures in
     record { answer = answer; buffer = buffer }

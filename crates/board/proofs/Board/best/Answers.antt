@@ -6,53 +6,59 @@ use Rattle.board.proofs.Answers.{by_state, best-answer}
 use Rattle.board.proofs.Stopped.{mounted_state, best_stopped, best_same, table_same}
 use Rattle.board.proofs.Board.best.Goals as goal
 
-pub returns-in_err-state-clause-answer : goal.returns-in_err-state-clause-answer
-returns-in_err-state-clause-answer c =
-    let x = c.in_err-state.field-0.0 in
+pub returns-in_err-lines-clause-answer : goal.returns-in_err-lines-clause-answer
+returns-in_err-lines-clause-answer c =
+    let x = c.in_err-lines.field-0.0 in
     let e : c.from_residual.result ≡ Err x = search rules in
-    ap (shared_answered c.args.self.now) e ∙ best_stopped x c.args.self.now _ (mounted_state x c.args.self.now c.in_err-state.ensures _) _ _
+    ap (shared_answered c.args.self.now) e ∙ best_stopped x c.args.self.now _ (mounted_state x c.args.self.now c.in_err-lines.ensures.refusal _) _ _
 
-pub returns-in_err-state-clause-plan : goal.returns-in_err-state-clause-plan
-returns-in_err-state-clause-plan c =
-    let x = c.in_err-state.field-0.0 in
-    best_same x c.args.self.now _ (mounted_state x c.args.self.now c.in_err-state.ensures _) _ _
+pub returns-in_err-lines-clause-plan : goal.returns-in_err-lines-clause-plan
+returns-in_err-lines-clause-plan c =
+    let x = c.in_err-lines.field-0.0 in
+    best_same x c.args.self.now _ (mounted_state x c.args.self.now c.in_err-lines.ensures.refusal _) _ _
 
-pub returns-in_err-state-clause-table : goal.returns-in_err-state-clause-table
-returns-in_err-state-clause-table c =
-    let x = c.in_err-state.field-0.0 in
-    table_same x c.args.self.now _ (mounted_state x c.args.self.now c.in_err-state.ensures _) _ _
+pub returns-in_err-lines-clause-table : goal.returns-in_err-lines-clause-table
+returns-in_err-lines-clause-table c =
+    let x = c.in_err-lines.field-0.0 in
+    table_same x c.args.self.now _ (mounted_state x c.args.self.now c.in_err-lines.ensures.refusal _) _ _
 
 pub returns-in_err-mounted_refusal-clause-answer : goal.returns-in_err-mounted_refusal-clause-answer
 returns-in_err-mounted_refusal-clause-answer c =
     let x = c.in_err-mounted_refusal.field-0.0 in
     let e : c.from_residual-in_err-mounted_refusal.result ≡ Err x = search rules in
     ap (shared_answered c.args.self.now) e
-    ∙ best_stopped x c.args.self.now _ (by_state c.args.self.now _ c.in_ok-state.ensures c.in_err-mounted_refusal.ensures) _ _
+    ∙ best_stopped x c.args.self.now _ (by_state c.args.self.now _ c.in_ok-lines.ensures.refusal c.in_err-mounted_refusal.ensures) _ _
 
 pub returns-in_err-mounted_refusal-clause-plan : goal.returns-in_err-mounted_refusal-clause-plan
 returns-in_err-mounted_refusal-clause-plan c =
     best_same c.in_err-mounted_refusal.field-0.0 c.args.self.now _
-    (by_state c.args.self.now _ c.in_ok-state.ensures c.in_err-mounted_refusal.ensures) _ _
+    (by_state c.args.self.now _ c.in_ok-lines.ensures.refusal c.in_err-mounted_refusal.ensures) _ _
 
 pub returns-in_err-mounted_refusal-clause-table : goal.returns-in_err-mounted_refusal-clause-table
 returns-in_err-mounted_refusal-clause-table c =
     table_same c.in_err-mounted_refusal.field-0.0 c.args.self.now _
-    (by_state c.args.self.now _ c.in_ok-state.ensures c.in_err-mounted_refusal.ensures) _ _
+    (by_state c.args.self.now _ c.in_ok-lines.ensures.refusal c.in_err-mounted_refusal.ensures) _ _
 
 pub returns-clause-answer : goal.returns-clause-answer
 returns-clause-answer c =
     let p = c.best in
-    (best-answer c.args.self.now _ c.in_ok-state.ensures c.in_ok-mounted_refusal.ensures _ _
-    p.ensures.answer p.ensures.plan p.ensures.table).0
+    let l = c.in_ok-lines.ensures in
+    (best-answer c.args.self.now _ c.in_ok-lines.ensures.refusal c.in_ok-mounted_refusal.ensures _ _
+    (rw (l.rack, l.quantities, l.sets) at p.ensures.answer) (rw (l.rack, l.quantities, l.sets) at p.ensures.plan)
+    (rw (l.rack, l.quantities, l.sets) at p.ensures.table)).0
 
 pub returns-clause-plan : goal.returns-clause-plan
 returns-clause-plan c =
     let p = c.best in
-    (best-answer c.args.self.now _ c.in_ok-state.ensures c.in_ok-mounted_refusal.ensures _ _
-    p.ensures.answer p.ensures.plan p.ensures.table).1.0
+    let l = c.in_ok-lines.ensures in
+    (best-answer c.args.self.now _ c.in_ok-lines.ensures.refusal c.in_ok-mounted_refusal.ensures _ _
+    (rw (l.rack, l.quantities, l.sets) at p.ensures.answer) (rw (l.rack, l.quantities, l.sets) at p.ensures.plan)
+    (rw (l.rack, l.quantities, l.sets) at p.ensures.table)).1.0
 
 pub returns-clause-table : goal.returns-clause-table
 returns-clause-table c =
     let p = c.best in
-    (best-answer c.args.self.now _ c.in_ok-state.ensures c.in_ok-mounted_refusal.ensures _ _
-    p.ensures.answer p.ensures.plan p.ensures.table).1.1
+    let l = c.in_ok-lines.ensures in
+    (best-answer c.args.self.now _ c.in_ok-lines.ensures.refusal c.in_ok-mounted_refusal.ensures _ _
+    (rw (l.rack, l.quantities, l.sets) at p.ensures.answer) (rw (l.rack, l.quantities, l.sets) at p.ensures.plan)
+    (rw (l.rack, l.quantities, l.sets) at p.ensures.table)).1.1

@@ -6,32 +6,38 @@ use Rattle.board.proofs.JuniorCall.{junior_answer}
 use Rattle.board.proofs.Stopped.{junior_stopped, junior_same, junior_rule}
 use Rattle.board.proofs.Board.junior.Goals as goal
 
-pub returns-in_err-state-clause-answer : goal.returns-in_err-state-clause-answer
-returns-in_err-state-clause-answer c =
-    let x = c.in_err-state.field-0.0 in
+pub returns-in_err-lines-clause-answer : goal.returns-in_err-lines-clause-answer
+returns-in_err-lines-clause-answer c =
+    let x = c.in_err-lines.field-0.0 in
     let e : c.from_residual.result ≡ Err x = search rules in
-    ap (junior_answered c.args.self.now) e ∙ junior_stopped x c.args.self.now c.in_err-state.ensures _
+    ap (junior_answered c.args.self.now) e ∙ junior_stopped x c.args.self.now c.in_err-lines.ensures.refusal _
 
-pub returns-in_err-state-clause-buffer : goal.returns-in_err-state-clause-buffer
-returns-in_err-state-clause-buffer c = junior_same c.in_err-state.field-0.0 c.args.self.now c.in_err-state.ensures _
+pub returns-in_err-lines-clause-buffer : goal.returns-in_err-lines-clause-buffer
+returns-in_err-lines-clause-buffer c = junior_same c.in_err-lines.field-0.0 c.args.self.now c.in_err-lines.ensures.refusal _
 
-pub returns-in_err-state-clause-rule : goal.returns-in_err-state-clause-rule
-returns-in_err-state-clause-rule c =
-    let x = c.in_err-state.field-0.0 in
+pub returns-in_err-lines-clause-rule : goal.returns-in_err-lines-clause-rule
+returns-in_err-lines-clause-rule c =
+    let x = c.in_err-lines.field-0.0 in
     let e : c.from_residual.result ≡ Err x = search rules in
-    rw e (junior_rule x c.args.self.now c.in_err-state.ensures _ _)
+    rw e (junior_rule x c.args.self.now c.in_err-lines.ensures.refusal _ _)
 
 pub returns-clause-answer : goal.returns-clause-answer
 returns-clause-answer c =
     let j = c.junior in
-    (junior_answer c.args.self.now c.in_ok-state.ensures _ j.result j.ensures.answer j.ensures.plan j.ensures.rule).0
+    let l = c.in_ok-lines.ensures in
+    (junior_answer c.args.self.now c.in_ok-lines.ensures.refusal _ j.result (rw (l.rack, l.quantities, l.sets) at j.ensures.answer)
+    (rw (l.rack, l.quantities, l.sets) at j.ensures.plan) (rw (l.rack, l.quantities, l.sets) at j.ensures.rule)).0
 
 pub returns-clause-buffer : goal.returns-clause-buffer
 returns-clause-buffer c =
     let j = c.junior in
-    (junior_answer c.args.self.now c.in_ok-state.ensures _ j.result j.ensures.answer j.ensures.plan j.ensures.rule).1.0
+    let l = c.in_ok-lines.ensures in
+    (junior_answer c.args.self.now c.in_ok-lines.ensures.refusal _ j.result (rw (l.rack, l.quantities, l.sets) at j.ensures.answer)
+    (rw (l.rack, l.quantities, l.sets) at j.ensures.plan) (rw (l.rack, l.quantities, l.sets) at j.ensures.rule)).1.0
 
 pub returns-clause-rule : goal.returns-clause-rule
 returns-clause-rule c =
     let j = c.junior in
-    (junior_answer c.args.self.now c.in_ok-state.ensures _ j.result j.ensures.answer j.ensures.plan j.ensures.rule).1.1
+    let l = c.in_ok-lines.ensures in
+    (junior_answer c.args.self.now c.in_ok-lines.ensures.refusal _ j.result (rw (l.rack, l.quantities, l.sets) at j.ensures.answer)
+    (rw (l.rack, l.quantities, l.sets) at j.ensures.plan) (rw (l.rack, l.quantities, l.sets) at j.ensures.rule)).1.1

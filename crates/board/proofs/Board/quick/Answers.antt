@@ -6,35 +6,39 @@ use Rattle.board.proofs.Answers.{by_state, quick_answer}
 use Rattle.board.proofs.Stopped.{mounted_state, quick_stopped, quick_same}
 use Rattle.board.proofs.Board.quick.Goals as goal
 
-pub returns-in_err-state-clause-answer : goal.returns-in_err-state-clause-answer
-returns-in_err-state-clause-answer c =
-    let x = c.in_err-state.field-0.0 in
+pub returns-in_err-lines-clause-answer : goal.returns-in_err-lines-clause-answer
+returns-in_err-lines-clause-answer c =
+    let x = c.in_err-lines.field-0.0 in
     let e : c.from_residual.result ≡ Err x = search rules in
-    ap (shared_answered c.args.self.now) e ∙ quick_stopped x c.args.self.now _ (mounted_state x c.args.self.now c.in_err-state.ensures _) _
+    ap (shared_answered c.args.self.now) e ∙ quick_stopped x c.args.self.now _ (mounted_state x c.args.self.now c.in_err-lines.ensures.refusal _) _
 
-pub returns-in_err-state-clause-buffer : goal.returns-in_err-state-clause-buffer
-returns-in_err-state-clause-buffer c =
-    let x = c.in_err-state.field-0.0 in
-    quick_same x c.args.self.now _ (mounted_state x c.args.self.now c.in_err-state.ensures _) _
+pub returns-in_err-lines-clause-buffer : goal.returns-in_err-lines-clause-buffer
+returns-in_err-lines-clause-buffer c =
+    let x = c.in_err-lines.field-0.0 in
+    quick_same x c.args.self.now _ (mounted_state x c.args.self.now c.in_err-lines.ensures.refusal _) _
 
 pub returns-in_err-mounted_refusal-clause-answer : goal.returns-in_err-mounted_refusal-clause-answer
 returns-in_err-mounted_refusal-clause-answer c =
     let x = c.in_err-mounted_refusal.field-0.0 in
     let e : c.from_residual-in_err-mounted_refusal.result ≡ Err x = search rules in
     ap (shared_answered c.args.self.now) e
-    ∙ quick_stopped x c.args.self.now _ (by_state c.args.self.now _ c.in_ok-state.ensures c.in_err-mounted_refusal.ensures) _
+    ∙ quick_stopped x c.args.self.now _ (by_state c.args.self.now _ c.in_ok-lines.ensures.refusal c.in_err-mounted_refusal.ensures) _
 
 pub returns-in_err-mounted_refusal-clause-buffer : goal.returns-in_err-mounted_refusal-clause-buffer
 returns-in_err-mounted_refusal-clause-buffer c =
     quick_same c.in_err-mounted_refusal.field-0.0 c.args.self.now _
-    (by_state c.args.self.now _ c.in_ok-state.ensures c.in_err-mounted_refusal.ensures) _
+    (by_state c.args.self.now _ c.in_ok-lines.ensures.refusal c.in_err-mounted_refusal.ensures) _
 
 pub returns-clause-answer : goal.returns-clause-answer
 returns-clause-answer c =
     let q = c.quick in
-    (quick_answer c.args.self.now _ c.in_ok-state.ensures c.in_ok-mounted_refusal.ensures _ q.ensures.answer q.ensures.plan).0
+    let l = c.in_ok-lines.ensures in
+    (quick_answer c.args.self.now _ c.in_ok-lines.ensures.refusal c.in_ok-mounted_refusal.ensures _
+    (rw (l.rack, l.quantities, l.sets) at q.ensures.answer) (rw (l.rack, l.quantities, l.sets) at q.ensures.plan)).0
 
 pub returns-clause-buffer : goal.returns-clause-buffer
 returns-clause-buffer c =
     let q = c.quick in
-    (quick_answer c.args.self.now _ c.in_ok-state.ensures c.in_ok-mounted_refusal.ensures _ q.ensures.answer q.ensures.plan).1
+    let l = c.in_ok-lines.ensures in
+    (quick_answer c.args.self.now _ c.in_ok-lines.ensures.refusal c.in_ok-mounted_refusal.ensures _
+    (rw (l.rack, l.quantities, l.sets) at q.ensures.answer) (rw (l.rack, l.quantities, l.sets) at q.ensures.plan)).1

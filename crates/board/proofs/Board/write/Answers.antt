@@ -5,35 +5,35 @@ use Rattle.board.specs.Told.{written_answered}
 use Rattle.board.proofs.Sets.{Full}
 use Rattle.board.proofs.JobFileRule.{write_clauses}
 use Rattle.board.proofs.Stopped.{write_stopped, write_same}
-use Rattle.board.proofs.Board.write.Goals.{After-state}
+use Rattle.board.proofs.Board.write.Goals.{After-lines}
 use Rattle.board.proofs.Board.write.Goals as goal
 
-full : (c : After-state) → Full c.args.self.now
+full : (c : After-lines) → Full c.args.self.now
 full c = record { sets_full = search rules; quantities_full = search rules }
 
-pub returns-in_err-state-clause-answer : goal.returns-in_err-state-clause-answer
-returns-in_err-state-clause-answer c =
-    let x = c.in_err-state.field-0.0 in
+pub returns-in_err-lines-clause-answer : goal.returns-in_err-lines-clause-answer
+returns-in_err-lines-clause-answer c =
+    let x = c.in_err-lines.field-0.0 in
     let e : c.from_residual.result ≡ Err x = search rules in
-    ap (written_answered c.args.self.now) e ∙ write_stopped x c.args.self.now c.in_err-state.ensures _
+    ap (written_answered c.args.self.now) e ∙ write_stopped x c.args.self.now c.in_err-lines.ensures.refusal _
 
-pub returns-in_err-state-clause-buffer : goal.returns-in_err-state-clause-buffer
-returns-in_err-state-clause-buffer c = write_same c.in_err-state.field-0.0 c.args.self.now c.in_err-state.ensures _
+pub returns-in_err-lines-clause-buffer : goal.returns-in_err-lines-clause-buffer
+returns-in_err-lines-clause-buffer c = write_same c.in_err-lines.field-0.0 c.args.self.now c.in_err-lines.ensures.refusal _
 
 pub returns-clause-answer : goal.returns-clause-answer
 returns-clause-answer c =
-    let q = c.as_bytes-quantities.ensures in
-    (write_clauses c.args.self.now _ (full (goal.at.returns-clause-answer c).After-state) (rw q.same at q.bytes) c.in_ok-state.ensures
-    (rw q.same at c.write.ensures.answer) (rw q.same at c.write.ensures.buffer)).0
+    let l = c.in_ok-lines.ensures in
+    (write_clauses c.args.self.now _ (full (goal.at.returns-clause-answer c).After-lines) (rw l.quantities at l.bytes) l.refusal
+    (rw (l.quantities, l.sets) at c.write.ensures.answer) (rw (l.rack, l.quantities, l.sets) at c.write.ensures.buffer)).0
 
 pub returns-clause-buffer : goal.returns-clause-buffer
 returns-clause-buffer c =
-    let q = c.as_bytes-quantities.ensures in
-    (write_clauses c.args.self.now _ (full (goal.at.returns-clause-buffer c).After-state) (rw q.same at q.bytes) c.in_ok-state.ensures
-    (rw q.same at c.write.ensures.answer) (rw q.same at c.write.ensures.buffer)).1.0
+    let l = c.in_ok-lines.ensures in
+    (write_clauses c.args.self.now _ (full (goal.at.returns-clause-buffer c).After-lines) (rw l.quantities at l.bytes) l.refusal
+    (rw (l.quantities, l.sets) at c.write.ensures.answer) (rw (l.rack, l.quantities, l.sets) at c.write.ensures.buffer)).1.0
 
 pub returns-clause-rule : goal.returns-clause-rule
 returns-clause-rule c =
-    let q = c.as_bytes-quantities.ensures in
-    (write_clauses c.args.self.now _ (full (goal.at.returns-clause-rule c).After-state) (rw q.same at q.bytes) c.in_ok-state.ensures
-    (rw q.same at c.write.ensures.answer) (rw q.same at c.write.ensures.buffer)).1.1
+    let l = c.in_ok-lines.ensures in
+    (write_clauses c.args.self.now _ (full (goal.at.returns-clause-rule c).After-lines) (rw l.quantities at l.bytes) l.refusal
+    (rw (l.quantities, l.sets) at c.write.ensures.answer) (rw (l.rack, l.quantities, l.sets) at c.write.ensures.buffer)).1.1
