@@ -1,11 +1,11 @@
 //! Plans from other software, checked by the proved library.
 
-use second::refusal::{FOREIGN_TIP, NO_RUN, TABLE_FAILS, WRONG_CLAIM};
-use second::{pairs_in, Board, Line, TableFault};
+use job_file::refusal::{FOREIGN_TIP, NO_RUN, TABLE_FAILS, WRONG_CLAIM};
 
 use crate::handed::Handed;
-use crate::job::Job;
-use crate::planning::{job_of, Named, Plan};
+use crate::job::{job_of, Job, Line};
+use crate::planning::{Named, Plan};
+use crate::table_fault::{pairs_in, table_fault, TableFault};
 use crate::tips_in_words;
 
 /// Why a plan is not accepted, and which file that is about.
@@ -83,15 +83,15 @@ fn first_foreign(job: &Job, handed: &Handed) -> Option<usize> {
 }
 
 /// The pairs of the plan.
-fn pairs_of(job: &Job, handed: &Handed) -> u32 {
-    pairs_in(&Board::of_lines(job.rack, &job.lines).placed(&plan_of(handed)))
+fn pairs_of(job: &Job, handed: &Handed) -> u64 {
+    pairs_in(job, &plan_of(handed))
 }
 
 /// What can be checked without a table, for a list that has no best plan.
 fn number_without_table(job: &Job, handed: &Handed) -> u32 {
     if first_foreign(job, handed).is_some() {
         FOREIGN_TIP
-    } else if pairs_of(job, handed) != handed.claim {
+    } else if pairs_of(job, handed) != u64::from(handed.claim) {
         WRONG_CLAIM
     } else {
         0
@@ -101,7 +101,7 @@ fn number_without_table(job: &Job, handed: &Handed) -> u32 {
 /// The first entry of the table that shows too little.
 fn fault_of_table(job: &Job, handed: &Handed) -> String {
     let table = handed.table.as_deref().unwrap_or_default();
-    match Board::of_lines(job.rack, &job.lines).table_fault(handed.claim, table) {
+    match table_fault(job, handed.claim, table) {
         Some(TableFault::NotTheClaim { entry }) => {
             let claim = handed.claim;
             format!("the table has {entry} for the whole rack, and the plan {claim} pairs; correct the table or the plan")

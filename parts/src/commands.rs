@@ -12,7 +12,7 @@ use parts::import::kicad;
 use parts::import::openpnp::{Board, Packages, Parts};
 use parts::import::table::Table;
 use parts::import::{is_foreign, Faults, Placement, Sides};
-use parts::job::{has_mark, Job};
+use parts::job::{has_mark, job_of, list_in_words};
 use parts::list::{Fault, List};
 use parts::mending;
 use parts::panel::Panel;
@@ -103,8 +103,8 @@ pub fn make(arguments: &[&str]) -> Result<(), Failure> {
 pub fn show(arguments: &[&str]) -> Result<(), Failure> {
     let [path] = arguments else { return Err(Failure::Arguments) };
     let file = input_of(path)?.bytes;
-    let job = Job::read(&file).map_err(|refusal| about(path, refusal.in_words(&file)))?;
-    print(job.in_words().as_bytes())
+    let job = job_of(&file).map_err(|why| about(path, why))?;
+    print(list_in_words(&job).as_bytes())
 }
 
 pub fn sort(arguments: &[&str]) -> Result<(), Failure> {
@@ -201,7 +201,7 @@ pub fn panel(arguments: &[&str]) -> Result<(), Failure> {
     let [first, second] = inputs.map(|input| input.bytes);
     let [first, second] = [named(paths[0], first)?, named(paths[1], second)?];
     for (path, board) in paths.iter().zip([&first, &second]) {
-        Job::read(&board.file).map_err(|refusal| about(path, refusal.in_words(&board.file)))?;
+        job_of(&board.file).map_err(|why| about(path, why))?;
     }
     let panel = Panel::of(&first, &second).map_err(Failure::Refused)?;
     let (text, file) = match panel.merged {

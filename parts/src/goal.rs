@@ -1,8 +1,9 @@
 //! Tips struck by a goal of pairs, by the proved library.
 
-use second::refusal::{GOAL_MISSED, NO_RUN};
+use job_file::refusal::{GOAL_MISSED, NO_RUN};
 
-use crate::planning::{job_of, Kept, Named};
+use crate::job::job_of;
+use crate::planning::{Kept, Named};
 
 impl Named {
     /// Strikes the tips that no plan with so many pairs has.

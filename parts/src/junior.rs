@@ -1,10 +1,10 @@
 //! Plans for the Junior, which carries two tips at once, by the proved library.
 
-use second::refusal::{FULL, NO_TWO_TIPS, RACK_SIZE};
-use second::{JUNIOR_LINES, JUNIOR_TIPS};
+use job_file::refusal::{FULL, NO_TWO_TIPS, RACK_SIZE};
+use library::{JUNIOR_LINES, JUNIOR_TIPS};
 
-use crate::job::Job;
-use crate::planning::{job_of, Named};
+use crate::job::{job_of, Job};
+use crate::planning::Named;
 use crate::tips_in_words;
 
 impl Named {

@@ -9,14 +9,17 @@ pub mod job;
 pub mod junior;
 pub mod list;
 pub mod mending;
+pub mod no_order;
 pub mod ordering;
 pub mod page;
 pub mod panel;
 pub mod picture;
 pub mod planning;
 pub mod refusal;
+pub mod table_fault;
 
-pub use second::{MOST_LINES, MOST_PARTS, MOST_PLACEMENTS, MOST_TIPS};
+pub use job_file::{MOST_LINES, MOST_PLACEMENTS, MOST_TIPS};
+pub use library::MOST_PARTS;
 
 /// The largest quantity of a part.
 pub const MOST_QUANTITY: usize = u8::MAX as usize;

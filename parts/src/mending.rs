@@ -1,11 +1,14 @@
 //! Job files mended by the proved library, with each change in words.
 
-use second::file::{AT_COUNT, AT_RACK, AT_VERSION, HEAD};
-use second::{Version, CHANGE, WHOLE_FILE};
+use job_file::{Head, Version, HEAD};
 
-use crate::planning::job_of;
-use crate::refusal::Refusal;
-use crate::{counted, tips_in_words, MOST_PLACEMENTS};
+use crate::job::job_of;
+use crate::{counted, refusal, tips_in_words, MOST_PLACEMENTS};
+
+/// The bytes of a change in a report: the line, 16 bits, and what was changed.
+const CHANGE: usize = 3;
+/// The line of a change that is about the whole file.
+const WHOLE_FILE: u16 = u16::MAX;
 
 /// A mended job file, and what is said of each change.
 pub struct Mended {
@@ -18,10 +21,8 @@ pub fn mend(found: &[u8]) -> Result<Mended, String> {
     // Nothing written is longer than the file found, and no line gets more than three changes.
     let mut file = vec![0; found.len()];
     let mut report = vec![0; library::LONGEST_CHANGES];
-    let lengths = library::mend(found, &mut file, &mut report).map_err(|refusal| {
-        let refusal = Refusal { number: refusal.number, line: refusal.line as usize };
-        refusal.in_words(found)
-    })?;
+    let lengths = library::mend(found, &mut file, &mut report)
+        .map_err(|refusal| refusal::in_words(refusal.number, refusal.line as usize, found))?;
     file.truncate(lengths.file as usize);
     report.truncate(lengths.report as usize);
     let job = job_of(&file)?;
@@ -49,21 +50,20 @@ struct Found<'a> {
 
 impl<'a> Found<'a> {
     fn new(bytes: &'a [u8], report: &[u8], written: usize) -> Found<'a> {
-        let number = |place: usize| u16::from(bytes[place]) << 8 | u16::from(bytes[place + 1]);
-        let changes =
-            report.chunks(CHANGE).map(|change| (u16::from(change[0]) << 8 | u16::from(change[1]), change[2])).collect();
+        let head = Head::of(bytes).expect("a file that can be mended has 8 bytes");
+        let changes = report.chunks(CHANGE).map(|change| (u16::from_be_bytes([change[0], change[1]]), change[2]));
         Found {
             bytes,
-            version: Version::of_number(number(AT_VERSION.start)).unwrap_or(Version::One),
-            rack: usize::from(bytes[AT_RACK]),
-            said: number(AT_COUNT.start).into(),
+            version: head.form(),
+            rack: head.rack.into(),
+            said: head.count.into(),
             written,
-            changes,
+            changes: changes.collect(),
         }
     }
 
     fn set(&self, line: usize) -> u64 {
-        self.bytes[self.version.at_set(line)].iter().fold(0, |set, &byte| set << 8 | u64::from(byte))
+        self.version.line_in(self.bytes, line).set
     }
 
     /// The number of lines that were read.

@@ -1,15 +1,13 @@
 //! The placing order of a parts list, by name, and why there is none.
 
-use second::{Because, OrderFault, Part as Placed, Placing, Rule, Window};
-
-use crate::list::List;
+use crate::list::{List, Part};
+use crate::no_order::{Because, OrderFault, Placing, Rule, Window};
 use crate::{counted, MOST_PARTS};
 
 impl List {
     /// The order in which the parts are placed, or why there is none.
     pub fn order(&self) -> Result<String, String> {
-        let parts: Vec<library::Part> = (0..self.parts.len()).map(|part| self.placed(part)).collect();
-        let rules = self.numbers_of_rules();
+        let (parts, rules) = (self.placed_parts(), self.numbers_of_rules());
         let mut order = vec![0; parts.len()];
         library::order(&parts, &rules, &mut order).map_err(|refusal| {
             format!("refused {}: {}", refusal.number, self.no_order(refusal.number, refusal.line as usize))
@@ -21,10 +19,13 @@ impl List {
         Ok(text)
     }
 
-    /// The part as the library takes it; where the list names no positions, it may have any.
-    fn placed(&self, part: usize) -> library::Part {
-        let (first, last) = self.parts[part].at.unwrap_or((0, self.parts.len() as u32 - 1));
-        library::Part { first, last, fine: self.parts[part].fine, tall: self.parts[part].tall }
+    /// The parts as the library takes them; where the list names no positions, a part may have any.
+    fn placed_parts(&self) -> Vec<library::Part> {
+        let placed = |part: &Part| {
+            let (first, last) = part.at.unwrap_or((0, self.parts.len() as u32 - 1));
+            library::Part { first, last, fine: part.fine, tall: part.tall }
+        };
+        self.parts.iter().map(placed).collect()
     }
 
     fn numbers_of_rules(&self) -> Vec<Rule> {
@@ -63,13 +64,8 @@ impl List {
 
     /// Why no order obeys.
     fn reason(&self) -> String {
-        let part = |part: usize| {
-            let library::Part { first, last, fine, tall } = self.placed(part);
-            Placed { first, last, fine, tall }
-        };
-        let parts: Vec<Placed> = (0..self.parts.len()).map(part).collect();
-        let rules = self.numbers_of_rules();
-        let placing = Placing { parts: &parts, rules: &rules };
+        let parts = self.placed_parts();
+        let placing = Placing::new(&parts, &self.numbers_of_rules());
         match placing.fault() {
             Some(OrderFault::Cycle(cycle)) => self.cycle_in_words(&cycle),
             Some(OrderFault::NoPosition { part, window }) => self.no_position(&placing, part, window),

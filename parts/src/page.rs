@@ -1,8 +1,8 @@
 //! One page of a parts list, as HTML that needs no network: the drawing, tips used and changes, and a table of the parts.
 
-use crate::job::Job;
+use crate::job::{job_of, Job};
 use crate::picture::escaped;
-use crate::planning::{job_of, Named, Plan, Plans};
+use crate::planning::{Named, Plan, Plans};
 use crate::{counted, tips_in_words};
 
 /// The page with its style and its few lines of script; TITLE, PAPER and BODY are replaced.

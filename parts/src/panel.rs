@@ -1,9 +1,9 @@
 //! Two boards on one panel, merged and planned by the proved library.
 
-use second::refusal::{FULL, RACKS_DIFFER, TOO_MANY_PLACEMENTS};
+use job_file::refusal::{FULL, RACKS_DIFFER, TOO_MANY_PLACEMENTS};
 
-use crate::job::Job;
-use crate::planning::{common_in_words, job_of, no_run_in_words, Named, Plans};
+use crate::job::{job_of, Job};
+use crate::planning::{common_in_words, no_run_in_words, Named, Plans};
 use crate::{counted, MOST_LINES, MOST_PLACEMENTS};
 
 /// Two boards, each planned alone, and merged where they can be.

@@ -3,7 +3,7 @@
 use std::ops::Range;
 
 use crate::counted;
-use crate::job::Job;
+use crate::job::{named_tips, Job};
 use crate::planning::{Named, Plan, Plans};
 
 /// The side of a cell.
@@ -136,7 +136,7 @@ fn heading(kind: Kind, left: usize, job: &Job, words: &str) -> Vec<String> {
         format!(r#"<text x="{left}" y="{}" font-size="18" fill="{INK}">"#, TOP - 50),
         format!(r#"<tspan font-weight="bold" fill="{colour}">{name}:</tspan> {words}</text>"#),
     ];
-    let named = job.named_tips();
+    let named = named_tips(job);
     for tip in 0..job.rack {
         // A tip that no part has counts for no run.
         let colour = if named >> tip & 1 == 1 { INK } else { GREY };

@@ -4,7 +4,7 @@ use std::fmt::Display;
 
 use library::CommonTip;
 
-use crate::job::Job;
+use crate::job::{job_of, list_in_words, missed_tip, Job};
 use crate::list::List;
 use crate::{counted, quantity_in_words, refusal, tips_in_words};
 
@@ -60,7 +60,7 @@ impl Named {
     }
 
     pub(crate) fn refused(&self, refusal: library::Refusal) -> String {
-        refusal::Refusal { number: refusal.number, line: refusal.line as usize }.in_words(&self.file)
+        refusal::in_words(refusal.number, refusal.line as usize, &self.file)
     }
 
     fn common(&self) -> Result<CommonTip, String> {
@@ -95,7 +95,7 @@ impl Named {
             text += &format!("{} keeps {} struck {struck}\n", self.label_in(&before, line), tips_in_words(has.set));
         }
         text += &format!("no tip struck from {}\n", counted(same, "part"));
-        let list = self.list.as_ref().map_or_else(|| after.in_words(), |list| list.with_tips(&after.lines));
+        let list = self.list.as_ref().map_or_else(|| list_in_words(&after), |list| list.with_tips(&after.lines));
         Ok(Kept { text, file, list })
     }
 
@@ -221,8 +221,7 @@ impl Plans {
 
 /// That a line is no run, what it lacks, and who has it, by these names.
 pub(crate) fn no_run_in_words(job: &Job, line: usize, label: impl Fn(usize) -> String) -> String {
-    let missing = job
-        .missed_tip(line)
+    let missing = missed_tip(job, line)
         .map_or(String::new(), |(tip, other)| format!(": it lacks tip {tip}, which {} has", label(other)));
     format!("{} is no run{missing}", label(line))
 }
@@ -242,8 +241,4 @@ fn without_plan(k: u16, margin: i64) -> String {
 fn not_in_rack(tip: usize, rack: usize) -> String {
     let name = if rack == 1 { "tip 0".into() } else { format!("a tip from 0 to {}", rack - 1) };
     format!("refused 16: the mounted tip {tip} is outside the rack of {rack}; name {name}, or none")
-}
-
-pub(crate) fn job_of(file: &[u8]) -> Result<Job, String> {
-    Job::read(file).map_err(|refusal| refusal.in_words(file))
 }

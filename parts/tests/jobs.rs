@@ -1,8 +1,8 @@
 //! Job files: made from lists and back, and refused by the numbers of the proved library.
 
-use parts::job::{Job, Line};
+use job_file::Refusal;
+use parts::job::{job_of, list_in_words, Job, Line};
 use parts::list::List;
-use parts::refusal::Refusal;
 
 /// The example of the rules: rack 3, lines {0} and {1,2}.
 const EXAMPLE: [u8; 24] = *b"TIP\x00\x01\x03\x00\x02\x00\x00\x00\x00\x00\x00\x00\x01\x00\x00\x00\x00\x00\x00\x00\x06";
@@ -16,7 +16,7 @@ fn make(text: &str) -> Vec<u8> {
 }
 
 fn show(file: &[u8]) -> String {
-    Job::read(file).expect("a good file").in_words()
+    list_in_words(&Job::read(file).expect("a good file"))
 }
 
 /// Seeded numbers, by a linear congruence.
@@ -195,6 +195,6 @@ fn every_refusal_says_what_to_do() {
         (too_many, "refused 30: 2052 placements with line 8; 2048 is the most, split the parts list"),
     ];
     for (file, words) in cases {
-        assert_eq!(Job::read(&file).unwrap_err().in_words(&file), words);
+        assert_eq!(job_of(&file).unwrap_err(), words);
     }
 }

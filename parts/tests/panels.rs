@@ -1,6 +1,6 @@
 //! Two boards on one panel, by the names of their parts.
 
-use parts::job::Job;
+use parts::job::{list_in_words, Job};
 use parts::list::List;
 use parts::panel::Panel;
 use parts::planning::Named;
@@ -37,7 +37,7 @@ fn parts_have_their_tips_alone_and_on_the_panel() {
     );
     assert!(text.ends_with("pairs quick 4 best 4\ntip changes quick 1 best 1, parts placed tip by tip\n"));
     let job = Job::read(&file).unwrap();
-    assert_eq!(job.in_words(), "rack 3\n0 : 0\n1 x2 : 0-1\n2 : 1-2\n3 : 2\n");
+    assert_eq!(list_in_words(&job), "rack 3\n0 : 0\n1 x2 : 0-1\n2 : 1-2\n3 : 2\n");
 }
 
 #[test]
