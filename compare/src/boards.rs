@@ -1,8 +1,10 @@
 //! Boards to compare on: every small one, and seeded ones of many shapes, with quantities and without, on every tip of the
 //! rack and on some of them alone.
 
-use second::{Board, Line, Version, MOST_PLACEMENTS};
+use job_file::{Version, MOST_PLACEMENTS};
+use second::{Board, Line};
 
+use crate::files::{file_in, file_of};
 use crate::random::Random;
 
 /// The set of the tips from first to last.
@@ -18,7 +20,7 @@ fn counted(rack: usize, lines: &[(u64, u8)]) -> Board {
 
 /// Whether some quantity is not 1.
 pub fn is_counted(board: &Board) -> bool {
-    board.version() == Version::Two
+    board.lines().any(|line| line.quantity != 1)
 }
 
 /// Whether the set has every tip between its lowest and its highest, named or not.
@@ -244,9 +246,9 @@ pub fn seeded_board(random: &mut Random, size: Size) -> Board {
 /// A job file of the board: in the version that it is written in, and where it can be the first, sometimes the second.
 pub fn seeded_file(random: &mut Random, board: &Board) -> Vec<u8> {
     if random.once_in(4) {
-        board.file_in(Version::Two)
+        file_in(board, Version::Two)
     } else {
-        board.file()
+        file_of(board)
     }
 }
 
@@ -383,6 +385,7 @@ fn rotated(set: u64, rack: usize, by: usize) -> u64 {
 #[cfg(test)]
 mod tests {
     use super::*;
+    use crate::files::board_in;
 
     #[test]
     fn seeded_boards_are_sound_and_the_same_for_one_seed() {
@@ -391,8 +394,8 @@ mod tests {
                 let board = seeded_board(&mut Random::new(seed), size);
                 assert!(board.is_sound());
                 assert_eq!(board, seeded_board(&mut Random::new(seed), size));
-                assert_eq!(second::read(&board.file()).board, board);
-                assert_eq!(second::read(&seeded_file(&mut Random::new(seed), &board)).board, board);
+                assert_eq!(board_in(&file_of(&board)).as_ref(), Ok(&board));
+                assert_eq!(board_in(&seeded_file(&mut Random::new(seed), &board)), Ok(board));
             }
         }
     }

@@ -1,7 +1,6 @@
 //! Job files with something wrong in them.
 
-use second::file::{AT_COUNT, AT_RACK, AT_VERSION, HEAD};
-use second::{Version, LONGEST_INPUT, MOST_PLACEMENTS};
+use job_file::{Head, Version, AT_COUNT, AT_RACK, AT_VERSION, HEAD, LONGEST_FILE, MOST_PLACEMENTS};
 
 use crate::random::Random;
 
@@ -10,9 +9,9 @@ pub const KINDS: usize = 24;
 /// Those with too many placements, which need 9 lines at least.
 pub const TOO_MANY_PLACEMENTS: [usize; 2] = [19, 20];
 
-/// The version that a file of 8 bytes at least names, the first where it names none.
+/// The version that a file names, the first where it names none.
 fn version_of(file: &[u8]) -> Version {
-    Version::of_number(u16::from_be_bytes([file[AT_VERSION.start], file[AT_VERSION.start + 1]])).unwrap_or(Version::One)
+    Head::of(file).map_or(Version::One, |head| head.form())
 }
 
 /// The number of whole lines in a file.
@@ -130,8 +129,8 @@ pub fn damage(random: &mut Random, file: &mut Vec<u8>, kind: usize) {
         }
         // Longer than any good file.
         15 => {
-            let any = random.from_to(LONGEST_INPUT, 9000);
-            file.resize(random.one_of(&[LONGEST_INPUT, LONGEST_INPUT + 1, LONGEST_INPUT + 7, any]), 1);
+            let any = random.from_to(LONGEST_FILE + 1, 9000);
+            file.resize(random.one_of(&[LONGEST_FILE + 1, LONGEST_FILE + 2, LONGEST_FILE + 8, any]), 1);
         }
         // A line of quantity 0.
         16 if lines > 0 => put_quantity(file, random.below(lines), 0),
@@ -219,9 +218,11 @@ pub fn damaged(random: &mut Random, file: &[u8]) -> Vec<u8> {
 mod tests {
     use std::collections::BTreeSet;
 
+    use job_file::{Job, Refusal};
     use second::Board;
 
     use super::*;
+    use crate::files::{file_in, number_of};
 
     #[test]
     fn every_refusal_of_reading_is_reached() {
@@ -231,7 +232,7 @@ mod tests {
         let mut random = Random::new(7);
         for (seen, version) in seen.iter_mut().zip([Version::One, Version::Two]) {
             for _ in 0..2000 {
-                seen.insert(second::read(&damaged(&mut random, &board.file_in(version))).number);
+                seen.insert(number_of(&damaged(&mut random, &file_in(&board, version))));
             }
         }
         let [first, second] = seen.map(Vec::from_iter);
@@ -243,13 +244,13 @@ mod tests {
     fn quantities_are_raised_to_any_number_of_placements() {
         let board = Board::of_sets(3, &[1; 40]);
         for placements in [41, 1000, MOST_PLACEMENTS, MOST_PLACEMENTS + 1, 40 * 255] {
-            let mut file = board.file_in(Version::Two);
+            let mut file = file_in(&board, Version::Two);
             raise_to(&mut Random::new(3), &mut file, placements);
             let quantities = quantities_in(&file);
             assert_eq!(quantities.iter().map(|&quantity| usize::from(quantity)).sum::<usize>(), placements);
-            let number = if placements > MOST_PLACEMENTS { 30 } else { 0 };
-            let answer = second::read(&file);
-            assert_eq!((answer.number, answer.place), (number, first_to_pass(&quantities).unwrap_or(0)));
+            let passed = first_to_pass(&quantities);
+            assert_eq!(passed.is_some(), placements > MOST_PLACEMENTS);
+            assert_eq!(Job::read(&file).err(), passed.map(|line| Refusal { number: 30, line }));
         }
     }
 }

@@ -3,6 +3,7 @@
 pub mod boards;
 pub mod check;
 pub mod damage;
+pub mod files;
 pub mod handed;
 pub mod mistakes;
 pub mod order_mistakes;

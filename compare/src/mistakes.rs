@@ -3,13 +3,14 @@
 //! Every one is the linked library with another file, bound or buffer lent to it, or with something changed in what it
 //! wrote, so that nothing is worked out a third time.
 
-use second::file::{AT_COUNT, AT_RACK, AT_VERSION, HEAD, MARK};
+use job_file::{Version, AT_COUNT, AT_RACK, AT_VERSION, HEAD, LONGEST_FILE, MARK, MOST_PLACEMENTS};
 use second::interface::{ANSWER_PLACES, NO_TIP, REPORT_SPACE};
-use second::{Board, Line, Version, LONGEST_FILE, MOST_PLACEMENTS};
+use second::{Board, Line};
 
 use crate::boards::{is_counted, is_unbroken, single};
 use crate::check::{call_library, Buffers, Call, Caller, Lent};
 use crate::damage::{first_to_pass, quantities_in};
+use crate::files::{board_in, file_in, file_of, line_in, put_line, version_of};
 use crate::handed::{keeps, stopping, wrapping, Handed, Rule};
 use crate::sought;
 
@@ -184,7 +185,7 @@ const OF_KEEP: &[Mistake] = &[
     ("tip 63 is never struck", |call, lent| on_kept(call, lent, |_, kept, given| kept | given & 1 << 63)),
     ("the output is looked at before the margin", |call, lent| {
         let returned = call_library(call, lent);
-        let written = board_of(lent).map_or(0, |board| board.file().len());
+        let written = board_of(lent).map_or(0, |board| file_of(&board).len());
         if refusal(call, returned) == 26 && lent.bytes.length < written {
             lent.answer.inside()[1] = 0;
             return 11;
@@ -611,7 +612,7 @@ const OF_COUNTING_PLACEMENTS: &[Mistake] = &[
             if is_counted(board) {
                 let mut table = vec![0; board.rack * board.rack];
                 let plan = &mut lent.bytes.inside()[..board.count];
-                library::best(&single(board).file(), mounted_tip(call), plan, &mut table).expect("a board of runs");
+                library::best(&file_of(&single(board)), mounted_tip(call), plan, &mut table).expect("a board of runs");
             }
         })
     }),
@@ -688,7 +689,7 @@ const OF_KEEPING_PLACEMENTS: &[Mistake] = &[
     ("quantities are written as 1", |call, lent| {
         on_written(call, lent, |kept| {
             let lines: Vec<Line> = kept.lines().map(|Line { set, .. }| Line { set, quantity: 1 }).collect();
-            Board::of_lines(kept.rack, &lines).file_in(kept.version())
+            file_in(&Board::of_lines(kept.rack, &lines), version_of(&kept))
         })
     }),
 ];
@@ -731,7 +732,7 @@ const OF_VERSIONS: &[Mistake] = &[
     }),
     ("a file of version 2 is written back as version 2", |call, lent| {
         if head_of(lent.file.inside()).is_some_and(|head| head.version == 2) {
-            on_written(call, lent, |kept| kept.file_in(Version::Two))
+            on_written(call, lent, |kept| file_in(&kept, Version::Two))
         } else {
             call_library(call, lent)
         }
@@ -739,16 +740,16 @@ const OF_VERSIONS: &[Mistake] = &[
     ("a file of version 2 without lines is written back as version 2", |call, lent| {
         let version = head_of(lent.file.inside()).map_or(0, |head| head.version);
         on_written(call, lent, |kept| {
-            kept.file_in(if kept.count == 0 && version == 2 { Version::Two } else { kept.version() })
+            file_in(&kept, if kept.count == 0 && version == 2 { Version::Two } else { version_of(&kept) })
         })
     }),
-    ("version 2 is always written", |call, lent| on_written(call, lent, |kept| kept.file_in(Version::Two))),
+    ("version 2 is always written", |call, lent| on_written(call, lent, |kept| file_in(&kept, Version::Two))),
     ("the first 511 lines decide the version", |call, lent| {
         on_written(call, lent, |kept| {
             if kept.count == 512 && kept.quantities[..511].iter().all(|&quantity| quantity == 1) {
-                single(&kept).file()
+                file_of(&single(&kept))
             } else {
-                kept.file()
+                file_of(&kept)
             }
         })
     }),
@@ -768,7 +769,7 @@ const OF_VERSIONS: &[Mistake] = &[
     ("an output of the length of version 1 does for version 2", |call, lent| match (call, board_of(lent)) {
         (Call::Keep { .. }, Some(board)) => {
             let returned = call_library(call, lent);
-            let first = single(&board).file();
+            let first = file_of(&single(&board));
             if returned == 11 && lent.bytes.length >= first.len() {
                 lent.bytes.inside()[..first.len()].copy_from_slice(&first);
                 return 0;
@@ -1005,7 +1006,7 @@ const OF_CHECKED_PLANS: &[Mistake] = &[
     ("a line may be on any tip in a check", |call, lent| {
         on_check(call, lent, |board, handed, number| match number {
             19 if handed.pairs(board) != handed.claim => 20,
-            19 if board.table_fault(handed.claim, &handed.table).is_some() => 33,
+            19 if !board.table_shows(handed.claim, &handed.table) => 33,
             19 => 0,
             _ => number,
         })
@@ -1043,7 +1044,7 @@ const OF_CHECKED_PLANS: &[Mistake] = &[
     ("only the plan that best sharing lays is accepted", |call, lent| {
         on_check(call, lent, |board, handed, number| {
             let mut plan = vec![0; board.count];
-            let ours = library::best(&board.file(), None, &mut plan, &mut [0; 4096]);
+            let ours = library::best(&file_of(board), None, &mut plan, &mut [0; 4096]);
             if number == 0 && ours.is_ok() && plan != handed.plan {
                 33
             } else {
@@ -1181,7 +1182,7 @@ const OF_CHECKED_TABLES: &[Mistake] = &[
         on_check(call, lent, |board, handed, number| {
             let rack = board.rack;
             let mut table = vec![0; rack * rack];
-            let ours = library::best(&board.file(), None, &mut vec![0; board.count], &mut table);
+            let ours = library::best(&file_of(board), None, &mut vec![0; board.count], &mut table);
             let mut stretches = (0..rack * rack).filter(|place| place / rack <= place % rack);
             if number == 0 && ours.is_ok() && stretches.any(|place| handed.table[place] != table[place]) {
                 33
@@ -1201,13 +1202,13 @@ const OF_ORDER_IN_CHECKS: &[Mistake] = &[
     }),
     ("33 comes before 20", |call, lent| {
         on_check(call, lent, |board, handed, number| match number {
-            20 if board.table_fault(handed.claim, &handed.table).is_some() => 33,
+            20 if !board.table_shows(handed.claim, &handed.table) => 33,
             _ => number,
         })
     }),
     ("33 comes before 19", |call, lent| {
         on_check(call, lent, |board, handed, number| match number {
-            19 if board.table_fault(handed.claim, &handed.table).is_some() => 33,
+            19 if !board.table_shows(handed.claim, &handed.table) => 33,
             _ => number,
         })
     }),
@@ -1273,8 +1274,7 @@ fn placements_with(board: &Board, tip: usize) -> usize {
 
 /// The board of a good file.
 fn board_of(lent: &mut Buffers) -> Option<Board> {
-    let job = second::read(lent.file.inside());
-    (job.number == 0).then_some(job.board)
+    board_in(lent.file.inside()).ok()
 }
 
 fn lowest(set: u64) -> u8 {
@@ -1322,24 +1322,8 @@ impl Head<'_> {
 }
 
 fn head_of(bytes: &mut [u8]) -> Option<Head<'_>> {
-    if bytes.len() < HEAD {
-        return None;
-    }
-    let number = |range: std::ops::Range<usize>| bytes[range].iter().fold(0, |sum, &byte| sum << 8 | u16::from(byte));
-    let (version, rack, count) = (number(AT_VERSION), usize::from(bytes[AT_RACK]), usize::from(number(AT_COUNT)));
-    Some(Head { bytes, version, rack, count })
-}
-
-fn line_in(form: Version, file: &[u8], line: usize) -> Line {
-    let set = u64::from_be_bytes(file[form.at_set(line)].try_into().expect("8 bytes"));
-    Line { set, quantity: form.at_quantity(line).map_or(1, |at| file[at]) }
-}
-
-fn put_line(form: Version, file: &mut [u8], line: usize, to: Line) {
-    file[form.at_set(line)].copy_from_slice(&to.set.to_be_bytes());
-    if let Some(at) = form.at_quantity(line) {
-        file[at] = to.quantity;
-    }
+    let job_file::Head { version, rack, count } = job_file::Head::of(bytes)?;
+    Some(Head { bytes, version, rack: rack.into(), count: count.into() })
 }
 
 /// The call on another file.
@@ -1387,7 +1371,7 @@ fn on_quantities(call: &Call, lent: &mut Buffers, edit: fn(u8) -> u8) -> u64 {
 /// The call on the same sets with quantity 1, where some quantity is another and the call is of this kind.
 fn on_single(call: &Call, lent: &mut Buffers, applies: fn(&Call) -> bool) -> u64 {
     match board_of(lent).filter(|board| is_counted(board) && applies(call)) {
-        Some(board) => on_file(call, lent, |file| *file = single(&board).file()),
+        Some(board) => on_file(call, lent, |file| *file = file_of(&single(&board))),
         None => call_library(call, lent),
     }
 }
@@ -1472,7 +1456,7 @@ fn on_best_with_mounted(call: &Call, lent: &mut Buffers, begin: Beginning) -> u6
             let plan = &mut lent.bytes.inside()[..board.count];
             lay_first(board, first as u8, plan, |board, plan| {
                 // No line of it has the first tip, so that both sides of it are planned as if it were not there.
-                library::best(&board.file(), later, plan, &mut [0; 4096]).expect("a board of runs");
+                library::best(&file_of(&board), later, plan, &mut [0; 4096]).expect("a board of runs");
             });
         }
     })
@@ -1707,7 +1691,7 @@ fn on_keep(call: &Call, lent: &mut Buffers, change: impl FnOnce(&Board, &mut Buf
 fn on_kept(call: &Call, lent: &mut Buffers, edit: impl Fn(usize, u64, u64) -> u64) -> u64 {
     on_keep(call, lent, |board, lent| {
         let out = lent.bytes.inside();
-        let form = board.version();
+        let form = version_of(board);
         for (line, given) in board.lines().enumerate() {
             let Line { set, quantity } = line_in(form, out, line);
             put_line(form, out, line, Line { set: edit(line, set, given.set), quantity });
@@ -1726,7 +1710,7 @@ fn on_kept_above_0(call: &Call, lent: &mut Buffers, edit: fn(Line, u64, i64, u64
             let needed = board.placements().len().saturating_sub(k.into()).max(1);
             let reach = (0..board.rack).filter(|&tip| placements_with(board, tip) >= needed);
             let reaching = reach.fold(0, |set, tip| set | 1 << tip);
-            let (form, out) = (board.version(), lent.bytes.inside());
+            let (form, out) = (version_of(board), lent.bytes.inside());
             for (line, given) in board.lines().enumerate() {
                 let kept = line_in(form, out, line).set;
                 put_line(form, out, line, Line { set: edit(given, kept, margin, reaching), ..given });
@@ -1739,7 +1723,7 @@ fn on_kept_above_0(call: &Call, lent: &mut Buffers, edit: fn(Line, u64, i64, u64
 fn on_written(call: &Call, lent: &mut Buffers, edit: impl FnOnce(Board) -> Vec<u8>) -> u64 {
     on_keep(call, lent, |_, lent| {
         let length = lent.answer.inside()[2] as usize;
-        let file = edit(second::read(&lent.bytes.inside()[..length]).board);
+        let file = edit(board_in(&lent.bytes.inside()[..length]).expect("a good file"));
         // A longer file must fit the output.
         if file.len() <= lent.bytes.length {
             lent.bytes.inside()[..file.len()].copy_from_slice(&file);

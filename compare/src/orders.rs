@@ -231,7 +231,7 @@ impl Orders {
         if count <= MOST_PARTS_TRIED && placing.refusal().0 == 0 {
             self.tally.count_events(&[(true, Event::EveryOrderTried)]);
             let (least, tried) = (placing.least_order(), try_every_order(&placing));
-            if least != tried || least.is_none() != placing.fault().is_some() {
+            if least != tried {
                 let what = format!("second implementation {least:?}, every order {tried:?}");
                 return Err(Difference { handed: handed.clone(), what });
             }

@@ -5,13 +5,14 @@ use std::path::PathBuf;
 use std::process::{Command, Stdio};
 use std::{fs, io, thread};
 
+use job_file::{Job, Version, MOST_PLACEMENTS};
 use second::interface::{ANSWER_PLACES, NO_TIP, REPORT_SPACE};
-use second::{number_of_plans, pairs_in, read, try_every_plan, Board, Version};
-use second::{JUNIOR_LINES, JUNIOR_TIPS, MOST_PLACEMENTS};
+use second::{number_of_plans, pairs_in, try_every_plan, Board, JUNIOR_LINES, JUNIOR_TIPS};
 
 use crate::boards::{every_board, fixed_boards, is_counted, is_unbroken, seeded_board, seeded_file, single, Size};
 use crate::check::{Call, Caller, Difference, Expected, Given, Outcome};
 use crate::damage::{damage, damaged, first_to_pass, quantities_in, KINDS, TOO_MANY_PLACEMENTS};
+use crate::files::{board_in, file_in, file_of};
 use crate::handed::{keeps, stopping, wrapping, Handed, REFUSED_WAYS, WAYS};
 use crate::random::Random;
 use crate::sought::{all_found, look, Sought};
@@ -122,8 +123,8 @@ impl Run {
     fn fixed_boards(&mut self) -> Result<(), Difference> {
         let mut turn = 0;
         for board in fixed_boards() {
-            let in_second = board.file_in(Version::Two);
-            let files = if is_counted(&board) { vec![in_second] } else { vec![board.file(), in_second] };
+            let in_second = file_in(&board, Version::Two);
+            let files = if is_counted(&board) { vec![in_second] } else { vec![file_of(&board), in_second] };
             for file in files {
                 self.fixed_file(&board, &file, turn)?;
                 turn += 1;
@@ -141,15 +142,10 @@ impl Run {
 
     /// Every buffer length and every kind of damage on a good file, and seeded lengths on a bad one.
     pub fn one_file(&mut self, file: &[u8]) -> Result<(), Difference> {
-        let job = read(file);
         self.each_mending(file)?;
-        if job.number == 0 {
-            (0..TURNS).try_for_each(|turn| self.fixed_file(&job.board, file, turn))
-        } else {
-            for _ in 0..100 {
-                self.damaged_file(file, 0, 1)?;
-            }
-            Ok(())
+        match board_in(file) {
+            Ok(board) => (0..TURNS).try_for_each(|turn| self.fixed_file(&board, file, turn)),
+            Err(_) => (0..100).try_for_each(|_| self.damaged_file(file, 0, 1)),
         }
     }
 
@@ -185,7 +181,7 @@ impl Run {
     /// Every buffer length from 0 up to one past a short need, else those around the need.
     fn each_length(&mut self, board: &Board, file: &[u8]) -> Result<(), Difference> {
         let least_off = board.clone().common_tip().value.off;
-        let written = board.file().len();
+        let written = file_of(board).len();
         let lengths = |needed: usize| (0..=needed + 1).filter(move |length| needed <= 100 || *length + 2 >= needed);
         for answer in 0..=5 {
             self.case(file, Call::Read { answer })?;
@@ -271,7 +267,7 @@ impl Run {
     }
 
     fn small_board(&mut self, board: &Board) -> Result<(), Difference> {
-        let file = board.file();
+        let file = file_of(board);
         self.good_file(board, &file)?;
         self.try_plans(board, &file)
     }
@@ -290,7 +286,7 @@ impl Run {
         }
         if board.count >= 9 {
             let kind = self.random.one_of(&TOO_MANY_PLACEMENTS);
-            let mut copy = board.file_in(Version::Two);
+            let mut copy = file_in(&board, Version::Two);
             damage(&mut self.random, &mut copy, kind);
             self.damaged_file(&copy, board.count, board.rack)?;
         }
@@ -303,7 +299,7 @@ impl Run {
         self.begin_file(file);
         self.count_board(board, file);
         let (count, places) = (board.count, board.rack * board.rack);
-        let written = board.file().len();
+        let written = file_of(board).len();
 
         let answer = self.answer_length();
         self.case(file, Call::Read { answer })?;
@@ -536,7 +532,7 @@ impl Run {
 
     fn count_keep(&mut self, board: &Board, common: u64, kept: &Outcome, file: &[u8]) {
         let margin = kept.answer[1] as i64;
-        let after = read(&kept.bytes).board;
+        let after = board_in(&kept.bytes).expect("a good file");
         let same = after == *board;
         let lacks = board.lines().any(|line| line.set & common != 0 && line.set & common != common);
         // The lines that lose tips, before and after.
@@ -606,7 +602,7 @@ impl Run {
             (accepted && differs(true), Event::CheckedJunkBelow),
             (number == 19 && handed.pairs(board) != handed.claim, Event::ForeignTipAndClaim),
             (number == 19 && own_but_for_bits(), Event::ForeignTipByHighBits),
-            (number == 20 && board.table_fault(handed.claim, &handed.table).is_some(), Event::ClaimAndTable),
+            (number == 20 && !board.table_shows(handed.claim, &handed.table), Event::ClaimAndTable),
             (refused && keeps(board, handed, named, wrapping), Event::TableByWrapping),
             (refused && keeps(board, handed, named, stopping), Event::TableByStopping),
         ]);
@@ -615,11 +611,10 @@ impl Run {
     /// Whether a file has too many placements, and lines after those.
     fn count_placements(&mut self, file: &[u8]) {
         let quantities = quantities_in(file);
-        let job = read(file);
-        if let Some(line) = first_to_pass(&quantities) {
+        if let (Some(line), Err(refusal)) = (first_to_pass(&quantities), Job::read(file)) {
             self.count_events(&[
-                (job.number == 30 && line + 1 < quantities.len(), Event::PassedBeforeLastLine),
-                (matches!(job.number, 2 | 3 | 15) && job.place > line, Event::BadLineAfterPassing),
+                (refusal.number == 30 && line + 1 < quantities.len(), Event::PassedBeforeLastLine),
+                (matches!(refusal.number, 2 | 3 | 15) && refusal.line > line, Event::BadLineAfterPassing),
             ]);
         }
     }
@@ -745,7 +740,7 @@ fn is_own_plan(board: &Board, plan: &[u8]) -> bool {
 pub fn compare_program(program: &str, seed: u64, files: u64) -> Result<(), Difference> {
     let mut random = Random::new(seed);
     let fixed_boards = fixed_boards();
-    let in_both = |board: &Board| [board.file(), board.file_in(Version::Two)];
+    let in_both = |board: &Board| [file_of(board), file_in(board, Version::Two)];
     let fixed: Vec<Vec<u8>> = fixed_boards.iter().flat_map(in_both).collect();
     for number in 0..files {
         let mut file = match fixed.get(number as usize) {

@@ -9,6 +9,8 @@ fn limits_are_the_same() {
     let of_library = [library::ANSWER_PLACES, library::REPORT_SPACE, library::LONGEST_FILE, library::NO_TIP];
     let of_second = [ANSWER_PLACES, REPORT_SPACE, second::LONGEST_FILE, NO_TIP];
     assert_eq!(of_library, of_second);
+    let of_files = [job_file::MOST_TIPS, job_file::MOST_LINES, job_file::MOST_PLACEMENTS, job_file::LONGEST_FILE];
+    assert_eq!(of_files, [second::MOST_TIPS, second::MOST_LINES, second::MOST_PLACEMENTS, second::LONGEST_FILE]);
     assert_eq!(library::MOST_PARTS, second::MOST_PARTS);
     let of_junior = [library::JUNIOR_TIPS, library::JUNIOR_LINES];
     assert_eq!(of_junior, [second::JUNIOR_TIPS, second::JUNIOR_LINES]);

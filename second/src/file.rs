@@ -6,18 +6,18 @@ use crate::board::{first_to_pass, refusal_of_line, Answer, Board, Line, Stage, M
 use crate::refusal;
 
 /// The bytes before the lines: mark, version, rack size and number of lines.
-pub const HEAD: usize = 8;
+pub(crate) const HEAD: usize = 8;
 /// The bytes of one set.
-pub const SET: usize = 8;
+pub(crate) const SET: usize = 8;
 /// What every job file begins with.
-pub const MARK: [u8; 3] = *b"TIP";
+pub(crate) const MARK: [u8; 3] = *b"TIP";
 
 /// Where the version stands.
-pub const AT_VERSION: Range<usize> = 3..5;
+pub(crate) const AT_VERSION: Range<usize> = 3..5;
 /// Where the rack size stands.
-pub const AT_RACK: usize = 5;
+pub(crate) const AT_RACK: usize = 5;
 /// Where the number of lines stands.
-pub const AT_COUNT: Range<usize> = 6..8;
+pub(crate) const AT_COUNT: Range<usize> = 6..8;
 
 /// The two versions of a job file.
 #[derive(Clone, Copy, PartialEq, Eq, Debug)]
@@ -56,17 +56,6 @@ impl Version {
     /// The length of a file with this many lines.
     pub fn length_of(self, count: usize) -> usize {
         HEAD + self.line() * count
-    }
-
-    /// Where the set of a line stands.
-    pub fn at_set(self, line: usize) -> Range<usize> {
-        let start = self.length_of(line);
-        start..start + SET
-    }
-
-    /// Where the quantity of a line stands, in the version that has one.
-    pub fn at_quantity(self, line: usize) -> Option<usize> {
-        (self == Version::Two).then(|| self.at_set(line).end)
     }
 }
 

@@ -6,29 +6,26 @@
 mod board;
 mod checking;
 mod common;
+mod file;
 mod goal;
 mod junior;
 mod mending;
 mod panel;
 mod placing;
+mod refusal;
 mod report;
 mod sharing;
 mod trying;
 
-pub mod file;
 pub mod interface;
-pub mod refusal;
 
 pub use board::{Answer, Board, Line, Stage, MOST_LINES, MOST_PLACEMENTS, MOST_TIPS};
-pub use checking::TableFault;
 pub use common::CommonTip;
 pub use file::{read, Version, LONGEST_FILE};
 pub use junior::{Junior, JUNIOR_LINES, JUNIOR_TIPS};
-pub use mending::{mend, mended, Change, Mended, Mending, What, CHANGE, WHOLE_FILE};
+pub use mending::{mend, mended, Change, Mended, Mending, What, CHANGE};
 pub use panel::{Alone, Merged};
-pub use placing::{
-    order_parts, try_every_order, Because, OrderFault, Ordered, Part, Placing, Rule, Window, MOST_PARTS,
-};
+pub use placing::{order_parts, try_every_order, Ordered, Part, Placing, Rule, MOST_PARTS};
 pub use report::{report, LONGEST_INPUT};
 pub use sharing::pairs_in;
 pub use trying::{number_of_plans, try_every_plan, Tried};

@@ -7,7 +7,7 @@ use crate::refusal;
 /// The bytes of one change in a report.
 pub const CHANGE: usize = 3;
 /// The line number of what is told of the file as a whole.
-pub const WHOLE_FILE: u16 = u16::MAX;
+const WHOLE_FILE: u16 = u16::MAX;
 
 /// What can be changed, in the order in which it is told of one line.
 #[derive(Clone, Copy, PartialEq, Eq, PartialOrd, Ord, Debug)]

@@ -23,7 +23,7 @@ pub struct Part {
 
 impl Part {
     /// Whether it goes with the fine parts: height decides.
-    pub fn is_fine(&self) -> bool {
+    fn is_fine(&self) -> bool {
         self.fine && !self.tall
     }
 }
@@ -31,37 +31,11 @@ impl Part {
 /// A rule: the part with the first number is placed earlier than the one with the second.
 pub type Rule = (u32, u32);
 
-/// Why one part is placed before another.
-#[derive(Clone, Copy, PartialEq, Eq, Debug)]
-pub enum Because {
-    /// A rule says so, by its number.
-    Rule(usize),
-    /// The first is fine and not tall, and the second is another kind.
-    Fine,
-    /// The second is tall and the first is not.
-    Tall,
-}
-
-/// Why no order obeys.
-#[derive(Clone, PartialEq, Eq, Debug)]
-pub enum OrderFault {
-    /// Each of these parts must be before the next one, and the last before the first.
-    Cycle(Vec<(usize, Because)>),
-    /// The part can be nowhere: its first position is above its last.
-    NoPosition { part: usize, window: Window },
-    /// These parts must be at positions from first to last, which are fewer.
-    TooFewPositions { first: i64, last: i64, parts: Vec<(usize, Window)> },
-}
-
 /// The positions that a part can have, when all that must be before it and behind it is looked at too.
-#[derive(Clone, Copy, PartialEq, Eq, Debug)]
-pub struct Window {
-    pub first: i64,
-    pub last: i64,
-    /// The part before it that keeps it from its own first positions.
-    pub after: Option<usize>,
-    /// The part behind it that keeps it from its own last positions.
-    pub before: Option<usize>,
+#[derive(Clone, Copy)]
+struct Window {
+    first: i64,
+    last: i64,
 }
 
 /// Parts and rules as they are handed over.
@@ -92,7 +66,7 @@ impl Placing<'_> {
     }
 
     /// Whether an order, the part at each position, has each part once and obeys windows, flags and rules.
-    pub fn is_obeyed_by(&self, order: &[u8]) -> bool {
+    fn is_obeyed_by(&self, order: &[u8]) -> bool {
         let count = self.parts.len();
         let mut position = vec![None; count];
         for (at, &part) in order.iter().enumerate() {
@@ -108,29 +82,16 @@ impl Placing<'_> {
             let Part { first, last, .. } = self.parts[part];
             (first as usize..=last as usize).contains(&position[part])
         };
-        let by_flags =
-            |one: usize, other: usize| self.by_flags(one, other).is_none() || position[one] < position[other];
+        let by_flags = |one: usize, other: usize| !self.by_flags(one, other) || position[one] < position[other];
         (0..count).all(within)
             && (0..count).all(|one| (0..count).all(|other| by_flags(one, other)))
             && self.rules.iter().all(|&(one, other)| position[one as usize] < position[other as usize])
     }
 
-    /// Whether the flags put one part before another.
-    fn by_flags(&self, one: usize, other: usize) -> Option<Because> {
+    /// Whether the flags put one part before another: fine ones come first, tall ones last.
+    fn by_flags(&self, one: usize, other: usize) -> bool {
         let (one, other) = (self.parts[one], self.parts[other]);
-        if one.is_fine() && !other.is_fine() {
-            Some(Because::Fine)
-        } else if !one.tall && other.tall {
-            Some(Because::Tall)
-        } else {
-            None
-        }
-    }
-
-    /// Why one part is before another: by a rule, else by the flags.
-    pub fn because(&self, one: usize, other: usize) -> Option<Because> {
-        let rule = self.rules.iter().position(|&(a, b)| (a as usize, b as usize) == (one, other));
-        rule.map(Because::Rule).or_else(|| self.by_flags(one, other))
+        one.is_fine() && !other.is_fine() || !one.tall && other.tall
     }
 
     /// For each part the parts that must be before it.
@@ -139,7 +100,7 @@ impl Placing<'_> {
         let mut is_before = vec![vec![false; count]; count];
         for one in 0..count {
             for other in 0..count {
-                is_before[other][one] = self.by_flags(one, other).is_some();
+                is_before[other][one] = self.by_flags(one, other);
             }
         }
         for &(one, other) in self.rules {
@@ -148,38 +109,30 @@ impl Placing<'_> {
         is_before.iter().map(|row| (0..count).filter(|&one| row[one]).collect()).collect()
     }
 
-    /// The parts in some order in which each stands behind all that must be before it; what is left has a cycle in it.
-    fn sorted(&self, before: &[Vec<usize>]) -> Result<Vec<usize>, Vec<usize>> {
+    /// The parts in some order in which each is behind all that must be before it; `None` if some form a cycle.
+    fn sorted(&self, before: &[Vec<usize>]) -> Option<Vec<usize>> {
         let mut left: Vec<usize> = (0..self.parts.len()).collect();
         let mut sorted = Vec::new();
         while !left.is_empty() {
             let is_free = |part: &usize| !before[*part].iter().any(|one| left.contains(one));
-            let Some(at) = left.iter().position(is_free) else {
-                return Err(left);
-            };
+            let at = left.iter().position(is_free)?;
             sorted.push(left.remove(at));
         }
-        Ok(sorted)
+        Some(sorted)
     }
 
     /// The windows, made so narrow that of two parts the earlier begins and ends before the later.
     fn windows(&self, before: &[Vec<usize>], sorted: &[usize]) -> Vec<Window> {
-        let own = |part: &Part| Window { first: part.first.into(), last: part.last.into(), after: None, before: None };
+        let own = |part: &Part| Window { first: part.first.into(), last: part.last.into() };
         let mut windows: Vec<Window> = self.parts.iter().map(own).collect();
         for &part in sorted {
             for &one in &before[part] {
-                let first = windows[one].first + 1;
-                if first > windows[part].first {
-                    windows[part] = Window { first, after: Some(one), ..windows[part] };
-                }
+                windows[part].first = windows[part].first.max(windows[one].first + 1);
             }
         }
         for &part in sorted.iter().rev() {
             for &one in &before[part] {
-                let last = windows[part].last - 1;
-                if last < windows[one].last {
-                    windows[one] = Window { last, before: Some(part), ..windows[one] };
-                }
+                windows[one].last = windows[one].last.min(windows[part].last - 1);
             }
         }
         windows
@@ -189,7 +142,7 @@ impl Placing<'_> {
     /// still be placed.
     pub fn least_order(&self) -> Option<Vec<u8>> {
         let before = self.before();
-        let sorted = self.sorted(&before).ok()?;
+        let sorted = self.sorted(&before)?;
         let windows = self.windows(&before, &sorted);
         let mut left: Vec<usize> = (0..self.parts.len()).collect();
         if !can_be_placed(&windows, &left, 0) {
@@ -210,71 +163,6 @@ impl Placing<'_> {
         }
         Some(order)
     }
-
-    /// Why no order obeys; nothing where one does.
-    pub fn fault(&self) -> Option<OrderFault> {
-        let before = self.before();
-        let sorted = match self.sorted(&before) {
-            Ok(sorted) => sorted,
-            Err(left) => return Some(OrderFault::Cycle(self.cycle(&before, &left))),
-        };
-        let windows = self.windows(&before, &sorted);
-        let count = self.parts.len();
-        if let Some(part) = (0..count).find(|&part| windows[part].first > windows[part].last) {
-            return Some(OrderFault::NoPosition { part, window: windows[part] });
-        }
-        // The shortest positions first, with the fewest parts to read about.
-        for length in 1..=count {
-            for first in 0..=(count - length) as i64 {
-                let last = first + length as i64 - 1;
-                let is_within = |&part: &usize| first <= windows[part].first && windows[part].last <= last;
-                let parts: Vec<(usize, Window)> =
-                    (0..count).filter(is_within).map(|part| (part, windows[part])).collect();
-                if parts.len() > length {
-                    return Some(OrderFault::TooFewPositions { first, last, parts });
-                }
-            }
-        }
-        None
-    }
-
-    /// A shortest cycle among these parts, each of which has another of them before it.
-    fn cycle(&self, before: &[Vec<usize>], left: &[usize]) -> Vec<(usize, Because)> {
-        let shortest = left.iter().filter_map(|&part| path_back(before, left, part)).min_by_key(Vec::len);
-        let cycle = shortest.expect("parts that are left have a cycle");
-        let next = |at: usize| cycle[(at + 1) % cycle.len()];
-        let because = |at: usize| self.because(cycle[at], next(at)).expect("one is before the next");
-        (0..cycle.len()).map(|at| (cycle[at], because(at))).collect()
-    }
-}
-
-/// A shortest way from a part over parts that must be before it, and before them, back to it; the earliest first.
-fn path_back(before: &[Vec<usize>], left: &[usize], start: usize) -> Option<Vec<usize>> {
-    // The part behind each that was reached, and those reached last.
-    let mut behind = vec![None; before.len()];
-    let mut reached = vec![start];
-    while !reached.is_empty() {
-        let mut next = Vec::new();
-        for part in reached {
-            for &one in before[part].iter().filter(|one| left.contains(one)) {
-                if one == start {
-                    let mut path = vec![start];
-                    let mut at = part;
-                    while at != start {
-                        path.push(at);
-                        at = behind[at]?;
-                    }
-                    return Some(path);
-                }
-                if behind[one].is_none() {
-                    behind[one] = Some(part);
-                    next.push(one);
-                }
-            }
-        }
-        reached = next;
-    }
-    None
 }
 
 impl Window {

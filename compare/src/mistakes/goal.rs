@@ -1,11 +1,12 @@
 //! Mistakes in striking by a goal of pairs.
 
+use job_file::Version;
 use second::interface::ANSWER_PLACES;
-use second::{pairs_in, Board, Line, Version};
+use second::{pairs_in, Board, Line};
 
 use super::{
-    at_refusal, board_of, call_library, is_unbroken, line_in, lowest, on_accepted, on_single, put_line, refusal,
-    Buffers, Call, Mistake,
+    at_refusal, board_in, board_of, call_library, file_in, file_of, is_unbroken, line_in, lowest, on_accepted,
+    on_single, put_line, refusal, version_of, Buffers, Call, Mistake,
 };
 
 pub(super) const OF_GOALS: &[Mistake] = &[
@@ -47,7 +48,7 @@ pub(super) const OF_GOALS: &[Mistake] = &[
     }),
     ("lines with equal sets keep equal tips", |call, lent| {
         on_goal(call, lent, |board, lent| {
-            let (form, out) = (board.version(), lent.bytes.inside());
+            let (form, out) = (version_of(board), lent.bytes.inside());
             for line in 1..board.count {
                 if let Some(equal) = (0..line).find(|&other| board.sets[other] == board.sets[line]) {
                     let set = line_in(form, out, equal).set;
@@ -76,8 +77,8 @@ pub(super) const OF_GOALS: &[Mistake] = &[
     ("with a goal of 0 no line is looked at", |call, lent| {
         let returned = call_library(call, lent);
         match (*call, returned, board_of(lent)) {
-            (Call::Goal { goal: 0, out, .. }, 25, Some(board)) if out >= board.file().len() => {
-                let file = board.file();
+            (Call::Goal { goal: 0, out, .. }, 25, Some(board)) if out >= file_of(&board).len() => {
+                let file = file_of(&board);
                 lent.bytes.inside()[..file.len()].copy_from_slice(&file);
                 lent.answer.inside()[..2].copy_from_slice(&[0, file.len() as u64]);
                 0
@@ -110,7 +111,7 @@ pub(super) const OF_GOALS: &[Mistake] = &[
     }),
     ("a goal that is missed is told after a short output", |call, lent| {
         let returned = call_library(call, lent);
-        let written = board_of(lent).map_or(0, |board| board.file().len());
+        let written = board_of(lent).map_or(0, |board| file_of(&board).len());
         if refusal(call, returned) == 34 && lent.bytes.length < written {
             return 11;
         }
@@ -118,7 +119,7 @@ pub(super) const OF_GOALS: &[Mistake] = &[
     }),
     ("a line that is no run is told after a short output", |call, lent| {
         let returned = call_library(call, lent);
-        let written = board_of(lent).map_or(0, |board| board.file().len());
+        let written = board_of(lent).map_or(0, |board| file_of(&board).len());
         if let (Call::Goal { .. }, 25) = (call, returned) {
             if lent.bytes.length < written {
                 lent.answer.inside()[0] = 0;
@@ -151,7 +152,8 @@ pub(super) const OF_GOALS: &[Mistake] = &[
     ("a goal always writes version 2", |call, lent| {
         on_goal(call, lent, |_, lent| {
             let length = lent.answer.inside()[1] as usize;
-            let file = second::read(&lent.bytes.inside()[..length]).board.file_in(Version::Two);
+            let kept = board_in(&lent.bytes.inside()[..length]).expect("a good file");
+            let file = file_in(&kept, Version::Two);
             if file.len() <= lent.bytes.length {
                 lent.bytes.inside()[..file.len()].copy_from_slice(&file);
                 lent.answer.inside()[1] = file.len() as u64;
@@ -160,7 +162,7 @@ pub(super) const OF_GOALS: &[Mistake] = &[
     }),
     ("a goal writes quantities of 1", |call, lent| {
         on_goal(call, lent, |board, lent| {
-            let (form, out) = (board.version(), lent.bytes.inside());
+            let (form, out) = (version_of(board), lent.bytes.inside());
             if form == Version::Two {
                 for line in 0..board.count {
                     let set = line_in(form, out, line).set;
@@ -209,7 +211,7 @@ fn on_goal(call: &Call, lent: &mut Buffers, change: impl FnOnce(&Board, &mut Buf
 /// A goal with other sets in the output, given the board, the kept set and the line.
 fn on_struck(call: &Call, lent: &mut Buffers, edit: impl Fn(&Board, u64, usize) -> u64) -> u64 {
     on_goal(call, lent, |board, lent| {
-        let (form, out) = (board.version(), lent.bytes.inside());
+        let (form, out) = (version_of(board), lent.bytes.inside());
         for line in 0..board.count {
             let Line { set, quantity } = line_in(form, out, line);
             put_line(form, out, line, Line { set: edit(board, set, line), quantity });

@@ -1,5 +1,6 @@
 //! Mistakes in planning for the Junior.
 
+use job_file::AT_RACK;
 use second::interface::ANSWER_PLACES;
 use second::{pairs_in, Board, JUNIOR_LINES, JUNIOR_TIPS};
 
@@ -13,7 +14,7 @@ pub(super) const OF_JUNIOR: &[Mistake] = &[
         match call {
             Call::Junior { .. } if narrow => on_head(call, lent, |head| {
                 if head.rack == JUNIOR_TIPS + 1 {
-                    head.bytes[second::file::AT_RACK] = JUNIOR_TIPS as u8
+                    head.bytes[AT_RACK] = JUNIOR_TIPS as u8
                 }
             }),
             _ => call_library(call, lent),

@@ -1,11 +1,12 @@
 //! Ways in which mending can be wrong.
 
-use second::file::{AT_COUNT, AT_RACK, HEAD, SET};
+use job_file::{Head, Version, AT_COUNT, AT_RACK, HEAD, LONGEST_FILE};
 use second::interface::ANSWER_PLACES;
-use second::{mended, Board, Line, Version, CHANGE, LONGEST_FILE};
+use second::{mended, Board, Line, CHANGE};
 
-use super::{at_refusal, head_of, line_in, on_file, put_line, touch, Mistake};
+use super::{at_refusal, head_of, on_file, touch, Mistake};
 use crate::check::{call_library, Buffers, Call};
+use crate::files::{board_in, file_in, file_of, line_in, put_line};
 
 /// A change of a report: line and code.
 type Told = (u16, u8);
@@ -59,8 +60,8 @@ pub const OF_MENDED_LINES: &[Mistake] = &[
     }),
     ("a line of quantity 0 stays as it is", |call, lent| {
         on_mended(call, lent, |_, file, told| {
-            if let &[(0, 3), ..] = &told[..] {
-                file[HEAD + SET] = 0;
+            if let (&[(0, 3), ..], Some(at)) = (&told[..], form_of(file).at_quantity(0)) {
+                file[at] = 0;
             }
         })
     }),
@@ -79,8 +80,7 @@ pub const OF_MENDED_LINES: &[Mistake] = &[
     ("a raised quantity is not told", |call, lent| on_mended(call, lent, |_, _, told| told.retain(|told| told.1 != 3))),
     ("quantities of version 2 that are all 1 are written as version 1", |call, lent| {
         on_mended(call, lent, |_, file, _| {
-            let board = second::read(file).board;
-            *file = board.file();
+            *file = file_of(&mended_board(file));
         })
     }),
     ("lines after the first 4 get their other changes too", |call, lent| {
@@ -114,13 +114,13 @@ pub const OF_MENDED_LINES: &[Mistake] = &[
     ("2,048 placements pass", |call, lent| match call {
         Call::Mend { .. } => {
             let is_full = |lent: &mut Buffers| {
-                mended(lent.file.inside()).is_ok_and(|it| second::read(&it.file).board.placements().len() == 2048)
+                mended(lent.file.inside()).is_ok_and(|it| mended_board(&it.file).placements().len() == 2048)
             };
             if is_full(lent) {
                 on_mended(call, lent, |_, file, _| {
-                    let board = second::read(file).board;
+                    let board = mended_board(file);
                     let lines: Vec<Line> = board.lines().take(board.count - 1).collect();
-                    *file = Board::of_lines(board.rack, &lines).file_in(form_of(file));
+                    *file = file_in(&Board::of_lines(board.rack, &lines), form_of(file));
                 })
             } else {
                 call_library(call, lent)
@@ -132,14 +132,14 @@ pub const OF_MENDED_LINES: &[Mistake] = &[
         on_mended(call, lent, |found, file, told| {
             let Some(at) = told.iter().rposition(|told| told.1 == 4) else { return };
             let (form, line) = (form_of(found), line_in(form_of(found), found, told[at].0.into()));
-            let board = second::read(file).board;
+            let board = mended_board(file);
             let is_later = told.iter().filter(|told| told.1 == 4).count() > 1;
             if is_later && board.placements().len() + usize::from(line.quantity) <= 2048 && line.quantity > 0 {
                 let lines: Vec<Line> = board.lines().chain([line]).collect();
                 let longer = Board::of_lines(board.rack, &lines);
                 if longer.is_sound() {
                     told.remove(at);
-                    *file = longer.file_in(form);
+                    *file = file_in(&longer, form);
                 }
             }
         })
@@ -325,13 +325,23 @@ fn is_dropped(told: &Told) -> bool {
     matches!(told.1, 2 | 4)
 }
 
+/// What a file whose head is good says there.
+fn head_in(file: &[u8]) -> Head {
+    Head::of(file).expect("a file with a head")
+}
+
 /// The form of the lines of a file whose head is good.
 fn form_of(file: &[u8]) -> Version {
-    Version::of_number(file[4].into()).unwrap_or(Version::One)
+    head_in(file).form()
 }
 
 fn count_in(file: &[u8]) -> usize {
-    usize::from(file[AT_COUNT.start]) << 8 | usize::from(file[AT_COUNT.start + 1])
+    head_in(file).count.into()
+}
+
+/// The board of a mended file.
+fn mended_board(file: &[u8]) -> Board {
+    board_in(file).expect("a mended file is good")
 }
 
 /// An accepted mending with another file and another report, where there is room for them, given the file found.

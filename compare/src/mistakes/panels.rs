@@ -1,11 +1,12 @@
 //! Ways in which two boards on one panel can be wrong.
 
-use second::file::AT_RACK;
-use second::{Board, Version};
+use job_file::{Job, Version, AT_RACK};
+use second::Board;
 
 use super::{after, at_refusal, Mistake};
 use crate::boards::{is_counted, single};
 use crate::check::{call_library, Buffers, Call, Lent};
+use crate::files::{board_in, file_in, file_of, number_of};
 
 pub const OF_MERGING: &[Mistake] = &[
     ("merge puts the lines of the second board first", |call, lent| match (call, boards_of(lent)) {
@@ -65,21 +66,23 @@ pub const OF_MERGING: &[Mistake] = &[
     ("a panel is written in the version of the first file", |call, lent| {
         let version = lent.file.inside().get(4).copied();
         on_panel(call, lent, |panel| match version {
-            Some(1) => single(&panel).file(),
-            _ => panel.file_in(Version::Two),
+            Some(1) => file_of(&single(&panel)),
+            _ => file_in(&panel, Version::Two),
         })
     }),
-    ("a panel is always written in version 2", |call, lent| on_panel(call, lent, |panel| panel.file_in(Version::Two))),
+    ("a panel is always written in version 2", |call, lent| {
+        on_panel(call, lent, |panel| file_in(&panel, Version::Two))
+    }),
     ("the quantities of the second board are forgotten", |call, lent| match (call, boards_of(lent)) {
         (Call::Merge { .. }, Some([_, second])) if is_counted(&second) => {
-            on_second(call, lent, |file| *file = single(&second).file())
+            on_second(call, lent, |file| *file = file_of(&single(&second)))
         }
         _ => call_library(call, lent),
     }),
     ("the last line of the second board is lost", |call, lent| match (call, boards_of(lent)) {
         (Call::Merge { .. }, Some([_, second])) if second.count > 0 => on_second(call, lent, |file| {
             let lines: Vec<_> = second.lines().take(second.count - 1).collect();
-            *file = Board::of_lines(second.rack, &lines).file()
+            *file = file_of(&Board::of_lines(second.rack, &lines))
         }),
         _ => call_library(call, lent),
     }),
@@ -92,7 +95,7 @@ pub const OF_MERGING: &[Mistake] = &[
                     None => lines.push(line),
                 }
             }
-            Board::of_lines(panel.rack, &lines).file()
+            file_of(&Board::of_lines(panel.rack, &lines))
         })
     }),
     ("merge tells the lines in the place of the bytes", |call, lent| match (call, boards_of(lent)) {
@@ -196,7 +199,7 @@ pub const OF_PLANNING_ALONE: &[Mistake] = &[
 pub const OF_TWO_FILES: &[Mistake] = &[
     ("the second file is refused before the first", |call, lent| match call {
         Call::Merge { .. } | Call::Alone { .. } => {
-            let is_bad = |lent: &mut Lent<u8>| second::read(lent.inside()).number != 0;
+            let is_bad = |lent: &mut Lent<u8>| number_of(lent.inside()) != 0;
             if is_bad(&mut lent.file) && is_bad(&mut lent.other) {
                 exchanged(call, lent)
             } else {
@@ -207,8 +210,8 @@ pub const OF_TWO_FILES: &[Mistake] = &[
     }),
     ("the line of a refusal of the second file is always 0", |call, lent| match call {
         Call::Merge { .. } | Call::Alone { .. } => after(call, lent, |number, lent| {
-            let bad = second::read(lent.other.inside());
-            if second::read(lent.file.inside()).number == 0 && bad.number != 0 && number == u64::from(bad.number) {
+            let bad = number_of(lent.other.inside());
+            if number_of(lent.file.inside()) == 0 && bad != 0 && number == u64::from(bad) {
                 lent.answer.inside()[0] = 0;
             }
         }),
@@ -216,16 +219,15 @@ pub const OF_TWO_FILES: &[Mistake] = &[
     }),
     ("a line of the second file is counted on from the first", |call, lent| match call {
         Call::Merge { .. } | Call::Alone { .. } => at_refusal(call, lent, &[2, 3, 15], |lent| {
-            let first = second::read(lent.file.inside());
-            if first.number == 0 {
-                lent.answer.inside()[0] += first.board.count as u64;
+            if let Ok(first) = Job::read(lent.file.inside()) {
+                lent.answer.inside()[0] += first.lines.len() as u64;
             }
         }),
         _ => call_library(call, lent),
     }),
     ("a second file of version 2 is refused", |call, lent| match call {
         Call::Merge { .. } | Call::Alone { .. } => {
-            let is_good = second::read(lent.other.inside()).number == 0;
+            let is_good = number_of(lent.other.inside()) == 0;
             on_second(call, lent, |file| {
                 if is_good && file[4] == 2 {
                     file[4] = 3
@@ -237,10 +239,10 @@ pub const OF_TWO_FILES: &[Mistake] = &[
     ("bytes behind the second file are accepted", |call, lent| match call {
         Call::Merge { .. } | Call::Alone { .. } => on_second(call, lent, |file| {
             let (mut length, whole) = (file.len(), file.clone());
-            while length > 8 && second::read(&whole[..length]).number == 10 {
+            while length > 8 && number_of(&whole[..length]) == 10 {
                 length -= 1;
             }
-            if second::read(&whole[..length]).number == 0 {
+            if number_of(&whole[..length]) == 0 {
                 file.truncate(length)
             }
         }),
@@ -250,8 +252,8 @@ pub const OF_TWO_FILES: &[Mistake] = &[
 
 /// The boards of two good files.
 fn boards_of(lent: &mut Buffers) -> Option<[Board; 2]> {
-    let [first, second] = [second::read(lent.file.inside()), second::read(lent.other.inside())];
-    (first.number == 0 && second.number == 0 && lent.answer.length > 3).then_some([first.board, second.board])
+    let boards = [board_in(lent.file.inside()).ok()?, board_in(lent.other.inside()).ok()?];
+    (lent.answer.length > 3).then_some(boards)
 }
 
 /// The call with the files in the other order.

@@ -1,11 +1,12 @@
 //! Goals of pairs: at a best plan's pairs and around them, in outputs of every length.
 
 use second::interface::{ANSWER_PLACES, NO_TIP};
-use second::{pairs_in, read, Board};
+use second::{pairs_in, Board};
 
 use super::Run;
 use crate::boards::is_unbroken;
 use crate::check::{Call, Difference, Outcome};
+use crate::files::{board_in, file_of};
 use crate::tally::Event;
 
 /// The second implementation solves a board for each tip of each line: those that take it longer are left out.
@@ -26,7 +27,7 @@ impl Run {
     /// Some goals of a good file, given its best sharing in buffers that do.
     pub(super) fn goals(&mut self, board: &Board, file: &[u8], best: &Outcome) -> Result<(), Difference> {
         let pairs = best.answer[1] as u32;
-        let written = board.file().len();
+        let written = file_of(board).len();
         let any = self.random.below(pairs as usize + 1) as u32;
         if best.returned == 25 || is_quick(board) {
             let kept = self.case(file, Call::Goal { goal: pairs, out: written, answer: ANSWER_PLACES })?;
@@ -55,7 +56,7 @@ impl Run {
         }
         let (plan, table, answer) = (board.count, board.rack * board.rack, ANSWER_PLACES);
         let best = self.case(file, Call::Best { mounted: NO_TIP, plan, table, answer })?;
-        let written = board.file().len();
+        let written = file_of(board).len();
         let goal = if best.returned == 0 { best.answer[1] as u32 } else { 0 };
         for answer in [0, 3, 4, 5] {
             self.case(file, Call::Goal { goal, out: written, answer })?;
@@ -77,7 +78,7 @@ impl Run {
         if kept.returned != 0 || kept.answer.len() < ANSWER_PLACES {
             return;
         }
-        let after = read(&kept.bytes[..kept.answer[1] as usize]).board;
+        let after = board_in(&kept.bytes[..kept.answer[1] as usize]).expect("a good file");
         let pairs = best.answer[1] as u32;
         let same = after == *board;
         let struck = |line: usize| after.sets[line] != board.sets[line];

@@ -1,25 +1,21 @@
 //! Damaged files mended: fixed ones, and seeded ones with several kinds of damage.
 
-use second::file::{AT_COUNT, AT_RACK, HEAD};
+use job_file::{Head, Job, Version, AT_COUNT, AT_RACK, HEAD};
 use second::interface::ANSWER_PLACES;
-use second::{mended, Board, Line, Mended, Version, What};
+use second::{mended, Line, Mended, What};
 
 use super::Run;
 use crate::check::{Call, Difference};
 use crate::damage::{damage, damaged, put_count, KINDS};
+use crate::files::put_line;
 use crate::random::Random;
 use crate::tally::Event;
 
 /// A file with this count and these lines, each a set and a quantity, whether they keep the rules or not.
 fn file_of(version: Version, rack: usize, count: usize, lines: &[(u64, u8)]) -> Vec<u8> {
-    let mut file = Board::of_lines(rack, &[]).file_in(version);
+    let lines = lines.iter().map(|&(set, quantity)| job_file::Line { set, quantity });
+    let mut file = Job { rack, lines: lines.collect() }.write_in(version);
     put_count(&mut file, count);
-    for (set, quantity) in lines {
-        file.extend(set.to_be_bytes());
-        if version == Version::Two {
-            file.push(*quantity);
-        }
-    }
     file
 }
 
@@ -164,10 +160,10 @@ impl Run {
             });
             pairs
         };
-        let in_second = file[4] == 2;
-        let step = if in_second { Version::Two.line() } else { Version::One.line() };
+        let head = Head::of(file).expect("a file that is mended has a head");
+        let (in_second, step) = (head.form() == Version::Two, head.form().line());
         let whole = (file.len() - HEAD) / step;
-        let found = usize::from(file[AT_COUNT.start]) << 8 | usize::from(file[AT_COUNT.start + 1]);
+        let found = head.count;
         let quantities =
             || mended.file[HEAD..].chunks(step).all(|line| line.get(8).is_none_or(|&quantity| quantity == 1));
         let all_of_a_line = (0..512).any(|line| of_line(line) == 3);
@@ -243,11 +239,4 @@ fn damage_lines(random: &mut Random, file: &mut Vec<u8>) {
         }
     }
     file.resize(file.len().max(HEAD), 0);
-}
-
-fn put_line(version: Version, file: &mut [u8], line: usize, to: Line) {
-    file[version.at_set(line)].copy_from_slice(&to.set.to_be_bytes());
-    if let Some(at) = version.at_quantity(line) {
-        file[at] = to.quantity;
-    }
 }

@@ -1,12 +1,14 @@
 //! Two boards on one panel: fixed pairs of boards, and seeded ones.
 
+use job_file::{Job, Version};
 use second::interface::ANSWER_PLACES;
-use second::{read, Board, Line, Version};
+use second::{Board, Line};
 
 use super::Run;
-use crate::boards::{is_counted, seeded_board, seeded_file, Size};
+use crate::boards::{seeded_board, seeded_file, Size};
 use crate::check::{Call, Difference, Given};
 use crate::damage::{damage, damaged, KINDS};
+use crate::files::{board_in, file_in, file_of};
 use crate::tally::Event;
 
 /// So many of the fixed pairs are compared in each version that their files can have.
@@ -64,18 +66,19 @@ impl Run {
     /// have, and the very first damaged on one side, on the other, and on both.
     pub(super) fn fixed_panels(&mut self) -> Result<(), Difference> {
         for (number, [first, second]) in fixed_pairs().into_iter().enumerate() {
-            self.each_panel(&first.file(), &second.file())?;
+            let [one, two] = [&first, &second].map(file_of);
+            let [one_in_second, two_in_second] = [&first, &second].map(|board| file_in(board, Version::Two));
+            self.each_panel(&one, &two)?;
             if number < IN_EACH_VERSION {
-                let [one, two] = [&first, &second].map(|board| board.file_in(Version::Two));
-                self.each_panel(&one, &two)?;
-                self.each_panel(&first.file(), &two)?;
-                self.each_panel(&one, &second.file())?;
+                self.each_panel(&one_in_second, &two_in_second)?;
+                self.each_panel(&one, &two_in_second)?;
+                self.each_panel(&one_in_second, &two)?;
             }
             if number == 0 {
-                let [one, two] = [first, second].map(|board| board.file_in(Version::Two));
+                let (one, two) = (one_in_second, two_in_second);
                 self.damaged_panels(&one, &two)?;
                 // A file with too many placements on either side.
-                let passing = of_equal_lines(3, 1, 255, 9).file_in(Version::Two);
+                let passing = file_in(&of_equal_lines(3, 1, 255, 9), Version::Two);
                 for (one, two) in [(&passing, &two), (&one, &passing)] {
                     self.panel(one, two, Call::Merge { out: 100, answer: ANSWER_PLACES })?;
                     self.panel(one, two, Call::Alone { plan: 20, answer: ANSWER_PLACES })?;
@@ -97,7 +100,7 @@ impl Run {
         for out in [out.saturating_sub(1), out, out + 1, out + 9, 0] {
             self.panel(first, second, Call::Merge { out, answer: ANSWER_PLACES })?;
         }
-        let of_first = read(first).board.count;
+        let of_first = job_in(first).lines.len();
         for plan in [plan.saturating_sub(1), plan, plan + 1, plan + 9, of_first, 0] {
             self.panel(first, second, Call::Alone { plan, answer: ANSWER_PLACES })?;
         }
@@ -172,18 +175,17 @@ impl Run {
         if number == 100 {
             return;
         }
-        let (one, two) = (read(first), read(second));
-        let (bad, other_bad) = (one.number != 0, two.number != 0);
-        let (one, two) = ((one.number, one.board), (two.number, two.board));
-        self.count_events(&[
-            (bad && !other_bad, Event::FirstBoardBad),
-            (!bad && other_bad, Event::SecondBoardBad),
-            (bad && other_bad && one.0 != two.0, Event::BothBoardsBad),
-        ]);
-        if bad || other_bad {
-            return;
-        }
-        let (one, two) = (one.1, two.1);
+        let (one, two) = match (board_in(first), board_in(second)) {
+            (Ok(one), Ok(two)) => (one, two),
+            (one, two) => {
+                self.count_events(&[
+                    (two.is_ok(), Event::FirstBoardBad),
+                    (one.is_ok(), Event::SecondBoardBad),
+                    (matches!((one, two), (Err(one), Err(two)) if one.number != two.number), Event::BothBoardsBad),
+                ]);
+                return;
+            }
+        };
         let (lines, placements) = (one.count + two.count, one.placements().len() + two.placements().len());
         let (accepted, same_rack) = (number == 0, one.rack == two.rack);
         let versions = [first[4], second[4]];
@@ -204,11 +206,16 @@ impl Run {
     }
 }
 
+/// What a job file holds; no lines where it is refused.
+fn job_in(file: &[u8]) -> Job {
+    Job::read(file).unwrap_or(Job { rack: 1, lines: Vec::new() })
+}
+
 /// The lengths that merging and planning alone need, of good files.
 fn needed(first: &[u8], second: &[u8]) -> [usize; 2] {
-    let (one, two) = (read(first).board, read(second).board);
-    let lines = one.count + two.count;
-    let version = if is_counted(&one) || is_counted(&two) { Version::Two } else { Version::One };
+    let (one, two) = (job_in(first), job_in(second));
+    let lines = one.lines.len() + two.lines.len();
+    let version = if one.is_single() && two.is_single() { Version::One } else { Version::Two };
     [version.length_of(lines), lines]
 }
 
