@@ -1,4 +1,4 @@
--- What a call on a board tells, in the documents' words: the board, a refusal's number or 0, its place or 0, and counts, 0 where it refuses.
+-- What a call on a board gives, in the documents' words: the board, a refusal's number or 0, its place or 0, and counts, 0 where it refuses.
 use Rattle.std.specs.Prelude.{ℕ, ℤ}
 use Rattle.board.specs.declared.Board.{Board}
 

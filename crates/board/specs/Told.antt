@@ -1,4 +1,4 @@
--- What a call on a board tells by its result.
+-- The answer of a call on a board, by its result.
 use Rattle.std.specs.Prelude.{ℕ, ℤ, Result, Ok, Err}
 use Rattle.refusal.specs.Refusal.{none}
 use Rattle.refusal.specs.declared.Refused.{Refused}
@@ -16,7 +16,7 @@ use Rattle.board.specs.Sharing.{shared}
 use Rattle.board.specs.Junior.{planned}
 use Rattle.board.specs.Panel.{merged}
 
--- of a call that leaves this board and tells nothing else
+-- of a call that leaves this board and gives nothing else
 abbrev pub answered : {A : Type 0} → Board → Result A Refused → Answer
 answered b r = answer b (refusal_of r)
 

@@ -31,7 +31,7 @@ use Rattle.file_calls.proofs.KeptFile.{keep-in}
 use Rattle.file_calls.proofs.GoalFile.{goal-in}
 use Rattle.file_calls.proofs.JuniorIn.{junior-in}
 
--- a refusal of writing tells no margin, and no other refusal but 26 has one
+-- a refusal of writing gives no margin, and only 26 has one
 no_margin : (b : Bool) → cond b 0 (twos_complement (pos 0)) ≡ twos_complement (pos 0)
 unfolding twos_complement
 no_margin true = refl

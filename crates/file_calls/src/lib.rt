@@ -134,7 +134,7 @@ pub fn best_outcome(
     Ok(Counts::one(u64::from(pairs)))
 }
 
-// The plan, the claim and the table are only read: there is nothing to tell but the refusal.
+// The call only reads the plan, the claim and the table, so it gives no count.
 pub fn check_outcome(file: &[u8], plan: &[u8], claim: u32, table: &[u32]) -> Result<Counts, Refused>
     ensures outcome { outcome_of result ≡ check_in file.now plan.now claim table.now }
     ensures rule { CheckRuleOf file.now plan.now claim table.now (outcome_of result) }

@@ -24,7 +24,7 @@ module _ (earlier : Refusal) (m : ℕ) (qs lines old : List ℕ) where
       let bytes = file_length (version_for qs) (length lines) in
       (rw (e, refused bytes 0 e f) refl, lent_refused e bytes (written_of m qs lines) old f)
 
-  -- an earlier refusal is told, whatever the lines are
+  -- an earlier refusal stays, whatever the lines are
   pub write_stopped : (earlier.number ≡ 0 → ⊥) → Writes (record { refusal = earlier; bytes = 0 }) old
   unfolding write_refusal
   write_stopped f = refused-by (or_first {d = earlier} refl _ f) f

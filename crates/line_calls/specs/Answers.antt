@@ -1,4 +1,4 @@
--- What a call on lines tells: its refusal, and its counts, which are 0 where it refuses; and what it tells by its result.
+-- The answer of a call on lines: its refusal, and its counts, which are 0 where it refuses; and the answer by the result.
 use Rattle.std.specs.Prelude.{ℕ, ℤ, Result, Ok, Err}
 use Rattle.refusal.specs.Told.{Refusal}
 use Rattle.refusal.specs.Refusal.{none}
@@ -15,7 +15,7 @@ pub record CommonAnswer : Type 0 where
   pub off : ℕ
   pub tips : ℕ
 
--- the margin of keep, which a refusal tells too
+-- the margin of keep, which a refusal has too
 pub record KeepAnswer : Type 0 where
   pub refusal : Refusal
   pub margin : ℤ
@@ -37,7 +37,7 @@ pub record FileAnswer : Type 0 where
   pub refusal : Refusal
   pub bytes : ℕ
 
--- ---- what is told by a result
+-- ---- the answer by a result
 
 abbrev pub common_told : Result Common Refused → CommonAnswer
 common_told (Ok x) = record { refusal = none; top = x.top; off = x.off; tips = x.tips }

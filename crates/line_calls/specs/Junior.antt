@@ -31,7 +31,7 @@ junior_buffer earlier m qs lines plan = lent_by (junior_refusal earlier m qs lin
 
 -- the rule, of the bytes in the buffer, where asked is the number refused before tips are sought. Where the number is 0, the plan is handed out, on u
 -- alone or on u and v, each with a line; no valid plan on one tip or two has more placement pairs, and none with as many is on a lower u, or on u and
--- a lower v. And 31 is told exactly where no valid plan is on one tip or two
+-- a lower v. And the number is 31 exactly where no valid plan is on one tip or two
 pub record JuniorRule (asked : ℕ) (qs lines buffer : List ℕ) (number shared u v : ℕ) : Type 0 where
   pub plan : number ≡ 0 → HandedOut qs lines buffer shared
   pub tips : number ≡ 0 → OnTips u v (take (length lines) buffer)

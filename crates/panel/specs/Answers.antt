@@ -1,4 +1,4 @@
--- What planning two boards alone tells: its refusal, and the pairs of both plans, which are 0 where it refuses.
+-- The answer of planning two boards alone: its refusal, and the pairs of both plans, which are 0 where it refuses.
 use Rattle.std.specs.Prelude.{ℕ, Result, Ok, Err}
 use Rattle.refusal.specs.Told.{Refusal}
 use Rattle.refusal.specs.Refusal.{none}

@@ -13,7 +13,8 @@ returns-in_err-best_refusal c =
     let e = c.in_err-best_refusal.field-0.0 in
     let same : c.from_residual.result ≡ Err e = search rules in
     let first =
-    check_first none a.lines.rack a.lines.quantities.now a.lines.sets.now a.plan.now a.claim a.table.now c.in_err-best_refusal.ensures (reason_not_0 e.reason) in
+    check_first none a.lines.rack a.lines.quantities.now a.lines.sets.now a.plan.now a.claim a.table.now
+    c.in_err-best_refusal.ensures (reason_not_0 e.reason) in
     rw same (record {
       answer = first;
       rule = check_rule none a.lines.rack a.lines.quantities.now a.lines.sets.now a.plan.now a.claim a.table.now (λ _. c.args.lines.good) first;
@@ -33,8 +34,8 @@ pub returns : goal.returns
 returns c =
     let a = c.args in
     let told =
-    check_next none a.lines.rack a.lines.quantities.now a.lines.sets.now a.plan.now a.claim a.table.now c.in_ok-best_refusal.ensures refl c.len.ensures
-    c.check_plan.ensures in
+    check_next none a.lines.rack a.lines.quantities.now a.lines.sets.now a.plan.now a.claim a.table.now
+    c.in_ok-best_refusal.ensures refl c.len.ensures c.check_plan.ensures in
     record {
       answer = told;
       rule = check_rule none a.lines.rack a.lines.quantities.now a.lines.sets.now a.plan.now a.claim a.table.now (λ _. c.args.lines.good) told;

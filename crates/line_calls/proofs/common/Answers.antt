@@ -6,5 +6,6 @@ use Rattle.line_calls.proofs.common.Goals as goal
 pub returns : goal.returns
 returns c =
     let told = c.common_tip.ensures in
-    let both = common_accepted none c.args.lines.rack c.args.lines.quantities.now c.args.lines.sets.now refl c.args.lines.good told.top told.off told.tips in
+    let l = c.args.lines in
+    let both = common_accepted none l.rack l.quantities.now l.sets.now refl l.good told.top told.off told.tips in
     record { answer = both.0; rule = both.1 }

@@ -17,8 +17,8 @@ returns-in_err-write_refusal c =
     let e = c.in_err-write_refusal.field-0.0 in
     let same : c.from_residual.result ≡ Err e = search rules in
     let (answer, buffer) =
-    write-refused none a.lines.rack a.lines.quantities.now a.lines.sets.now a.out.now c.in_err-write_refusal.ensures c.version_for-version.ensures c.len-count.ensures
-    (reason_not_0 e.reason) in
+    write-refused none a.lines.rack a.lines.quantities.now a.lines.sets.now a.out.now c.in_err-write_refusal.ensures
+    c.version_for-version.ensures c.len-count.ensures (reason_not_0 e.reason) in
     rw same (record { answer = answer; buffer = buffer })
 
 pub file_length-bytes-requires : goal.file_length-bytes-requires
@@ -44,6 +44,6 @@ pub returns : goal.returns
 returns c =
     let a = c.args in
     let (answer, buffer) =
-    write_accepted none a.lines.rack a.lines.quantities.now a.lines.sets.now a.out.now c.in_ok-write_refusal.ensures c.version_for-version.ensures c.len-count.ensures refl
-    c.file_length-bytes.ensures c.write_file.ensures in
+    write_accepted none a.lines.rack a.lines.quantities.now a.lines.sets.now a.out.now c.in_ok-write_refusal.ensures
+    c.version_for-version.ensures c.len-count.ensures refl c.file_length-bytes.ensures c.write_file.ensures in
     record { answer = answer; buffer = buffer }

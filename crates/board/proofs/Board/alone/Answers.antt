@@ -20,7 +20,8 @@ pub returns-in_err-lines-clause-answer : goal.returns-in_err-lines-clause-answer
 returns-in_err-lines-clause-answer c =
     let x = c.in_err-lines.field-0.0 in
     let e : c.from_residual.result ≡ Err x = search rules in
-    ap (alone_answered c.args.self.now c.args.other.now) e ∙ alone_stopped x c.args.self.now c.args.other.now (or_err _ x c.in_err-lines.ensures.refusal) _
+    ap (alone_answered c.args.self.now c.args.other.now) e
+    ∙ alone_stopped x c.args.self.now c.args.other.now (or_err _ x c.in_err-lines.ensures.refusal) _
 
 pub returns-in_err-lines-clause-plan : goal.returns-in_err-lines-clause-plan
 returns-in_err-lines-clause-plan c =

@@ -49,7 +49,8 @@ invariant_of-panel c =
     let x = c.in_ok-lines.lines in
     let y = c.in_ok-others.others in
     let merge = c.in_ok-merge.ensures in
-    record { good = rw (c.len.ensures, c.len-2.ensures) (good-merged none (λ _. x.good) (λ _. y.good) merge.answer refl _ _ merge.sets merge.quantities) }
+    let good = good-merged none (λ _. x.good) (λ _. y.good) merge.answer refl _ _ merge.sets merge.quantities in
+    record { good = rw (c.len.ensures, c.len-2.ensures) good }
 
 pub returns-in_err-bytes : goal.returns-in_err-bytes
 returns-in_err-bytes c =

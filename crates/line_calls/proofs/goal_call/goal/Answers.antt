@@ -11,13 +11,14 @@ returns-in_err-run_refusal c =
     let e = c.in_err-run_refusal.field-0.0 in
     let same : c.from_residual.result ≡ Err e = search rules in
     let (answer, sets) =
-    goal-stopped none a.lines.rack a.lines.quantities.now a.lines.sets.now a.goal a.struck.now (asked_runs none a.lines.sets.now refl c.in_err-run_refusal.ensures)
-    (reason_not_0 e.reason) in
+    goal-stopped none a.lines.rack a.lines.quantities.now a.lines.sets.now a.goal a.struck.now
+    (asked_runs none a.lines.sets.now refl c.in_err-run_refusal.ensures) (reason_not_0 e.reason) in
     rw same (record { answer = answer; sets = sets })
 
 pub strike-requires : goal.strike-requires
 strike-requires c =
-    let all = asked-none none c.args.lines.sets.now (ap (λ r. r.number) (sym (asked_runs none c.args.lines.sets.now refl c.in_ok-run_refusal.ensures))) in
+    let sets = c.args.lines.sets.now in
+    let all = asked-none none sets (ap (λ r. r.number) (sym (asked_runs none sets refl c.in_ok-run_refusal.ensures))) in
     (record { good = c.args.lines.good; runs = all.1; all = c.names_of.ensures }, c.requires)
 
 pub returns : goal.returns

@@ -33,7 +33,8 @@ returns-in-Some c =
     let a = c.args in
     let asked = rw c.len-count.ensures at (ap (λ r. r.number) (sym c.in_ok-junior_refusal.ensures)) in
     let (answer, (plan, rule)) =
-    junior_found none a.lines.rack a.lines.quantities.now a.lines.sets.now a.plan.now asked a.lines.good c.len-count.ensures c.in-Some.ensures.plan c.in-Some.ensures.answer in
+    junior_found none a.lines.rack a.lines.quantities.now a.lines.sets.now a.plan.now asked a.lines.good
+    c.len-count.ensures c.in-Some.ensures.plan c.in-Some.ensures.answer in
     record { answer = answer; plan = plan; rule = rule }
 
 pub returns-in-None : goal.returns-in-None
@@ -41,5 +42,6 @@ returns-in-None c =
     let a = c.args in
     let asked = rw c.len-count.ensures at (ap (λ r. r.number) (sym c.in_ok-junior_refusal.ensures)) in
     let (answer, (plan, rule)) =
-    junior_missed none a.lines.rack a.lines.quantities.now a.lines.sets.now a.plan.now asked a.lines.good c.len-count.ensures c.in-None.ensures.plan c.in-None.ensures.answer in
+    junior_missed none a.lines.rack a.lines.quantities.now a.lines.sets.now a.plan.now asked a.lines.good
+    c.len-count.ensures c.in-None.ensures.plan c.in-None.ensures.answer in
     rw c.at.ensures (record { answer = answer; plan = plan; rule = rule })
