@@ -6,4 +6,3 @@ pub mod Refused
 pub mod Checked
 pub mod PairGoal
 pub mod JuniorPlan
-pub mod Copied

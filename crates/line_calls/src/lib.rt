@@ -1,7 +1,7 @@
 // Each call on lines that are good: the board and a call on a file ask first what comes before.
 #![tactic(auto)]
 
-ghost use Rattle.std.specs.Prelude.{◌≡◌, Ok, length, take};
+ghost use Rattle.std.specs.Prelude.{◌≡◌, Ok, length};
 ghost use Rattle.placements.specs.Good.{GoodLines};
 ghost use Rattle.head.specs.OnHead.{on_head};
 ghost use Rattle.refusal.specs.Refusal.{none};
@@ -43,16 +43,7 @@ pub fn keep(rack: usize, lines: &mut [u64], quantities: &[u8], k: u16) -> Result
     call_refusals::keep_refusal(margin)
 }
 
-// The sets, in a working copy that a plan uses up. The places behind them are not read.
-fn working_copy(lines: Lines<'_>) -> [u64; model::MOST_LINES]
-    ensures { take (length lines.entry.sets.now) result ≡ lines.entry.sets.now }
-{
-    let mut left = [0u64; model::MOST_LINES];
-    left[..lines.len()].copy_from_slice(lines.sets);
-    left
-}
-
-// The pairs of the plan of quick sharing.
+// The pairs of the plan of quick sharing, which uses up a working copy of the sets.
 pub fn quick(lines: Lines<'_>, mounted: Option<usize>, plan: &mut [u8]) -> Result<u32, Refused>
     ensures answer { plan_told result
         ≡ quick_of none lines.entry.rack (on_head mounted) lines.entry.quantities.now lines.entry.sets.now (length plan.old) }
@@ -63,17 +54,19 @@ pub fn quick(lines: Lines<'_>, mounted: Option<usize>, plan: &mut [u8]) -> Resul
 {
     let count = lines.len();
     call_refusals::plan_refusal(count, plan.len())?;
-    let mut left = working_copy(lines);
+    let mut room = [0u64; model::MOST_LINES];
+    let left = &mut room[..count];
+    left.copy_from_slice(lines.sets);
     Ok(greedy::plan_lines(
         lines.rack,
         mounted,
-        &mut left[..count],
+        left,
         lines.quantities,
         &mut plan[..count],
     ))
 }
 
-// The pairs of the plan of best sharing.
+// The pairs of the plan of best sharing, which renumbers a working copy of the sets.
 pub fn best(
     lines: Lines<'_>,
     mounted: Option<usize>,
@@ -92,11 +85,13 @@ pub fn best(
     call_refusals::best_refusal(lines.rack, lines.sets, plan.len(), table.len())?;
     let count = lines.len();
     let square = lines.rack * lines.rack;
-    let mut left = working_copy(lines);
+    let mut room = [0u64; model::MOST_LINES];
+    let left = &mut room[..count];
+    left.copy_from_slice(lines.sets);
     Ok(best::plan_lines(
         lines.rack,
         mounted,
-        &mut left[..count],
+        left,
         lines.quantities,
         &mut plan[..count],
         &mut table[..square],

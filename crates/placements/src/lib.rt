@@ -1,4 +1,4 @@
-// The rules of tip sharing where a line stands for several placements. Definitions and laws are in specs/ and proofs/, the lines and the total in code.
+// The rules of tip sharing where a line stands for several placements. Definitions and laws are in specs/ and proofs/; lines and total in code.
 #![tactic(auto)]
 
 ghost use Rattle.std.specs.Prelude.{◌≡◌, ◌≤◌, length};

@@ -1,12 +1,11 @@
 use mathlib.Core.Path.{◌≡◌, refl, sym, ap, ◌∙◌}
 use lib.Seq.{length-take-le}
-use Rattle.std.proofs.Common.{rules, Err}
+use Rattle.std.proofs.Common.{rules, Err, length}
 use Rattle.refusal.specs.Refusal.{none}
 use Rattle.refusal.proofs.Laws.{reason_not_0}
 use Rattle.head.specs.OnHead.{on_head}
 use Rattle.call_refusals.proofs.Calls.{best_none}
 use Rattle.line_calls.proofs.Plans.{best-refused, best_accepted}
-use Rattle.line_calls.proofs.Copied.{copied, whole_copy}
 use Rattle.line_calls.proofs.best.Goals as goal
 
 pub returns-in_err-best_refusal : goal.returns-in_err-best_refusal
@@ -19,33 +18,28 @@ returns-in_err-best_refusal c =
     (reason_not_0 e.reason) in
     rw same (record { answer = answer; plan = plan; table = table; rule = rule })
 
--- the working copy has the sets of all lines
 pub slice_bounds-plan_lines-end : goal.slice_bounds-plan_lines-end
-slice_bounds-plan_lines-end c = whole_copy c.working_copy-left.result c.len-count.ensures c.working_copy-left.ensures
+slice_bounds-plan_lines-end c =
+    rw c.len-count.ensures (best_none none _ _ _ _ (ap (λ r. r.number) (sym c.in_ok-best_refusal.ensures))).bytes
 
 pub slice_bounds-plan_lines-end-2 : goal.slice_bounds-plan_lines-end-2
 slice_bounds-plan_lines-end-2 c =
-    rw c.len-count.ensures (best_none none _ _ _ _ (ap (λ r. r.number) (sym c.in_ok-best_refusal.ensures))).bytes
-
-pub slice_bounds-plan_lines-end-3 : goal.slice_bounds-plan_lines-end-3
-slice_bounds-plan_lines-end-3 c =
     let room = (best_none none _ _ _ _ (ap (λ r. r.number) (sym c.in_ok-best_refusal.ensures))).bytes in
     rw c.len-count.ensures (sym (length-take-le _ _ room))
 
-pub slice_bounds-plan_lines-end-4 : goal.slice_bounds-plan_lines-end-4
-slice_bounds-plan_lines-end-4 c = (best_none none _ _ _ _ (ap (λ r. r.number) (sym c.in_ok-best_refusal.ensures))).cells
+pub slice_bounds-plan_lines-end-3 : goal.slice_bounds-plan_lines-end-3
+slice_bounds-plan_lines-end-3 c = (best_none none _ _ _ _ (ap (λ r. r.number) (sym c.in_ok-best_refusal.ensures))).cells
 
-pub slice_bounds-plan_lines-end-5 : goal.slice_bounds-plan_lines-end-5
-slice_bounds-plan_lines-end-5 c = sym (length-take-le _ _ (best_none none _ _ _ _ (ap (λ r. r.number) (sym c.in_ok-best_refusal.ensures))).cells)
+pub slice_bounds-plan_lines-end-4 : goal.slice_bounds-plan_lines-end-4
+slice_bounds-plan_lines-end-4 c = sym (length-take-le _ _ (best_none none _ _ _ _ (ap (λ r. r.number) (sym c.in_ok-best_refusal.ensures))).cells)
 
 pub plan_lines-requires : goal.plan_lines-requires
 plan_lines-requires c =
     let free = best_none none _ _ _ _ (ap (λ r. r.number) (sym c.in_ok-best_refusal.ensures)) in
-    let left = c.working_copy-left in
-    let same = copied left.result c.len-count.ensures left.ensures in
+    let same = c.copy_from_slice.ensures.after in
     let room = rw (← c.len-count.ensures) at free.bytes in (
       rw same (record { good = c.args.lines.good; runs = free.runs }),
-      length-take-le _ _ room ∙ whole_copy left.result c.len-count.ensures left.ensures,
+      length-take-le _ _ room ∙ c.len-count.ensures ∙ sym (ap length same),
       length-take-le _ _ free.cells,
     )
 
@@ -53,7 +47,7 @@ pub returns : goal.returns
 returns c =
     let a = c.args in
     let laid = c.plan_lines.ensures in
-    let same = copied c.working_copy-left.result c.len-count.ensures c.working_copy-left.ensures in
+    let same = c.copy_from_slice.ensures.after in
     let (answer, (plan, (table, rule))) =
     best_accepted none a.lines.rack (on_head a.mounted) a.lines.quantities.now a.lines.sets.now a.plan.now a.table.now
     c.in_ok-best_refusal.ensures refl a.lines.good c.len-count.ensures

@@ -1,12 +1,11 @@
 use mathlib.Core.Path.{◌≡◌, refl, sym, ap, ◌∙◌}
 use lib.Seq.{length-take-le}
-use Rattle.std.proofs.Common.{rules, Err}
+use Rattle.std.proofs.Common.{rules, Err, length}
 use Rattle.refusal.specs.Refusal.{none}
 use Rattle.refusal.proofs.Laws.{reason_not_0}
 use Rattle.head.specs.OnHead.{on_head}
 use Rattle.call_refusals.proofs.Calls.{plan_none}
 use Rattle.line_calls.proofs.Plans.{quick_refused, quick_accepted}
-use Rattle.line_calls.proofs.Copied.{copied, whole_copy}
 use Rattle.line_calls.proofs.quick.Goals as goal
 
 pub returns-in_err-plan_refusal : goal.returns-in_err-plan_refusal
@@ -19,29 +18,25 @@ returns-in_err-plan_refusal c =
     (λ _. c.len-count.ensures) (reason_not_0 e.reason) in
     rw same (record { answer = answer; plan = plan; rule = rule })
 
--- the working copy has the sets of all lines
 pub slice_bounds-plan_lines-end : goal.slice_bounds-plan_lines-end
-slice_bounds-plan_lines-end c = whole_copy c.working_copy-left.result c.len-count.ensures c.working_copy-left.ensures
+slice_bounds-plan_lines-end c = (plan_none none _ _ (ap (λ r. r.number) (sym c.in_ok-plan_refusal.ensures))).1
 
 pub slice_bounds-plan_lines-end-2 : goal.slice_bounds-plan_lines-end-2
-slice_bounds-plan_lines-end-2 c = (plan_none none _ _ (ap (λ r. r.number) (sym c.in_ok-plan_refusal.ensures))).1
-
-pub slice_bounds-plan_lines-end-3 : goal.slice_bounds-plan_lines-end-3
-slice_bounds-plan_lines-end-3 c = sym (length-take-le _ _ (plan_none none _ _ (ap (λ r. r.number) (sym c.in_ok-plan_refusal.ensures))).1)
+slice_bounds-plan_lines-end-2 c = sym (length-take-le _ _ (plan_none none _ _ (ap (λ r. r.number) (sym c.in_ok-plan_refusal.ensures))).1)
 
 pub plan_lines-requires : goal.plan_lines-requires
 plan_lines-requires c =
     let room = (plan_none none _ _ (ap (λ r. r.number) (sym c.in_ok-plan_refusal.ensures))).1 in
-    let left = c.working_copy-left in
+    let same = c.copy_from_slice.ensures.after in
     record {
-      good = rw (copied left.result c.len-count.ensures left.ensures) c.args.lines.good;
-      size = length-take-le _ _ room ∙ whole_copy left.result c.len-count.ensures left.ensures;
+      good = rw same c.args.lines.good;
+      size = length-take-le _ _ room ∙ c.len-count.ensures ∙ sym (ap length same);
     }
 
 pub returns : goal.returns
 returns c =
     let a = c.args in
-    let same = copied c.working_copy-left.result c.len-count.ensures c.working_copy-left.ensures in
+    let same = c.copy_from_slice.ensures.after in
     let (answer, (plan, rule)) =
     quick_accepted none a.lines.rack (on_head a.mounted) a.lines.quantities.now a.lines.sets.now a.plan.now c.in_ok-plan_refusal.ensures
     (λ _. c.len-count.ensures) refl c.len-count.ensures a.lines.good
