@@ -77,7 +77,7 @@ impl Fill {
 // The part of a buffer that is lent.
 fn lent<T>(buffer: &mut [T], room: Option<usize>) -> &mut [T] {
     let all = buffer.len();
-    let room = room.map_or(all, |room| room.min(all));
+    let room = room.unwrap_or(all).min(all);
     &mut buffer[..room]
 }
 
@@ -112,10 +112,11 @@ fn common_tip<W: Write>(out: &mut W, board: &Board) -> io::Result<()> {
 // Gives the board that is kept.
 fn keep<W: Write>(out: &mut W, board: &Board, k: u16) -> io::Result<Board> {
     let mut kept = *board;
-    let told = kept.keep(k);
     // The margin is told with the refusal of too small a k too.
-    let margin = told.unwrap_or_else(|unkept| unkept.margin);
-    let told = told.map_err(|unkept| unkept.refused);
+    let (told, margin) = match kept.keep(k) {
+        Ok(margin) => (Ok(()), margin),
+        Err(unkept) => (Err(unkept.refused), unkept.margin),
+    };
     let name = if margin < 0 { "below" } else { "margin" };
     let size = margin.unsigned_abs();
     let back = Back::new(board, &kept);
@@ -169,6 +170,36 @@ fn write<W: Write>(out: &mut W, board: &Board, room: Option<usize>) -> io::Resul
     writeln!(out, " file{bytes}{back}")?;
     Ok(file)
 }
+
+// The calls that are made on a record in each stage.
+const EVERY_CALL: &[(&str, Call)] = &[
+    (
+        "add",
+        Call::Add {
+            set: 1,
+            quantity: 1,
+        },
+    ),
+    ("close", Call::Close),
+    ("common", Call::CommonTip),
+    ("keep", Call::Keep { k: 5 }),
+    (
+        "quick",
+        Call::Quick {
+            room: None,
+            mounted: None,
+        },
+    ),
+    (
+        "best",
+        Call::Best {
+            room: None,
+            places: None,
+            mounted: None,
+        },
+    ),
+    ("write", Call::Write { room: None }),
+];
 
 impl State {
     pub(crate) fn call<W: Write>(&mut self, out: &mut W, call: Call) -> io::Result<()> {
@@ -232,36 +263,13 @@ impl State {
             ..self.board
         };
         writeln!(out, " record{}", Back::new(&Board::blank(), &record))?;
-        let (room, places, mounted) = (None, None, None);
-        let calls = [
-            (
-                "add",
-                Call::Add {
-                    set: 1,
-                    quantity: 1,
-                },
-            ),
-            ("close", Call::Close),
-            ("common", Call::CommonTip),
-            ("keep", Call::Keep { k: 5 }),
-            ("quick", Call::Quick { room, mounted }),
-            (
-                "best",
-                Call::Best {
-                    room,
-                    places,
-                    mounted,
-                },
-            ),
-            ("write", Call::Write { room }),
-        ];
-        for (name, call) in calls {
+        for (name, call) in EVERY_CALL {
             write!(out, " {name}")?;
             let mut state = State {
                 board: record,
                 ..*self
             };
-            state.call(out, call)?;
+            state.call(out, *call)?;
         }
         Ok(())
     }

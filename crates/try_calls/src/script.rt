@@ -122,10 +122,15 @@ fn patches(alloc: Global, numbers: &[u64]) -> Result<Vec<Patch>, ScriptError> {
     Ok(patches)
 }
 
+// The number at the place, if it is given.
+fn given(numbers: &[u64], place: usize) -> Option<usize> {
+    let number = numbers.get(place)?;
+    Some(*number as usize)
+}
+
 impl Call {
     // The call that a word stands for, if any does.
     fn new(word: &str, numbers: &[u64]) -> Option<Call> {
-        let given = |i: usize| numbers.get(i).map(|number| *number as usize);
         match (word, numbers) {
             ("open", [rack]) => Some(Call::Open {
                 rack: *rack as usize,
@@ -147,15 +152,17 @@ impl Call {
                 k: u16::try_from(*k).unwrap_or(u16::MAX),
             }),
             ("quick", _) => Some(Call::Quick {
-                room: given(0),
-                mounted: given(1),
+                room: given(numbers, 0),
+                mounted: given(numbers, 1),
             }),
             ("best", _) => Some(Call::Best {
-                room: given(0),
-                places: given(1),
-                mounted: given(2),
+                room: given(numbers, 0),
+                places: given(numbers, 1),
+                mounted: given(numbers, 2),
             }),
-            ("write", _) => Some(Call::Write { room: given(0) }),
+            ("write", _) => Some(Call::Write {
+                room: given(numbers, 0),
+            }),
             _ => None,
         }
     }

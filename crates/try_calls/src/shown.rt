@@ -39,7 +39,7 @@ impl fmt::Display for Told {
 }
 
 // Values of which only the first `written` should be other than blank.
-#[derive(Clone, Copy)]
+#[derive(Drop)]
 pub(crate) struct Values<'a, T> {
     values: &'a [T],
     blank: T,

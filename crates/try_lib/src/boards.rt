@@ -38,11 +38,9 @@ fn count_changes<T: PartialEq>(a: &[T], b: &[T]) -> usize {
 
 // How many of rack, stage, count, the 512 sets and the 512 quantities differ between two boards.
 pub fn changes(a: &Board, b: &Board) -> usize {
-    let numbers = [a.rack != b.rack, a.stage != b.stage, a.count != b.count];
-    numbers
-        .iter()
-        .filter(|differs| **differs)
-        .count()
+    usize::from(a.rack != b.rack)
+        .saturating_add(usize::from(a.stage != b.stage))
+        .saturating_add(usize::from(a.count != b.count))
         .saturating_add(count_changes(&a.sets, &b.sets))
         .saturating_add(count_changes(&a.quantities, &b.quantities))
 }
