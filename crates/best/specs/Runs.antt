@@ -1,7 +1,7 @@
 -- The lines of best sharing, on the board and renumbered.
 -- For proofs and leaf contracts: no call's contract speaks of these.
-use Rattle.std.specs.Prelude.{ℕ, ◌*◌, ◌≤◌, ◌<◌, ◌≡◌, List, [], ◌∷◌, T, length, refl}
-use Rattle.model.specs.Count.{All, none, more}
+use Rattle.std.specs.Prelude.{ℕ, ◌*◌, ◌≤◌, ◌<◌, ◌≡◌, List, [], T, length}
+use Rattle.model.specs.Count.{All}
 use Rattle.model.specs.Interval.{is_run, named, is_run_of}
 use Rattle.placements.specs.Good.{GoodLines}
 
@@ -15,11 +15,6 @@ pub record FullRuns (m : ℕ) (qs sets : List ℕ) : Type 0 where
   pub good : GoodLines m qs sets
   pub runs : All (λ s. T (is_run s)) sets
   pub full : (t : ℕ) → t < m → T (named sets t)
-
--- what holds of each element has one proof at most if it has of one element, so that a struct can keep it
-pub All-prop : {A : Type 0} (P : A → Type 0) → ((x : A) → IsProp (P x)) → (xs : List A) → IsProp (All P xs)
-All-prop P h [] none none = refl
-All-prop P h (x ∷ xs) (more p ps) (more q qs) = λ i. more (h x p q i) (All-prop P h xs ps qs i)
 
 -- such lines in a rack of r tips, or none where it has no tip; a plan of as many lines, and room for a table
 pub record Ranked (r : ℕ) (qs sets plan table : List ℕ) : Type 0 where

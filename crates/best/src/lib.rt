@@ -5,10 +5,11 @@ ghost use Rattle.std.specs.Prelude.{◌≡◌, ◌+◌, ◌*◌, ◌^◌, ◌<�
 ghost use Rattle.model.specs.Interval.{C, table as table_of};
 ghost use Rattle.model.specs.Renumber.{names as names_of};
 ghost use Rattle.placements.specs.Repeated.{repeated};
+ghost use Rattle.placements.specs.Good.{All-prop};
 ghost use Rattle.placements.specs.Plans.{best_plan_q};
 ghost use Rattle.spans.specs.Spans.{sums_size};
 ghost use Rattle.head.specs.OnHead.{on_head};
-ghost use Rattle.best.specs.Runs.{NamedRuns, FullRuns, Ranked, All-prop};
+ghost use Rattle.best.specs.Runs.{NamedRuns, FullRuns, Ranked};
 ghost use Rattle.std.proofs.Props.{props};
 
 use layout::Counted;

@@ -14,8 +14,8 @@ impl Board {
     {
         let lines = self.lines()?;
         let others = other.lines()?;
-        let mut sets = sound::no_sets();
-        let mut quantities = sound::no_quantities();
+        let mut sets = [0u64; model::MOST_LINES];
+        let mut quantities = [0u8; model::MOST_LINES];
         panel::merge(lines, others, &mut sets, &mut quantities)?;
         Ok(Board {
             rack: self.rack,

@@ -79,8 +79,8 @@ pub fn keep_outcome(file: &[u8], k: u16, out: &mut [u8]) -> Result<Counts, Unkep
     ensures out { out.new ≡ keep_file_in file.now k out.old }
     ensures rule { KeepRuleOf file.now k out.new (kept_outcome_of result) }
 {
-    let mut sets = sound::no_sets();
-    let mut quantities = sound::no_quantities();
+    let mut sets = [0u64; model::MOST_LINES];
+    let mut quantities = [0u8; model::MOST_LINES];
     let read = reading::read_lines(file, &mut sets, &mut quantities)?;
     let sets = &mut sets[..read.count];
     let quantities = &quantities[..read.count];

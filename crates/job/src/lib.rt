@@ -9,7 +9,7 @@ ghost use Rattle.refusal.specs.Reasons.{number_in};
 
 use refusal::Reason;
 
-// The bytes 54 49 50 hex, "TIP".
+// The bytes 54 49 50 hex, "TIP": what every file begins with, and not a kind of file.
 pub const MARK: u64 = 0x544950;
 
 // The bytes of the header, and of a line's set; a quantity has one byte.
@@ -25,7 +25,7 @@ pub enum Version {
 }
 
 impl Version {
-    // The number that stands for it in a header.
+    // The number that stands for it in a header. The conversion is the language's own, of an enum with numbers.
     pub fn number(self) -> u8
         ensures { result ≡ version_number self }
     {

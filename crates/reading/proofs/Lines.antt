@@ -41,7 +41,3 @@ module _ {file : List ℕ} {m n : ℕ} {old-sets sets old-qs qs : List ℕ} (l :
     quantity_room = λ z. front_room (quantities_in file) _ l.quantities_are quantities_count;
     good = λ z. first_good (sym (ap (λ q. q.number) e) ∙ z);
   }
-
--- after a refusal nothing is said of the lines
-pub given-refused : {r : Refusal} {m n : ℕ} {qs sets : List ℕ} → (r.number ≡ 0 → ⊥) → Given r m n qs sets
-given-refused h = record { room = λ z. absurd (h z); quantity_room = λ z. absurd (h z); good = λ z. absurd (h z) }

@@ -4,4 +4,4 @@ use Rattle.board.proofs.Board.empty.Goals as goal
 
 pub returns : goal.returns
 unfolding no_sets no_quantities
-returns c = rw (c.no_sets.ensures, c.no_quantities.ensures) refl
+returns c = refl

@@ -48,8 +48,8 @@ returns-clause-answer c =
     let other = other-full (goal.at.returns-clause-answer c).In_ok-others in
     let l = c.in_ok-lines.ensures in
     let o = c.in_ok-others.ensures in
-    let sets = c.no_sets-sets.ensures ∙ no-sets in
-    let quantities = c.no_quantities-quantities.ensures ∙ no-quantities in
+    let sets = no-sets in
+    let quantities = no-quantities in
     (merge_accepted _ _ all other c.in_ok-lines.ensures.refusal c.in_ok-others.ensures.refusal (or_ok none refl refl)
     (rw (l.rack, l.quantities, l.sets, o.rack, o.quantities, o.sets) at c.in_ok-merge.ensures.answer) refl
     (rw (sets, l.sets, o.sets) at c.in_ok-merge.ensures.sets) (rw (quantities, l.quantities, o.quantities) at c.in_ok-merge.ensures.quantities)).0
@@ -60,8 +60,8 @@ returns-clause-rule c =
     let other = other-full (goal.at.returns-clause-rule c).In_ok-others in
     let l = c.in_ok-lines.ensures in
     let o = c.in_ok-others.ensures in
-    let sets = c.no_sets-sets.ensures ∙ no-sets in
-    let quantities = c.no_quantities-quantities.ensures ∙ no-quantities in
+    let sets = no-sets in
+    let quantities = no-quantities in
     (merge_accepted _ _ all other c.in_ok-lines.ensures.refusal c.in_ok-others.ensures.refusal (or_ok none refl refl)
     (rw (l.rack, l.quantities, l.sets, o.rack, o.quantities, o.sets) at c.in_ok-merge.ensures.answer) refl
     (rw (sets, l.sets, o.sets) at c.in_ok-merge.ensures.sets) (rw (quantities, l.quantities, o.quantities) at c.in_ok-merge.ensures.quantities)).1

@@ -21,8 +21,8 @@ returns-in_err-read-clause-answer c =
 
 pub returns-clause-answer : goal.returns-clause-answer
 returns-clause-answer c =
-    let sets = c.no_sets-sets.ensures ∙ no-sets in
-    let qs = c.no_quantities-quantities.ensures ∙ no-quantities in
+    let sets = no-sets in
+    let qs = no-quantities in
     read_through c.args.file.now c.in_ok-read.ensures.refusal refl sets qs c.in_ok-read.ensures.lines
 
 pub returns-clause-rule : goal.returns-clause-rule
