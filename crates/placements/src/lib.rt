@@ -1,4 +1,5 @@
-// The rules of tip sharing where a line stands for several placements. Definitions and laws are in specs/ and proofs/; lines and total in code.
+// The rules of tip sharing where a line stands for several placements: definitions and laws are in specs/ and proofs/, the lines of a board and
+// their total in code.
 #![tactic(auto)]
 
 ghost use Rattle.std.specs.Prelude.{◌≡◌, ◌≤◌, length};
@@ -29,12 +30,6 @@ impl Lines<'_> {
     {
         total(self.quantities)
     }
-}
-
-pub fn wide(quantity: u8) -> usize
-    ensures { result ≡ quantity }
-{
-    usize::from(quantity)
 }
 
 // The number of placements, summed in 16 bits, which hold it: the compiler adds eight at once, and of wider numbers fewer.
