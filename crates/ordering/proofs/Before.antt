@@ -67,7 +67,8 @@ flags_fewer x y = fewer x.fine x.tall y.fine y.tall
     fewer false true g k t = absurd t
 
 -- HEIGHT DECIDES: every order that obeyed still does, whatever the parts
-pub obeyed_still : (parts : List Part) (rules : List Rule) (order : List ℕ) → Obeys (task_before parts rules) order → Obeys (task_of parts rules) order
+pub obeyed_still : (parts : List Part) (rules : List Rule) (order : List ℕ) → Obeys (task_before parts rules) order
+    → Obeys (task_of parts rules) order
 unfolding before
 obeyed_still parts rules order o =
     record {
