@@ -2,7 +2,6 @@
 #![tactic(auto)]
 
 ghost use Rattle.std.specs.Prelude.{◌≡◌, ◌+◌, ◌<◌, ◌≤◌, ◌^◌, length, is_some, IfSome, IfOk};
-ghost use Rattle.model.specs.Plan.{rack_ok};
 ghost use Rattle.job.specs.Job.{number_at, header_length, counted, line_length, file_length, mark_in, version_ok, start_number, line_number};
 ghost use Rattle.job.specs.Header.{version_number, IsHeaderOf};
 ghost use Rattle.refusal.specs.Reasons.{number_in};
@@ -86,14 +85,6 @@ fn mark_in(file: &[u8]) -> u64
     u64::from(u32::from_be_bytes([0, file[0], file[1], file[2]]))
 }
 
-// A rack of 1 to 64 tips.
-#[tactic(auto, unfolding(model::specs::Plan::rack_ok))]
-fn rack_ok(rack: usize) -> bool
-    ensures { result ≡ rack_ok rack }
-{
-    1 <= rack && rack <= model::MOST_TIPS
-}
-
 // What a file's first bytes say: its version, the size of its rack and the number of its lines.
 #[derive(Clone, Copy, Debug, PartialEq, Eq)]
 pub struct Header {
@@ -118,7 +109,7 @@ impl Header {
             return Err(Reason::WrongVersion);
         };
         let rack = usize::from(file[5]);
-        if !rack_ok(rack) {
+        if !tips::rack_ok(rack) {
             return Err(Reason::RackSize);
         }
         let count = usize::from(two_at(file, 6));
