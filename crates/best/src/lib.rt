@@ -13,13 +13,8 @@ ghost use Rattle.best.specs.Runs.{NamedRuns, FullRuns, Ranked};
 ghost use Rattle.std.proofs.Props.{props};
 
 use layout::Counted;
-use spans::{MOST_SUMS, SMALL_SUMS};
+use spans::{MOST_SUMS, MOST_TABLE, SMALL_SUMS, SMALL_TABLE};
 use spread::Ranking;
-
-// A place for each run of a rack of 16 tips, and of the largest.
-const SMALL_TABLE: usize = 256;
-
-const TABLE_SIZE: usize = model::MOST_TIPS * model::MOST_TIPS;
 
 // Unbroken runs that name every tip of a rack of m tips, and the tip that is mounted.
 #[derive(Clone, Copy)]
@@ -68,7 +63,7 @@ impl Full<'_> {
         if self.m <= 16 {
             self.plan_in::<SMALL_SUMS, SMALL_TABLE>(plan, table);
         } else {
-            self.plan_in::<MOST_SUMS, TABLE_SIZE>(plan, table);
+            self.plan_in::<MOST_SUMS, MOST_TABLE>(plan, table);
         }
     }
 }

@@ -18,12 +18,6 @@ use each::Each;
 use refusal::{Reason, Refused};
 use summed::Lines;
 
-// A place for each interval of the largest rack.
-const TABLE_SIZE: usize = model::MOST_TIPS * model::MOST_TIPS;
-
-// And of a rack of 16 tips.
-const SMALL_TABLE: usize = 256;
-
 // The goal's refusal and the struck sets, with room for the sums and the tables of a rack of m tips.
 fn strike_in<const SUMS: usize, const CELLS: usize>(
     names: u64,
@@ -88,9 +82,9 @@ pub fn strike(
     ensures struck { struck.new ≡ struck_by m quantities.now lines.now goal struck.old }
 {
     if m <= 16 {
-        return strike_in::<{ spans::SMALL_SUMS }, SMALL_TABLE>(
+        return strike_in::<{ spans::SMALL_SUMS }, { spans::SMALL_TABLE }>(
             names, m, lines, quantities, goal, struck,
         );
     }
-    strike_in::<{ spans::MOST_SUMS }, TABLE_SIZE>(names, m, lines, quantities, goal, struck)
+    strike_in::<{ spans::MOST_SUMS }, { spans::MOST_TABLE }>(names, m, lines, quantities, goal, struck)
 }
