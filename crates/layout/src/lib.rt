@@ -20,7 +20,7 @@ pub struct Counted<'a> {
 }
 
 impl Counted<'_> {
-    // The most pairs of the interval of first tip a and width w, from the table; 0 for one of no width.
+    // The most pairs of the interval of first tip a and width w, from the table. No tip has 0 pairs: callers add or compare the number.
     // `a + w ≤ m` stays a clause here and below: it bounds two numbers that are passed, and no value holds them with the rack.
     #[tactic(auto, unfolding(crate::specs::Picks::most_by))]
     fn most(&self, a: usize, w: usize) -> u32

@@ -18,7 +18,7 @@ pub struct Ranking {
     ghost counted: { count ≡ rank (has set) m },
 }
 
-// The number of the table of r columns for the ranks from first to before end; 0 where there is none.
+// The number of the table of r columns for the ranks from first to before end. No rank has 0 pairs: the number becomes a table's.
 #[tactic(auto, using(std::proofs::lemmas::Bool::cond_below, std::proofs::lemmas::Bool::cond_above), unfolding(crate::specs::Spread::cell_at))]
 fn cell_at(r: usize, table: &[u32], first: usize, end: usize) -> u32
     requires { first < end → first * r + (end - 1) < length table.now }
@@ -31,8 +31,8 @@ fn cell_at(r: usize, table: &[u32], first: usize, end: usize) -> u32
     }
 }
 
-// The clause on the table's length stays here and below: it is the size of a buffer that is written.
 // Row a of the table, from its last place backwards: what is read stands at the place that is written, or before it.
+// The clause on the table's length stays here and below: it is the size of a buffer that is written.
 fn spread_row(ranking: &Ranking, a: usize, first: usize, table: &mut [u32])
     requires inside { a < ranking.now.m }
     requires below { first ≡ rank (has ranking.now.set) a }

@@ -9,8 +9,8 @@ ghost use Rattle.table.specs.Cells.{allows_of, cell_by, Cell, Differences, RunSu
 // A column has a place for each tip, and one more.
 const COLUMN_SIZE: usize = model::MOST_TIPS + 1;
 
-// Signed numbers, because the processor selects by a signed comparison in one step, and by an unsigned one in two: the table of 64 tips
-// takes 53 microseconds so, and 57 by the unsigned `max`.
+// Signed numbers, because the processor selects by a signed comparison in one step, and by an unsigned one in two. The unsigned `max`
+// makes the table of 64 tips take a thirteenth longer.
 fn larger(x: u32, y: u32) -> u32
     requires x_small { x < 2 ^ 31 }
     requires y_small { y < 2 ^ 31 }
@@ -56,8 +56,8 @@ impl Splits<'_> {
         )
     }
 
-    // The largest of them and the split at the first tip: the innermost loop. Two tips a turn, since the table of 64 tips takes 58 microseconds
-    // with one. By places, because four lists zipped would be pairs within pairs.
+    // The largest of them and the split at the first tip: the innermost loop. It takes two tips a turn: with one, the table of 64 tips takes
+    // a tenth longer.
     fn largest(&self, first: u32) -> u32
         requires { first < 2 ^ 31 }
         ensures { result ≡ max

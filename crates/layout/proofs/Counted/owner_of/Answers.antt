@@ -16,7 +16,8 @@ in_owners {m} {line} owner narrow d room =
 
 pub overflow_mul-result : goal.overflow_mul-result
 overflow_mul-result c =
-    rw c.lowest.ensures (record { fits = omega (arith, in_owners c.args.owner.now c.args.self.now.searchable.rack c.requires.domain c.requires.places) })
+    let a = c.args in
+    rw c.lowest.ensures (record { fits = omega (arith, in_owners a.owner.now a.self.now.searchable.rack c.requires.domain c.requires.places) })
 
 pub overflow_add-result : goal.overflow_add-result
 overflow_add-result c =
