@@ -27,12 +27,7 @@ pub fn first_not_run(lines: &[u64]) -> Option<usize>
     ensures { result ≡ place_in (first_fail (is_run_of (named lines.now)) lines.now) (length lines.now) }
 {
     let names = names_of(lines);
-    for (i, line) in lines.iter().enumerate() {
-        if !tips::is_run_of(names, *line) {
-            return Some(i);
-        }
-    }
-    None
+    lines.iter().position(|line| !tips::is_run_of(names, *line))
 }
 
 // The rank of each tip below m, and the tip of each rank; the answer is the number of tips of the set below m.

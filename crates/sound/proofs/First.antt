@@ -1,15 +1,18 @@
 -- Laws for the walks over a board: the first wrong line, and the first place after the lines where something stands.
-use Prim.Native.Nat.{ℕ, ◌+◌, ◌-◌, ◌≤◌, ◌<◌}
+use Prim.Native.Nat.{ℕ, suc, min, ◌+◌, ◌-◌, ◌≤◌, ◌<◌}
 use native.Mathlib.Omega.{arith}
-use mathlib.Core.Path.{◌≡◌, sym, ap, ◌∙◌}
-use mathlib.Core.Bool.{true, false, not}
-use mathlib.Core.List.{List}
+use mathlib.Core.Path.{◌≡◌, refl, sym, ap, ◌∙◌}
+use mathlib.Core.Bool.{Bool, true, false, not, cond, ◌||◌}
+use mathlib.Core.List.{List, [], ◌∷◌}
 use lib.ListN.{length, drop, get_or}
 use borrow.Author.Tests.{eq-eqb, ne_eqb, lt-ltb, le-ltb}
-use Rattle.model.specs.Count.{first_fail}
+use Rattle.std.specs.List.{position, position_or_len, zip}
+use Rattle.std.proofs.Common.{eqb}
+use Rattle.std.proofs.lemmas.Slice.Zip.{length-zip}
+use Rattle.model.specs.Count.{first_fail, place_in}
 use Rattle.model.specs.Plan.{is_empty, is_domain}
 use Rattle.model.specs.Limits.{most_placements}
-use Rattle.model.proofs.Fails.{fails_most, fails_next, fails_end}
+use Rattle.model.proofs.Fails.{fails_next, fails_end}
 use Rattle.placements.specs.Totals.{first_over}
 use Rattle.placements.proofs.Totals.{over_next, over_end}
 use Rattle.sound.specs.Sound.{is_placed, first_wrong, first_held}
@@ -64,34 +67,25 @@ module _ (m : ℕ) (qs lines : List ℕ) where
 
 -- ---- after the lines
 
-module _ (qs sets : List ℕ) where
-  -- nothing stands before place i
-  pub record HeldFrom (i : ℕ) : Type 0 where
-    pub set-from : first_fail is_empty sets ≡ i + first_fail is_empty (drop i sets)
-    pub quantity-from : first_fail is_empty qs ≡ i + first_fail is_empty (drop i qs)
+-- a place where a set is not empty or a quantity is not 0
+abbrev pub held : ℕ × ℕ → Bool
+held x = not (is_empty x.0) || not (eqb x.1 0)
 
-  pub held-most : first_held qs sets ≤ length sets
-  unfolding first_held
-  held-most = omega (arith, fails_most is_empty sets)
+-- the first of these places among both lists
+first-place : (qs sets : List ℕ) → length qs ≡ length sets → position_or_len held (zip sets qs) ≡ first_held qs sets
+unfolding first_held first_fail
+first-place [] [] e = refl
+first-place [] (s ∷ sets) e = absurd (omega (arith, e))
+first-place (q ∷ qs) [] e = absurd (omega (arith, e))
+first-place (q ∷ qs) (s ∷ sets) e = both (is_empty s) (is_empty q) _ _ _ (first-place qs sets (omega (arith, e)))
+  where
+    both : (a b : Bool) (n i j : ℕ) → n ≡ min i j
+        → cond (not (not a || not b)) (1 + n) 0 ≡ min (cond a (suc i) 0) (cond b (suc j) 0)
+    both true true n i j e = omega (arith, e)
+    both true false n i j e = omega arith
+    both false b n i j e = omega arith
 
-  pub held_start : HeldFrom 0
-  held_start = record { set-from = omega arith; quantity-from = omega arith }
-
-  module _ {i : ℕ} (w : HeldFrom i) where
-    pub held-set : i < length sets → is_empty (get_or sets i 0) ≡ false → i ≡ first_held qs sets
-    unfolding first_held
-    held-set h e = omega (arith, fails_next is_empty sets i false h (sym e) w.set-from, w.quantity-from)
-
-    pub held_quantity : i < length qs → (get_or qs i 0 ≡ 0 → ⊥) → i ≡ first_held qs sets
-    unfolding first_held
-    held_quantity h n = omega (arith, fails_next is_empty qs i false h (sym (ne_eqb (get_or qs i 0) 0 n)) w.quantity-from, w.set-from)
-
-    pub held_next : i < length sets → i < length qs → is_empty (get_or sets i 0) ≡ true → get_or qs i 0 ≡ 0 → HeldFrom (i + 1)
-    held_next h k e z = record {
-      set-from = fails_next is_empty sets i true h (sym e) w.set-from;
-      quantity-from = fails_next is_empty qs i true k (sym (eq-eqb (get_or qs i 0) 0 z)) w.quantity-from;
-    }
-
-    pub held_end : length sets ≤ i → length qs ≤ i → i ≡ first_held qs sets
-    unfolding first_held
-    held_end h k = omega (arith, fails_end is_empty sets i h w.set-from, fails_end is_empty qs i k w.quantity-from)
+pub held-position : (qs sets : List ℕ) → length qs ≡ length sets → position held (zip sets qs) ≡ place_in (first_held qs sets) (length sets)
+held-position qs sets e =
+    let l : length (zip sets qs) ≡ length sets = omega (arith, length-zip sets qs, e) in
+    rw (first-place qs sets e, l)
