@@ -28,6 +28,13 @@ use Rattle.ordering.proofs.Least.{least-order, least_unique}
 use Rattle.ordering.proofs.Parts.{placing-order}
 use Rattle.flat_order.specs.declared.sets.PartSet.{PartSet}
 use Rattle.flat_order.specs.Flat.{flat_task, InPlace}
+use Rattle.std.specs.Prelude.{Option, Some, None, Result, Ok, Err}
+use Rattle.std.specs.Result.{IsErrAnd}
+use Rattle.refusal.specs.Refusal as Refusal
+use Rattle.refusal.specs.declared.Reason.{Reason}
+use Rattle.refusal.specs.declared.Refused.{Refused}
+use Rattle.refusal.specs.Reasons.{reason_number, told_of, refusal_of, refused_at}
+use Rattle.refusal.proofs.Laws.{reason_not_0}
 use Rattle.placing.specs.Rows.{RowsFor}
 
 -- the first place that fails a test is the first that passes its opposite
@@ -133,3 +140,26 @@ module _ (parts : List Part) (windows : T (each (window_ok (length parts)) parts
           → IfNone o ((rules : List Rule) → RowsFor parts rules rows → none ≡ placing_order parts rules)
       order_none R.None h = λ rules r. h ∙ flat-order rules rows r
       order_none (R.Some order) h = tt
+
+-- the refusal of a call that ends with an error
+pub told_error : {A : Type 0} (r : Result A Refused) (e : Refused) → IsErrAnd r (λ x. x ≡ e) → refusal_of r ≡ told_of e
+told_error (Ok x) e h = absurd h
+told_error (Err x) e h = ap told_of h
+
+-- and with a reason alone
+pub told_reason : {A : Type 0} (r : Result A Refused) (reason : Reason) → IsErrAnd r (λ x. x ≡ record { reason = reason; place = 0 })
+    → refusal_of r ≡ record { number = reason_number reason; place = 0 }
+told_reason (Ok x) reason h = absurd h
+told_reason (Err x) reason h = ap told_of h
+
+-- a bad window is refused at its place
+pub told_window : (parts : List Part) (e : Refused) (o : Option ℕ) → o ≡ position (λ x. not (window_ok (length parts) x)) parts
+    → told_of e ≡ refused_at o 12
+    → (w : ℕ) × (w < length parts) × (w ≡ first_bad parts) × (told_of e ≡ record { number = 12; place = w })
+told_window parts e (Some w) h is = let (l, first) = bad_window parts w h in (w, l, first, is)
+told_window parts e None h is = absurd (reason_not_0 e.reason (ap (λ q. q.number) is))
+
+pub no_window_told : (parts : List Part) (o : Option ℕ) → o ≡ position (λ x. not (window_ok (length parts) x)) parts
+    → Refusal.none ≡ refused_at o 12 → length parts ≤ first_bad parts
+no_window_told parts (Some w) h t = absurd (omega (arith, ap (λ q. q.number) t))
+no_window_told parts None h t = no_bad_window parts h

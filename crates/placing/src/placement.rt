@@ -12,7 +12,7 @@ use crate::marking::add_rules;
 use flat_order::least_order;
 use flat_order::sets::PartSet;
 use ordering::{Part, Rule};
-use refusal::{Reason, Refused};
+use refusal::{Reason, Refused, refuse_at};
 
 #[tactic(auto, unfolding(ordering::specs::Parts::window_ok))]
 fn is_window_ok(n: usize, part: Part) -> bool
@@ -63,19 +63,13 @@ pub fn place<F: Fn(usize) -> Rule>(
     if 128 < n {
         return Err(Reason::BadWindow.at(0));
     }
-    if let Some(place) = first_bad_window(parts) {
-        return Err(Reason::BadWindow.at(place));
-    }
+    refuse_at(first_bad_window(parts), Reason::BadWindow)?;
     let mut rows = start_rows(parts);
-    if let Err(place) = add_rules(n, &mut rows, count, rule_at) {
-        return Err(Reason::BadRule.at(place));
-    }
+    add_rules(n, &mut rows, count, rule_at)?;
     if order.len() < n {
         return Err(Reason::ShortOrder.at(0));
     }
-    let Some(found) = search(parts, &rows) else {
-        return Err(Reason::NoOrder.at(0));
-    };
+    let found = search(parts, &rows).ok_or(Reason::NoOrder)?;
     order[..n].copy_from_slice(&found[..n]);
     Ok(())
 }

@@ -1,4 +1,4 @@
-use Rattle.std.proofs.Common.{◌≡◌, ◌<◌, T, true, false, not, sym, ◌∙◌, length, arith}
+use Rattle.std.proofs.Common.{◌≡◌, ◌<◌, T, true, false, not, refl, sym, ◌∙◌, length, arith}
 use Rattle.ordering.specs.Parts.{rule_ok}
 use Rattle.placing.proofs.Marks.{marked_none, marked_more, marked_bad, marked_all}
 use Rattle.placing.proofs.marking.add_rules.Goals as goal
@@ -15,7 +15,7 @@ returns-then-not-is_rule_ok-clause-err g c =
     let e = r.each l.place rule c.loop-place-test.true c.rule_at-rule.ensures in
     let bad : rule_ok c.args.n rule ≡ false = sym c.is_rule_ok.ensures.test ∙ c.if-not-is_rule_ok.true in
     let t : T (not (rule_ok c.args.n rule)) = rw bad tt in
-    (i, marked_bad c.args.n c.args.rows.now l.rows rules l.place i (l.invariant rules r) rule e t)
+    rw c.at.ensures (refl, i, marked_bad c.args.n c.args.rows.now l.rows rules l.place i (l.invariant rules r) rule e t)
 
 pub loop-place-preserved : goal.loop-place-preserved
 loop-place-preserved g c =
