@@ -3,10 +3,11 @@ use Prim.Native.Nat.{ℕ, suc, ◌+◌, ◌-◌, ◌≤◌, ◌<◌}
 use native.Mathlib.Omega.{arith}
 use mathlib.Core.Path.{◌≡◌, ap, sym, ◌∙◌}
 use mathlib.Core.Logic.{⊎_elim}
-use mathlib.Core.Bool.{cond, ◌&&◌}
+use mathlib.Core.Bool.{Bool, false, cond, ◌&&◌}
 use mathlib.Core.List.{List}
 use lib.Dec.{T, leb, eqb, eqb→eq, le→leb}
-use lib.ListN.{length, get_or}
+use lib.ListN.{length, get_or, take}
+use lib.Seq.{get_or-take, length-take-le}
 use borrow.Author.Tests.{lt-leb, le-leb}
 use Rattle.model.proofs.Tests.{le_or_lt, eqb_T, and_left, and_in}
 use Rattle.ordering.specs.Number.{number, without}
@@ -18,7 +19,7 @@ use Rattle.flat_order.proofs.Settled.{left-without}
 
 -- ---- one level raised
 
-pub raised_all : (from to v : ℕ) (old levels : List ℕ) (r : ℕ) → to ≤ v → (from < v → v ≤ to) → Raised from v old levels r
+pub raised_all : (from to v : ℕ) (old levels : List ℕ) (r : Bool) → to ≤ v → (from < v → v ≤ to) → Raised from v old levels r
     → Raised from to old levels r
 raised_all from to v old levels r l f d = record {
   size = d.size;
@@ -43,7 +44,7 @@ module _ (left : PartSet) (lasts levels : List ℕ) (p : ℕ) (at : Levels left 
         (λ i _. ap (λ b. b && leb (get_or lasts i 0) v) (left-without left x i)) in
         omega (arith, e, d)
 
-    pub levels_next : (levels₂ : List ℕ) (r : ℕ) → Raised (p + 1) last levels levels₂ r → Levels (removed left (single x)) lasts (p + 1) levels₂
+    pub levels_next : (levels₂ : List ℕ) (r : Bool) → Raised (p + 1) last levels levels₂ r → Levels (removed left (single x)) lasts (p + 1) levels₂
     levels_next levels₂ r d = record {
       size = d.size ∙ at.size;
       each = λ v h k.
@@ -98,8 +99,8 @@ module _ (left : PartSet) (lasts levels : List ℕ) (p : ℕ) (at : Levels left 
       )
 
 -- the end stays where it is, where no level before it is reached
-pub end_stays : (n p : ℕ) (levels levels₂ : List ℕ) (end last r : ℕ) → IsEnd n p levels end → Raised (p + 1) last levels levels₂ r → last ≤ end
-    → r ≡ 0 → p + 1 ≤ end → IsEnd n (p + 1) levels₂ end
+pub end_stays : (n p : ℕ) (levels levels₂ : List ℕ) (end last : ℕ) (r : Bool) → IsEnd n p levels end → Raised (p + 1) last levels levels₂ r → last ≤ end
+    → r ≡ false → p + 1 ≤ end → IsEnd n (p + 1) levels₂ end
 end_stays n p levels levels₂ end last r is d l e h = record {
   from = h;
   most = is.most;
@@ -108,4 +109,21 @@ end_stays n p levels levels₂ end last r is d l e h = record {
       (λ (y : last ≤ v). is.none v (omega arith) m (sym (d.after v k y) ∙ z))
       (λ (y : v < last). d.none e v k y (omega (arith, d.inside v k y)))
       (le_or_lt last v);
+}
+
+-- an end is one of the first n levels alone
+pub end_of-taken : (n p : ℕ) (levels : List ℕ) (end : ℕ) → n ≤ length levels → IsEnd (length (take n levels)) p (take n levels) end → IsEnd n p levels end
+end_of-taken n p levels end room is = record {
+  from = is.from;
+  most = omega (arith, is.most, length-take-le n levels room);
+  full = λ h. sym (get_or-take n levels end 0 h) ∙ is.full (omega (arith, length-take-le n levels room));
+  none = λ v k m z. is.none v k m (get_or-take n levels v 0 (omega (arith, is.most, length-take-le n levels room)) ∙ z);
+}
+
+pub end_in_taken : (n p : ℕ) (levels : List ℕ) (end : ℕ) → n ≤ length levels → IsEnd n p levels end → IsEnd (length (take n levels)) p (take n levels) end
+end_in_taken n p levels end room is = record {
+  from = is.from;
+  most = omega (arith, is.most, length-take-le n levels room);
+  full = λ h. let k : end < n = omega (arith, length-take-le n levels room) in get_or-take n levels end 0 k ∙ is.full k;
+  none = λ v k m z. is.none v k m (sym (get_or-take n levels v 0 (omega (arith, is.most))) ∙ z);
 }

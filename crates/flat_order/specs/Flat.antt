@@ -1,5 +1,5 @@
 -- The task that flat arrays describe: first and last positions, and the rows of the parts that are to precede each part.
-use Rattle.std.specs.Prelude.{ℕ, suc, ◌+◌, ◌-◌, ◌≤◌, ◌<◌, min, ◌≡◌, Bool, cond, ◌&&◌, List, T, ltb, leb, eqb, length, get_or}
+use Rattle.std.specs.Prelude.{ℕ, suc, ◌+◌, ◌-◌, ◌≤◌, ◌<◌, min, ◌≡◌, Bool, false, cond, ◌&&◌, List, T, ltb, leb, eqb, length, get_or}
 use Rattle.model.specs.Count.{list_of}
 use Rattle.ordering.specs.Number.{number, lowest}
 use Rattle.ordering.specs.Order.{Task}
@@ -40,12 +40,12 @@ pub record Levels (left : PartSet) (lasts : List ℕ) (p : ℕ) (levels : List �
   pub size : length levels ≡ 128
   pub each : (v : ℕ) → p ≤ v → v < length lasts → get_or levels v 0 ≡ number (is_due left lasts v) (length lasts) + p
 
--- the levels from one position up to another are one higher, and r is 0 only where none was the number of its position before
-pub record Raised (from to : ℕ) (old levels : List ℕ) (r : ℕ) : Type 0 where
+-- the levels from one position up to another are one higher, and r is false only where none was the number of its position before
+pub record Raised (from to : ℕ) (old levels : List ℕ) (r : Bool) : Type 0 where
   pub size : length levels ≡ length old
   pub inside : (v : ℕ) → from ≤ v → v < to → get_or levels v 0 ≡ get_or old v 0 + 1
   pub after : (v : ℕ) → from ≤ v → to ≤ v → get_or levels v 0 ≡ get_or old v 0
-  pub none : r ≡ 0 → (v : ℕ) → from ≤ v → v < to → get_or old v 0 ≡ v → ⊥
+  pub none : r ≡ false → (v : ℕ) → from ≤ v → v < to → get_or old v 0 ≡ v → ⊥
 
 -- r is the first position from p on that has as level its number and one more; n where there is none
 pub record IsEnd (n p : ℕ) (levels : List ℕ) (r : ℕ) : Type 0 where

@@ -1,5 +1,5 @@
 // The least order by flat arrays, position by position. Slices have a place for each part.
-ghost use Rattle.std.specs.Prelude.{◌≡◌, true, ℕ, ◌≤◌, ◌<◌, ltb, length, get_or, take, T, IfSome, IfNone};
+ghost use Rattle.std.specs.Prelude.{◌≡◌, true, false, ℕ, ◌≤◌, ◌<◌, ltb, length, get_or, take, T, IfSome, IfNone};
 ghost use Rattle.std.proofs.Math.Option.{some, none};
 ghost use Rattle.ordering.specs.Least.{greedy};
 ghost use Rattle.flat_order.specs.Sets.{has_part};
@@ -15,51 +15,43 @@ struct Waiting {
     noted: [PartSet; 128],
 }
 
-// Raises the levels from one position up to another by one; counts those that then have the number of their position.
-// By place, since of what a loop writes through iter_mut the check keeps only the length.
-fn raise(from: usize, to: usize, levels: &mut [u8]) -> u8
+// Raises the levels from one position up to another by one, and returns whether one had the number of its position.
+// By place: of what a loop writes through the iter_mut of a part of a slice, the check keeps only the length.
+fn raise(from: usize, to: usize, levels: &mut [u8]) -> bool
     requires to { to ≤ 128 }
     requires size { length levels.old ≡ 128 }
     requires fits { (v : ℕ) → from ≤ v → v < to → get_or levels.old v 0 < 255 }
     ensures { Raised from to levels.old levels.new result }
 {
-    let mut reached: u8 = 0;
+    let mut reached = false;
     for v in from..to {
         let level = levels[v];
-        reached += u8::from(level == v as u8);
+        reached |= level == v as u8;
         levels[v] = level + 1;
     }
     reached
 }
 
-// The first position from p on whose level is its number and one more. By place, since the level is compared with its place.
-fn full_end(p: usize, n: usize, levels: &[u8]) -> Option<usize>
-    requires from { p ≤ n }
-    requires size { n ≤ length levels.now }
-    ensures some { IfSome result (λ v. (v < n) × IsEnd n p levels.now v) }
-    ensures none { IfNone result (IsEnd n p levels.now n) }
+// The first position from p on whose level is its number and one more.
+fn full_end(p: usize, levels: &[u8]) -> Option<usize>
+    requires { p ≤ length levels.now }
+    ensures some { IfSome result (λ v. (v < length levels.now) × IsEnd (length levels.now) p levels.now v) }
+    ensures none { IfNone result (IsEnd (length levels.now) p levels.now (length levels.now)) }
 {
-    for v in p..n {
-        let level = usize::from(levels[v]);
-        if level == v + 1 {
-            return Some(v);
-        }
-    }
-    None
+    (p..levels.len()).find(|v| usize::from(levels[*v]) == *v + 1)
 }
 
 // The end at position p, which there is. It is still `end` where no level before that was reached.
-fn tight_end(reached: u8, end: usize, p: usize, n: usize, levels: &[u8]) -> usize
-    requires from { p ≤ n }
-    requires size { n ≤ length levels.now }
-    requires stays { reached ≡ 0 → p ≤ end → IsEnd n p levels.now end }
-    requires some { IsEnd n p levels.now n → ⊥ }
-    ensures { IsEnd n p levels.now result }
+fn tight_end(reached: bool, end: usize, p: usize, levels: &[u8]) -> usize
+    requires from { p ≤ length levels.now }
+    requires stays { reached ≡ false → p ≤ end → IsEnd (length levels.now) p levels.now end }
+    requires some { IsEnd (length levels.now) p levels.now (length levels.now) → ⊥ }
+    ensures { IsEnd (length levels.now) p levels.now result }
 {
-    if reached == 0 && p <= end {
+    if !reached && p <= end {
         return end;
     }
-    full_end(p, n, levels).unwrap()
+    full_end(p, levels).unwrap()
 }
 
 // The parts left that have begun at position p, have not ended before it, and have to stand at v or earlier.
@@ -131,10 +123,10 @@ pub fn greedy_order(
     let mut left = all;
     let mut order = [0; 128];
     let mut end = 0;
-    let mut reached = 1;
+    let mut reached = true;
     for p in 0..n {
         begun = begun | starts[p + 1];
-        end = tight_end(reached, end, p, n, &*levels);
+        end = tight_end(reached, end, p, &levels[..n]);
         let among = candidates(p, end, left & begun, ends);
         let x = lowest_free(among, left, rows, &mut waiting)?;
         order[p] = x as u8;

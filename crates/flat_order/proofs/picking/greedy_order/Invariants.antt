@@ -1,4 +1,4 @@
-use Rattle.std.proofs.Common.{◌≡◌, ℕ, ◌≤◌, ◌<◌, ◌^◌, ◌&&◌, ltb, length, get_or}
+use Rattle.std.proofs.Common.{◌≡◌, false, ℕ, ◌≤◌, ◌<◌, ◌^◌, ◌&&◌, ltb, length, get_or}
 use Rattle.flat_order.specs.Sets.{has_part}
 use Rattle.flat_order.specs.Flat.{Levels, IsEnd, Held}
 use Rattle.flat_order.proofs.Picks.{Placing}
@@ -10,7 +10,7 @@ invariant-loop-p l = record {
   levels : Levels l.left l.lasts l.p l.levels;
   low : l.left.low < 2 ^ 64;
   high : l.left.high < 2 ^ 64;
-  stays : l.reached ≡ 0 → l.p ≤ l.end → IsEnd (length l.lasts) l.p l.levels l.end;
+  stays : l.reached ≡ false → l.p ≤ l.end → IsEnd (length l.lasts) l.p l.levels l.end;
   begun : (x : ℕ) → has_part l.begun x ≡ (ltb x (length l.lasts) && ltb (get_or l.firsts x 0) l.p);
   held : Held l.left l.waiting.parts l.rows l.waiting.noted;
 }

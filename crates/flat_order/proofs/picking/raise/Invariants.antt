@@ -1,6 +1,6 @@
-use Rattle.std.proofs.Common.{◌+◌, ◌≤◌, ◌<◌}
+use Rattle.std.proofs.Common.{◌≤◌, ◌<◌}
 use Rattle.flat_order.specs.Flat.{Raised}
 use Rattle.flat_order.proofs.picking.raise.Given as goal
 
 abbrev pub invariant-loop-v : goal.invariant-loop-v
-invariant-loop-v l = (l.reached + l.from ≤ l.v) × (l.from < l.v → l.v ≤ l.to) × Raised l.from l.v l.initial.levels l.levels l.reached
+invariant-loop-v l = (l.from ≤ l.v) × (l.from < l.v → l.v ≤ l.to) × Raised l.from l.v l.initial.levels l.levels l.reached
