@@ -99,8 +99,8 @@ module _ (left : PartSet) (lasts levels : List ℕ) (p : ℕ) (at : Levels left 
       )
 
 -- the end stays where it is, where no level before it is reached
-pub end_stays : (n p : ℕ) (levels levels₂ : List ℕ) (end last : ℕ) (r : Bool) → IsEnd n p levels end → Raised (p + 1) last levels levels₂ r → last ≤ end
-    → r ≡ false → p + 1 ≤ end → IsEnd n (p + 1) levels₂ end
+pub end_stays : (n p : ℕ) (levels levels₂ : List ℕ) (end last : ℕ) (r : Bool) → IsEnd n p levels end
+    → Raised (p + 1) last levels levels₂ r → last ≤ end → r ≡ false → p + 1 ≤ end → IsEnd n (p + 1) levels₂ end
 end_stays n p levels levels₂ end last r is d l e h = record {
   from = h;
   most = is.most;
@@ -112,7 +112,8 @@ end_stays n p levels levels₂ end last r is d l e h = record {
 }
 
 -- an end is one of the first n levels alone
-pub end_of-taken : (n p : ℕ) (levels : List ℕ) (end : ℕ) → n ≤ length levels → IsEnd (length (take n levels)) p (take n levels) end → IsEnd n p levels end
+pub end_of-taken : (n p : ℕ) (levels : List ℕ) (end : ℕ) → n ≤ length levels
+    → IsEnd (length (take n levels)) p (take n levels) end → IsEnd n p levels end
 end_of-taken n p levels end room is = record {
   from = is.from;
   most = omega (arith, is.most, length-take-le n levels room);
@@ -120,7 +121,8 @@ end_of-taken n p levels end room is = record {
   none = λ v k m z. is.none v k m (get_or-take n levels v 0 (omega (arith, is.most, length-take-le n levels room)) ∙ z);
 }
 
-pub end_in_taken : (n p : ℕ) (levels : List ℕ) (end : ℕ) → n ≤ length levels → IsEnd n p levels end → IsEnd (length (take n levels)) p (take n levels) end
+pub end_in_taken : (n p : ℕ) (levels : List ℕ) (end : ℕ) → n ≤ length levels
+    → IsEnd n p levels end → IsEnd (length (take n levels)) p (take n levels) end
 end_in_taken n p levels end room is = record {
   from = is.from;
   most = omega (arith, is.most, length-take-le n levels room);

@@ -16,8 +16,15 @@ use crate::positions::{by_position, first_parts};
 use crate::sets::PartSet;
 use crate::settling::settle_lasts;
 
+// A call places at most 128 parts: a set of parts is two words.
+pub const MOST_PARTS: usize = 128;
+
 // The least order that obeys, in the first places; none where none obeys. The last positions are settled on the way.
-pub fn least_order(firsts: &[usize], lasts: &mut [usize], rows: &[PartSet]) -> Option<[u8; 128]>
+pub fn least_order(
+    firsts: &[usize],
+    lasts: &mut [usize],
+    rows: &[PartSet],
+) -> Option<[u8; MOST_PARTS]>
     requires sized { SizedFor (length lasts.old) firsts.now rows.now }
     requires firsts { InPlace (length lasts.old) firsts.now }
     requires lasts { InPlace (length lasts.old) lasts.old }
@@ -27,7 +34,7 @@ pub fn least_order(firsts: &[usize], lasts: &mut [usize], rows: &[PartSet]) -> O
 {
     let all = first_parts(lasts.len());
     let mut ends = by_position(&*lasts);
-    let mut levels = [0; 128];
+    let mut levels = [0; MOST_PARTS];
     settle_lasts(all, rows, &mut *lasts, &mut ends, &mut levels);
     greedy_order(all, firsts, &*lasts, rows, &ends, &mut levels)
 }

@@ -5,6 +5,7 @@ ghost use Rattle.ordering.specs.Least.{greedy};
 ghost use Rattle.flat_order.specs.Sets.{has_part};
 ghost use Rattle.flat_order.specs.Flat.{candidates_at, is_pick, flat_task, SizedFor, InPlace, Below, Levels, Raised, IsEnd, Held, IsFirst};
 
+use crate::MOST_PARTS;
 use crate::positions::by_position;
 use crate::sets::PartSet;
 
@@ -12,7 +13,7 @@ use crate::sets::PartSet;
 #[derive(Drop)]
 struct Waiting {
     parts: PartSet,
-    noted: [PartSet; 128],
+    noted: [PartSet; MOST_PARTS],
 }
 
 // Raises the levels from one position up to another by one, and returns whether one had the number of its position.
@@ -101,7 +102,7 @@ pub fn greedy_order(
     rows: &[PartSet],
     ends: &[PartSet],
     levels: &mut [u8],
-) -> Option<[u8; 128]>
+) -> Option<[u8; MOST_PARTS]>
     requires sized { SizedFor (length lasts.now) firsts.now rows.now }
     requires firsts { InPlace (length lasts.now) firsts.now }
     requires lasts { InPlace (length lasts.now) lasts.now }
@@ -117,11 +118,11 @@ pub fn greedy_order(
     let starts = by_position(&firsts[..n]);
     let mut waiting = Waiting {
         parts: PartSet::EMPTY,
-        noted: [PartSet::EMPTY; 128],
+        noted: [PartSet::EMPTY; MOST_PARTS],
     };
     let mut begun = PartSet::EMPTY;
     let mut left = all;
-    let mut order = [0; 128];
+    let mut order = [0; MOST_PARTS];
     let mut end = 0;
     let mut reached = true;
     for p in 0..n {

@@ -3,6 +3,7 @@ ghost use Rattle.std.specs.Prelude.{◌≡◌, ℕ, ◌≤◌, ltb, length};
 ghost use Rattle.flat_order.specs.Sets.{has_part};
 ghost use Rattle.flat_order.specs.Flat.{PartsAt, InPlace};
 
+use crate::MOST_PARTS;
 use crate::sets::PartSet;
 
 // The set of the first n parts.
@@ -17,13 +18,16 @@ pub fn first_parts(n: usize) -> PartSet
     all
 }
 
+// There is a place for each position, and one before and one after them.
+const PLACES: usize = MOST_PARTS + 2;
+
 // The parts, each at the place after its position.
-pub fn by_position(positions: &[usize]) -> [PartSet; 130]
+pub fn by_position(positions: &[usize]) -> [PartSet; PLACES]
     requires few { length positions.now ≤ 128 }
     requires within { InPlace (length positions.now) positions.now }
     ensures { PartsAt positions.now (length positions.now) result }
 {
-    let mut sets = [PartSet::EMPTY; 130];
+    let mut sets = [PartSet::EMPTY; PLACES];
     for (i, &position) in positions.iter().enumerate() {
         let at = position + 1;
         sets[at] = sets[at] | PartSet::single(i);

@@ -4,6 +4,7 @@ ghost use Rattle.ordering.specs.Parts.{fine_pitch};
 ghost use Rattle.flat_order.specs.Sets.{no_parts};
 ghost use Rattle.placing.specs.Given.{flag_row, Started, KindsOf};
 
+use flat_order::MOST_PARTS;
 use flat_order::sets::PartSet;
 use ordering::Part;
 
@@ -50,12 +51,12 @@ fn flag_row(part: Part, kinds: Kinds) -> PartSet
 }
 
 // The rows by the flags.
-pub fn start_rows(parts: &[Part]) -> [PartSet; 128]
+pub fn start_rows(parts: &[Part]) -> [PartSet; MOST_PARTS]
     requires { length parts.now ≤ 128 }
     ensures { Started parts.now result }
 {
     let kinds = kinds_of(parts);
-    let mut rows = [PartSet::EMPTY; 128];
+    let mut rows = [PartSet::EMPTY; MOST_PARTS];
     for (b, &part) in parts.iter().enumerate() {
         rows[b] = flag_row(part, kinds);
     }

@@ -5,6 +5,7 @@ ghost use Rattle.ordering.specs.Parts.{part_at};
 ghost use Rattle.placing.specs.Numbers.{part_of_numbers, rule_in, order_in, order_after_in, PlacingRuleIn};
 
 use crate::placement::place;
+use flat_order::MOST_PARTS;
 use ordering::{Part, Rule};
 use refusal::{Reason, Refused};
 
@@ -23,7 +24,7 @@ fn part_in(numbers: &[u32], i: usize) -> Part
 }
 
 // The parts, at most 128, in the first places.
-fn parts_in(numbers: &[u32]) -> [Part; 128]
+fn parts_in(numbers: &[u32]) -> [Part; MOST_PARTS]
     requires { length numbers.now / 4 ≤ 128 }
     ensures size { length result ≡ 128 }
     ensures parts { (i : ℕ) → i < length numbers.now / 4 → part_at result i ≡ part_of_numbers numbers.now i }
@@ -34,7 +35,7 @@ fn parts_in(numbers: &[u32]) -> [Part; 128]
         fine: false,
         tall: false,
     };
-    let mut parts = [none; 128];
+    let mut parts = [none; MOST_PARTS];
     for i in 0..numbers.len() / 4 {
         parts[i] = part_in(numbers, i);
     }
@@ -63,7 +64,7 @@ pub fn order_numbers(parts: &[u32], rules: &[u32], order: &mut [u8]) -> Result<(
         return Err(Reason::BrokenRecord.at(0));
     }
     let count = parts.len() / 4;
-    if 128 < count {
+    if MOST_PARTS < count {
         return Err(Reason::BadWindow.at(0));
     }
     let given = parts_in(parts);

@@ -9,8 +9,8 @@ ghost use Rattle.placing.specs.Rows.{GivesRules, RowsFor, Placed};
 
 use crate::flags::start_rows;
 use crate::marking::add_rules;
-use flat_order::least_order;
 use flat_order::sets::PartSet;
+use flat_order::{MOST_PARTS, least_order};
 use ordering::{Part, Rule};
 use refusal::{Reason, Refused, refuse_at};
 
@@ -30,7 +30,7 @@ fn first_bad_window(parts: &[Part]) -> Option<usize>
 }
 
 // The least order that obeys, in the first places; none where none obeys.
-fn search(parts: &[Part], rows: &[PartSet]) -> Option<[u8; 128]>
+fn search(parts: &[Part], rows: &[PartSet]) -> Option<[u8; MOST_PARTS]>
     requires few { length parts.now ≤ 128 }
     requires rows { length parts.now ≤ length rows.now }
     requires windows { length parts.now ≤ first_bad parts.now }
@@ -39,8 +39,8 @@ fn search(parts: &[Part], rows: &[PartSet]) -> Option<[u8; 128]>
     ensures none { IfNone result ((rules : List Rule) → RowsFor parts.now rules rows.now
         → none ≡ placing_order parts.now rules) }
 {
-    let mut firsts = [0; 128];
-    let mut lasts = [0; 128];
+    let mut firsts = [0; MOST_PARTS];
+    let mut lasts = [0; MOST_PARTS];
     for (i, part) in parts.iter().enumerate() {
         firsts[i] = part.first;
         lasts[i] = part.last;
@@ -60,7 +60,7 @@ pub fn place<F: Fn(usize) -> Rule>(
         → Placed parts.now rules order.old order.new (refusal_of result) }
 {
     let n = parts.len();
-    if 128 < n {
+    if MOST_PARTS < n {
         return Err(Reason::BadWindow.at(0));
     }
     refuse_at(first_bad_window(parts), Reason::BadWindow)?;

@@ -14,10 +14,10 @@ returns-then-parts-ne0 c =
     ] in
     rw c.at.ensures (record { refusal = x.refusal; order = x.order; rule = x.rule })
 
-pub returns-then-count-gt128 : goal.returns-then-count-gt128
-returns-then-count-gt128 c =
-    let x = too_many c.args.parts.now c.args.rules.now c.args.order.now (omega arith) (omega arith) c.if-count-gt128.true in
-    rw c.at-then-count-gt128.ensures (record { refusal = x.refusal; order = x.order; rule = x.rule })
+pub returns-then-count-gt-MOST_PARTS : goal.returns-then-count-gt-MOST_PARTS
+returns-then-count-gt-MOST_PARTS c =
+    let x = too_many c.args.parts.now c.args.rules.now c.args.order.now (omega arith) (omega arith) c.if-count-gt-MOST_PARTS.true in
+    rw c.at-then-count-gt-MOST_PARTS.ensures (record { refusal = x.refusal; order = x.order; rule = x.rule })
 
 pub returns : goal.returns
 returns c =

@@ -5,15 +5,15 @@ use Rattle.placing.proofs.Windows.{told_error, told_reason, told_window, no_wind
 use Rattle.placing.proofs.Marks.{all_good, rows_for}
 use Rattle.placing.proofs.placement.place.Goals as goal
 
-pub returns-then-n-gt128 : goal.returns-then-n-gt128
-returns-then-n-gt128 g c = λ rules r. rw c.at.ensures (placed_over c.args.parts.now rules c.args.order.now c.if-n-gt128.true)
+pub returns-then-n-gt-MOST_PARTS : goal.returns-then-n-gt-MOST_PARTS
+returns-then-n-gt-MOST_PARTS g c = λ rules r. rw c.at.ensures (placed_over c.args.parts.now rules c.args.order.now c.if-n-gt-MOST_PARTS.true)
 
 pub returns-in_err-refuse_at : goal.returns-in_err-refuse_at
 returns-in_err-refuse_at g c =
     λ rules r.
     let e = told_error c.from_residual.result c.in_err-refuse_at.field-0.0 c.from_residual.ensures.1 in
     let (w, l, first, t) = told_window c.args.parts.now _ c.first_bad_window.result c.first_bad_window.ensures c.in_err-refuse_at.ensures in
-    rw (e, t) (placed_window c.args.parts.now rules c.args.order.now c.if-n-gt128.false w l first)
+    rw (e, t) (placed_window c.args.parts.now rules c.args.order.now c.if-n-gt-MOST_PARTS.false w l first)
 
 pub returns-in_err-add_rules : goal.returns-in_err-add_rules
 returns-in_err-add_rules g c =
@@ -21,7 +21,7 @@ returns-in_err-add_rules g c =
     let e = told_error c.from_residual-in_err-add_rules.result c.in_err-add_rules.field-0.0 c.from_residual-in_err-add_rules.ensures.1 in
     let (reason, l, first) = c.in_err-add_rules.ensures.err rules r in
     let windows = no_window_told c.args.parts.now c.first_bad_window.result c.first_bad_window.ensures c.in_ok-refuse_at.ensures in
-    rw (e, reason) (placed_rule c.args.parts.now rules c.args.order.now c.if-n-gt128.false windows _ l first)
+    rw (e, reason) (placed_rule c.args.parts.now rules c.args.order.now c.if-n-gt-MOST_PARTS.false windows _ l first)
 
 pub returns-then-order-n : goal.returns-then-order-n
 returns-then-order-n g c =
@@ -29,7 +29,7 @@ returns-then-order-n g c =
     let windows = no_window_told c.args.parts.now c.first_bad_window.result c.first_bad_window.ensures c.in_ok-refuse_at.ensures in
     let m = c.in_ok-add_rules.ensures.ok rules r in
     rw c.at-then-order-n.ensures
-    (placed_short c.args.parts.now rules c.args.order.now c.if-n-gt128.false windows (all_good _ _ _ rules m) c.if-order-n.true)
+    (placed_short c.args.parts.now rules c.args.order.now c.if-n-gt-MOST_PARTS.false windows (all_good _ _ _ rules m) c.if-order-n.true)
 
 pub search-requires-clause-windows : goal.search-requires-clause-windows
 search-requires-clause-windows g c = no_window_told c.args.parts.now c.first_bad_window.result c.first_bad_window.ensures c.in_ok-refuse_at.ensures
@@ -43,7 +43,7 @@ returns-in_err-found g c =
     let no = rw c.in_err-found.ensures.ok_part at c.search.ensures.none in
     let e = told_reason c.from_residual-in_err-found.result c.in_err-found.field-0.0 c.from_residual-in_err-found.ensures.1 in
     let number : reason_number c.in_err-found.field-0.0 ≡ 29 = ap number_in (rw c.in_err-found.ensures.ok_part at c.in_err-found.ensures.value) in
-    rw (e, number) (placed_none parts rules c.args.order.now c.if-n-gt128.false windows (all_good _ _ _ rules m) c.if-order-n.false
+    rw (e, number) (placed_none parts rules c.args.order.now c.if-n-gt-MOST_PARTS.false windows (all_good _ _ _ rules m) c.if-order-n.false
     (no rules (rows_for parts rules _ _ c.start_rows-rows.ensures m)))
 
 pub returns : goal.returns
@@ -54,5 +54,5 @@ returns g c =
     let m = c.in_ok-add_rules.ensures.ok rules r in
     let some = rw c.in_ok-found.ensures.ok_part at c.search.ensures.some in
     rw c.copy_from_slice.ensures.after
-    (placed_order parts rules c.args.order.now c.if-n-gt128.false windows (all_good _ _ _ rules m) c.if-order-n.false
+    (placed_order parts rules c.args.order.now c.if-n-gt-MOST_PARTS.false windows (all_good _ _ _ rules m) c.if-order-n.false
     (take (length parts) c.in_ok-found.found) (some rules (rows_for parts rules _ _ c.start_rows-rows.ensures m)))
