@@ -1,10 +1,12 @@
 -- Laws of the parts and the rules that plain numbers stand for.
-use Prim.Native.Nat.{ℕ, ◌+◌, ◌≤◌, ◌<◌, ◌/◌, ◌%◌}
+use Prim.Native.Nat.{ℕ, zero, suc, ◌+◌, ◌*◌, ◌≤◌, ◌<◌, ◌/◌, ◌%◌}
 use native.Mathlib.Omega.{arith}
-use mathlib.Core.Path.{◌≡◌, refl, sym, ◌∙◌}
+use mathlib.Core.Path.{◌≡◌, refl, sym, ap, ◌∙◌}
 use mathlib.Core.Logic.{⊎_elim}
-use mathlib.Core.List.{List}
-use lib.ListN.{length, get_or, set, take}
+use mathlib.Core.List.{List, []}
+use lib.ListN.{length, get_or, set, take, drop}
+use Rattle.std.specs.Simd.{first_chunks}
+use Rattle.std.proofs.lemmas.List.{get_or-drop}
 use lib.Seq.{get_or-set_same, get_or-set_other, ext_get_or, get_or-take, length-take-le}
 use Rattle.model.proofs.Tests.{le_or_lt}
 use borrow.Author.Tests.{eq-eqb, ne_eqb}
@@ -18,6 +20,30 @@ use Rattle.placing.proofs.Listed.{listed, listed_at}
 use Rattle.placing.specs.Rows.{Placed}
 use Rattle.placing.proofs.Answers.{placed_over}
 use Rattle.ordering.proofs.Ruling.{placing_rule}
+
+-- a number of a record, where the numbers are read as records of n
+in_record : (n k i j : ℕ) (xs : List ℕ) → i < k → j < n → get_or (get_or (first_chunks n k xs) i []) j 0 ≡ get_or xs (i * n + j) 0
+in_record n zero i j xs h l = absurd (omega arith)
+in_record n (suc k) zero j xs h l = get_or-take n xs j 0 l ∙ ap (λ q. get_or xs q 0) (omega arith)
+in_record n (suc k) (suc i) j xs h l =
+    let e : n + (i * n + j) ≡ suc i * n + j = grind arith in
+    in_record n k i j (drop n xs) (omega arith) l ∙ get_or-drop n xs (i * n + j) 0 ∙ ap (λ q. get_or xs q 0) e
+
+pub part_in_record : (numbers : List ℕ) (i : ℕ) → i < length numbers / 4
+    → part_of_numbers (get_or (first_chunks 4 (length numbers / 4) numbers) i []) 0 ≡ part_of_numbers numbers i
+unfolding part_of_numbers
+part_in_record numbers i h =
+    let at = in_record 4 (length numbers / 4) i in
+    let e : i * 4 + 0 ≡ i * 4 = omega arith in
+    rw (at 0 numbers h (omega arith), at 1 numbers h (omega arith), at 2 numbers h (omega arith), at 3 numbers h (omega arith), e) refl
+
+pub rule_in_record : (numbers : List ℕ) (i : ℕ) → i < length numbers / 2
+    → rule_in (get_or (first_chunks 2 (length numbers / 2) numbers) i []) 0 ≡ rule_in numbers i
+unfolding rule_in
+rule_in_record numbers i h =
+    let at = in_record 2 (length numbers / 2) i in
+    let e : i * 2 + 0 ≡ i * 2 = omega arith in
+    rw (at 0 numbers h (omega arith), at 1 numbers h (omega arith), e) refl
 
 -- one part more is read
 pub part-more : (numbers : List ℕ) (parts : List Part) (i : ℕ) (x : Part) → i < length parts → x ≡ part_of_numbers numbers i

@@ -1,5 +1,5 @@
 // The placing order for parts and rules as plain numbers: four numbers a part, two a rule.
-ghost use Rattle.std.specs.Prelude.{◌≡◌, ℕ, ◌≤◌, ◌<◌, ◌/◌, length, get_or};
+ghost use Rattle.std.specs.Prelude.{◌≡◌, ℕ, ◌≤◌, ◌<◌, [], length, get_or};
 ghost use Rattle.refusal.specs.Reasons.{refusal_of};
 ghost use Rattle.ordering.specs.Parts.{part_at};
 ghost use Rattle.placing.specs.Numbers.{part_of_numbers, rule_in, order_in, order_after_in, PlacingRuleIn};
@@ -10,24 +10,23 @@ use ordering::{Part, Rule};
 use refusal::{Reason, Refused};
 
 #[tactic(auto, unfolding(crate::specs::Numbers::part_of_numbers))]
-fn part_in(numbers: &[u32], i: usize) -> Part
-    requires { i < length numbers.now / 4 }
-    ensures { result ≡ part_of_numbers numbers.now i }
+fn part_of(numbers: &[u32; 4]) -> Part
+    ensures { result ≡ part_of_numbers numbers.now 0 }
 {
-    let at = i * 4;
+    let [first, last, fine, tall] = *numbers;
     Part {
-        first: numbers[at] as usize,
-        last: numbers[at + 1] as usize,
-        fine: numbers[at + 2] != 0,
-        tall: numbers[at + 3] != 0,
+        first: first as usize,
+        last: last as usize,
+        fine: fine != 0,
+        tall: tall != 0,
     }
 }
 
 // The parts, at most 128, in the first places.
-fn parts_in(numbers: &[u32]) -> [Part; MOST_PARTS]
-    requires { length numbers.now / 4 ≤ 128 }
+fn parts_of(records: &[[u32; 4]]) -> [Part; MOST_PARTS]
+    requires { length records.now ≤ 128 }
     ensures size { length result ≡ 128 }
-    ensures parts { (i : ℕ) → i < length numbers.now / 4 → part_at result i ≡ part_of_numbers numbers.now i }
+    ensures parts { (i : ℕ) → i < length records.now → part_at result i ≡ part_of_numbers (get_or records.now i []) 0 }
 {
     let none = Part {
         first: 0,
@@ -36,21 +35,20 @@ fn parts_in(numbers: &[u32]) -> [Part; MOST_PARTS]
         tall: false,
     };
     let mut parts = [none; MOST_PARTS];
-    for i in 0..numbers.len() / 4 {
-        parts[i] = part_in(numbers, i);
+    for (i, record) in records.iter().enumerate() {
+        parts[i] = part_of(record);
     }
     parts
 }
 
 #[tactic(auto, unfolding(crate::specs::Numbers::rule_in))]
-fn rule_in(numbers: &[u32], i: usize) -> Rule
-    requires { i < length numbers.now / 2 }
-    ensures { result ≡ rule_in numbers.now i }
+fn rule_of(numbers: &[u32; 2]) -> Rule
+    ensures { result ≡ rule_in numbers.now 0 }
 {
-    let at = i * 2;
+    let [earlier, later] = *numbers;
     Rule {
-        earlier: numbers[at] as usize,
-        later: numbers[at + 1] as usize,
+        earlier: earlier as usize,
+        later: later as usize,
     }
 }
 
@@ -60,18 +58,19 @@ pub fn order_numbers(parts: &[u32], rules: &[u32], order: &mut [u8]) -> Result<(
     ensures order { order.new ≡ order_after_in parts.now rules.now order.old }
     ensures rule { PlacingRuleIn parts.now rules.now (length order.old) order.new (refusal_of result) }
 {
-    if parts.len() % 4 != 0 || rules.len() % 2 != 0 {
+    let (records, more) = parts.as_chunks::<4>();
+    let (pairs, one) = rules.as_chunks::<2>();
+    if !more.is_empty() || !one.is_empty() {
         return Err(Reason::BrokenRecord.at(0));
     }
-    let count = parts.len() / 4;
-    if MOST_PARTS < count {
+    if MOST_PARTS < records.len() {
         return Err(Reason::BadWindow.at(0));
     }
-    let given = parts_in(parts);
+    let given = parts_of(records);
     place(
-        &given[..count],
-        rules.len() / 2,
-        |i| rule_in(rules, i),
+        &given[..records.len()],
+        pairs.len(),
+        |i| rule_of(&pairs[i]),
         order,
     )
 }
