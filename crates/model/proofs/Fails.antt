@@ -8,6 +8,8 @@ use mathlib.Core.List.{List, [], ◌∷◌}
 use lib.ListN.{length, drop, get_or, drop_of_length-le}
 use lib.Dec.{T}
 use Rattle.std.specs.Prelude.{Some, None}
+use Rattle.std.specs.List.{position_or_len}
+use Rattle.std.proofs.lemmas.List.Recursion.{is_position_or_len}
 use borrow.Author.Tests.{lt-ltb, le-ltb}
 use Rattle.model.specs.Count.{All, none, more, first_fail, place_in}
 use Rattle.model.proofs.Tests.{test, true_T, false_T, cond_case}
@@ -34,6 +36,15 @@ module _ {A : Type 0} (f : A → Bool) where
   unfolding first_fail
   fails_most [] = omega arith
   fails_most (x ∷ xs) = cond_case (λ k. k ≤ suc (length xs)) (f x) (λ _. omega (arith, fails_most xs)) (λ _. omega arith)
+
+  -- the first that fails is the first that passes the opposite test
+  pub fail_position : (xs : List A) → first_fail f xs ≡ position_or_len (λ x. not (f x)) xs
+  unfolding first_fail
+  fail_position = is_position_or_len (first_fail f) (λ x. not (f x)) refl (λ x xs. flip (f x) (first_fail f xs))
+    where
+      flip : (b : Bool) (n : ℕ) → cond b (suc n) 0 ≡ cond (not b) 0 (1 + n)
+      flip true n = omega arith
+      flip false n = refl
 
 module _ (f : ℕ → Bool) where
   -- the first that fails does so

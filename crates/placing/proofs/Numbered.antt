@@ -2,13 +2,11 @@
 use Prim.Native.Nat.{ℕ, zero, suc, ◌+◌, ◌*◌, ◌≤◌, ◌<◌, ◌/◌, ◌%◌}
 use native.Mathlib.Omega.{arith}
 use mathlib.Core.Path.{◌≡◌, refl, sym, ap, ◌∙◌}
-use mathlib.Core.Logic.{⊎_elim}
 use mathlib.Core.List.{List, []}
-use lib.ListN.{length, get_or, set, take, drop}
+use lib.ListN.{length, get_or, take, drop}
 use Rattle.std.specs.Simd.{first_chunks}
 use Rattle.std.proofs.lemmas.List.{get_or-drop}
-use lib.Seq.{get_or-set_same, get_or-set_other, ext_get_or, get_or-take, length-take-le}
-use Rattle.model.proofs.Tests.{le_or_lt}
+use lib.Seq.{ext_get_or, get_or-take, length-take-le}
 use borrow.Author.Tests.{eq-eqb, ne_eqb}
 use Rattle.refusal.specs.Told.{Refusal}
 use Rattle.refusal.specs.Refusal as R
@@ -44,15 +42,6 @@ rule_in_record numbers i h =
     let at = in_record 2 (length numbers / 2) i in
     let e : i * 2 + 0 ≡ i * 2 = omega arith in
     rw (at 0 numbers h (omega arith), at 1 numbers h (omega arith), e) refl
-
--- one part more is read
-pub part-more : (numbers : List ℕ) (parts : List Part) (i : ℕ) (x : Part) → i < length parts → x ≡ part_of_numbers numbers i
-    → ((k : ℕ) → k < i → part_at parts k ≡ part_of_numbers numbers k) → (k : ℕ) → k < i + 1 → part_at (set parts i x) k ≡ part_of_numbers numbers k
-part-more numbers parts i x l e h k m =
-    ⊎_elim
-    (λ (u : i ≤ k). let z : k ≡ i = omega arith in rw z (get_or-set_same parts i x no_part l ∙ e))
-    (λ (u : k < i). get_or-set_other parts i k x no_part (λ z. omega arith) ∙ h k u)
-    (le_or_lt i k)
 
 -- all parts are read
 pub parts_all : (numbers : List ℕ) (parts : List Part) → length numbers / 4 ≤ length parts

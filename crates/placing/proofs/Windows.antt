@@ -1,9 +1,9 @@
 -- The windows of the parts, and the search over flat arrays, which finds the placing order.
-use Prim.Native.Nat.{ℕ, suc, ◌+◌, ◌≤◌, ◌<◌}
+use Prim.Native.Nat.{ℕ, ◌+◌, ◌≤◌, ◌<◌}
 use native.Mathlib.Omega.{arith}
-use mathlib.Core.Path.{◌≡◌, refl, ap, sym, ◌∙◌}
+use mathlib.Core.Path.{◌≡◌, ap, sym, ◌∙◌}
 use mathlib.Core.Logic.{⊎_elim}
-use mathlib.Core.Bool.{Bool, true, false, not, cond}
+use mathlib.Core.Bool.{Bool, not}
 use mathlib.Core.List.{List}
 use lib.Dec.{T, ltb, leb, ltb→lt, leb→le}
 use lib.ListN.{length, get_or, take, set}
@@ -12,7 +12,7 @@ use mathlib.Core.Option.{none, some}
 use Rattle.std.proofs.Common as R
 use Rattle.std.proofs.Common.{IfSome, IfNone}
 use Rattle.std.specs.List.{position, position_or_len}
-use Rattle.std.proofs.lemmas.List.Recursion.{is_position_or_len}
+use Rattle.model.proofs.Fails.{fail_position}
 use borrow.Author.Tests.{lt-ltb, le-ltb}
 use Rattle.model.specs.Count.{each, first_fail}
 use Rattle.model.proofs.Tests.{le_or_lt, and_left, and_right}
@@ -36,15 +36,6 @@ use Rattle.refusal.specs.declared.Refused.{Refused}
 use Rattle.refusal.specs.Reasons.{reason_number, told_of, refusal_of, refused_at}
 use Rattle.refusal.proofs.Laws.{reason_not_0}
 use Rattle.placing.specs.Rows.{RowsFor}
-
--- the first place that fails a test is the first that passes its opposite
-fail_position : {A : Type 0} (f : A → Bool) (xs : List A) → first_fail f xs ≡ position_or_len (λ x. not (f x)) xs
-unfolding first_fail
-fail_position f xs = is_position_or_len (first_fail f) (λ x. not (f x)) refl (λ x xs. flip (f x) (first_fail f xs)) xs
-  where
-    flip : (b : Bool) (n : ℕ) → cond b (suc n) 0 ≡ cond (not b) 0 (1 + n)
-    flip true n = omega arith
-    flip false n = refl
 
 position_some : {A : Type 0} (f : A → Bool) (xs : List A)
     → IfSome (position (λ x. not (f x)) xs) (λ w. (w < length xs) × (w ≡ first_fail f xs))
