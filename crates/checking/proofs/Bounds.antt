@@ -110,11 +110,11 @@ module _ {names m : ℕ} {qs lines : List ℕ} (r : NamedRuns names m qs lines) 
   few = (good_placements r.good).few
 
   has_named : has names ≡ named lines
-  has_named = ap has r.all ∙ names-named lines
+  has_named = ap has r.named.all ∙ names-named lines
 
   -- the lines are runs of the named tips, and so are the placements
   pub named_runs : All (Line (has names) m) lines
-  named_runs = rw has_named (named-lines r.good.most r.good.domains r.runs)
+  named_runs = rw has_named (named-lines r.good.most r.good.domains r.named.runs)
 
   placed-lines : All (Line (named lines) m) placed
   placed-lines = all-repeated qs (rw has_named at named_runs)

@@ -26,11 +26,15 @@ check_refusal m qs sets plan claim tab = or_else (claim_refusal qs sets plan cla
 
 -- ---- for proofs and leaf contracts: no call's contract speaks of these
 
--- good lines, each a run of the tips that they name; names is the set of these
-pub record NamedRuns (names m : ℕ) (qs lines : List ℕ) : Type 0 where
-  pub good : GoodLines m qs lines
+-- each line is a run of the tips that they name; names is the set of these
+pub record Named (names : ℕ) (lines : List ℕ) : Type 0 where
   pub runs : All (λ s. T (is_run_of (named lines) s)) lines
   pub all : names ≡ names_of lines
+
+-- and they are good lines
+pub record NamedRuns (names m : ℕ) (qs lines : List ℕ) : Type 0 where
+  pub good : GoodLines m qs lines
+  pub named : Named names lines
 
 -- how many placements of a plan are on each tip of the largest rack
 unfoldable pub on_tips : List ℕ → List ℕ

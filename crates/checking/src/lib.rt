@@ -9,12 +9,13 @@ ghost use Rattle.model.specs.Limits.{most_tips};
 ghost use Rattle.spans.specs.Spans.{sums_size};
 ghost use Rattle.goals.specs.Check.{entry};
 ghost use Rattle.refusal.specs.Reasons.{refusal_of};
-ghost use Rattle.checking.specs.Checking.{check_refusal, NamedRuns};
+ghost use Rattle.checking.specs.Checking.{check_refusal, Named};
 
+use placements::Lines;
 use refusal::{Reason, Refused};
 use tabled::Foreign;
 
-// The table's entry for the interval of first tip a and width w; 0 for one of no tip.
+// The table's entry for the interval of first tip a and width w. One of no tip has 0 pairs, and callers add or compare the number.
 pub fn entry_at(m: usize, a: usize, w: usize, table: &[u32]) -> u64
     requires rack { m ≤ most_tips }
     requires size { m * m ≤ length table.now }
@@ -28,23 +29,25 @@ pub fn entry_at(m: usize, a: usize, w: usize, table: &[u32]) -> u64
     u64::from(table[a * m + (a + (w - 1))])
 }
 
-// 19, 20 or 33, or nothing where all is accepted. `names` is the set of the tips that the lines name.
+// `ForeignTip`, `WrongClaim` or `WrongTable`, or nothing where all is accepted. `names` is the set of the tips that the lines name.
+// The clauses on lengths stay: they are sizes of two buffers of the caller.
 pub fn check_plan(
+    lines: Lines<'_>,
     names: u64,
-    m: usize,
-    lines: &[u64],
-    quantities: &[u8],
     plan: &[u8],
     claim: u32,
     table: &[u32],
 ) -> Result<(), Refused>
-    requires { NamedRuns names m quantities.now lines.now × (length plan.now ≡ length lines.now) × (m * m ≤ length table.now) }
-    ensures { refusal_of result ≡ check_refusal m quantities.now lines.now plan.now claim table.now }
+    requires named { Named names lines.sets.now }
+    requires planned { length plan.now ≡ length lines.sets.now }
+    requires cells { lines.rack * lines.rack ≤ length table.now }
+    ensures { refusal_of result ≡ check_refusal lines.entry.rack lines.entry.quantities.now lines.entry.sets.now plan.now claim table.now }
 {
-    claimed::claim_refusal(lines, quantities, plan, claim)?;
+    claimed::claim_refusal(lines.sets, lines.quantities, plan, claim)?;
+    let m = lines.rack;
     let mut room = [0u32; spans::MOST_SUMS];
     let sums = &mut room[..spans::sums_size(m)];
-    spans::sum_spans(m, lines, quantities, sums);
+    spans::sum_spans(m, lines.sets, lines.quantities, sums);
     let foreign = Foreign { m, sums, table };
     refusal::refuse_when(!foreign.fits(names, claim), Reason::WrongTable)
 }

@@ -11,6 +11,8 @@ ghost use Rattle.model.specs.Limits.{most_placements};
 ghost use Rattle.counts.specs.Counts.{Countable};
 ghost use Rattle.common_tip.specs.Common.{margin_by, least_count, narrow_by, kept_by, kept_lines};
 
+use placements::Lines;
+
 // The most placements that allow one tip, how many do not allow it, and the set W of the tips that as many allow.
 #[derive(Clone, Copy)]
 pub struct Common {
@@ -19,19 +21,17 @@ pub struct Common {
     pub tips: u64,
 }
 
-// `rack ≤ 64` stays a clause here and below: it bounds a number that is passed.
-pub fn common_tip(rack: usize, lines: &[u64], quantities: &[u8]) -> Common
-    requires { (rack ≤ 64) × Countable quantities.now lines.now }
-    ensures top { result.top ≡ top rack (repeated quantities.now lines.now) }
-    ensures off { result.off ≡ total quantities.now - result.top }
-    ensures tips { result.tips ≡ W rack (repeated quantities.now lines.now) }
+pub fn common_tip(lines: Lines<'_>) -> Common
+    ensures top { result.top ≡ top lines.entry.rack (repeated lines.entry.quantities.now lines.entry.sets.now) }
+    ensures off { result.off ≡ total lines.entry.quantities.now - result.top }
+    ensures tips { result.tips ≡ W lines.entry.rack (repeated lines.entry.quantities.now lines.entry.sets.now) }
 {
-    let planes = counts::count_tips(lines, quantities);
-    let busiest = counts::busiest_tips(&planes, rack);
+    let planes = counts::count_tips(lines.sets, lines.quantities);
+    let busiest = counts::busiest_tips(&planes, lines.rack);
     let top = busiest.top as usize;
     Common {
         top,
-        off: placements::total(quantities) - top,
+        off: lines.total() - top,
         tips: busiest.tips,
     }
 }
@@ -59,6 +59,7 @@ struct Bound {
     tips: u64,
 }
 
+// `rack ≤ 64` stays a clause here and below: it bounds a number that is passed.
 fn within(rack: usize, k: u16, lines: &[u64], quantities: &[u8]) -> Bound
     requires rack { rack ≤ 64 }
     requires countable { Countable quantities.now lines.now }

@@ -10,6 +10,8 @@ ghost use Rattle.placements.specs.Good.{GoodLines};
 ghost use Rattle.holders.specs.Holders.{gathered, side_pairs};
 ghost use Rattle.junior.specs.Found.{tips_on, score_is, tips_of, found_of, plan_of};
 
+use placements::Lines;
+
 // Two tips that serve every line, or one as both, and the plan's pairs; `first` says that the lines that have both go to u.
 #[derive(Clone, Copy)]
 struct Tips {
@@ -170,14 +172,14 @@ fn lay_tips(tips: Tips, lines: &[u64], plan: &mut [u8])
 }
 
 // The plan is laid where some tips serve every line; else it stays as it was.
-pub fn plan_lines(m: usize, lines: &[u64], quantities: &[u8], plan: &mut [u8]) -> Option<Found>
-    requires { GoodLines m quantities.now lines.now × (length plan.old ≡ length lines.now) }
-    ensures answer { result ≡ found_of m quantities.now lines.now }
-    ensures plan { plan.new ≡ plan_of m quantities.now lines.now plan.old }
+pub fn plan_lines(lines: Lines<'_>, plan: &mut [u8]) -> Option<Found>
+    requires { length plan.old ≡ length lines.sets.now }
+    ensures answer { result ≡ found_of lines.entry.rack lines.entry.quantities.now lines.entry.sets.now }
+    ensures plan { plan.new ≡ plan_of lines.entry.rack lines.entry.quantities.now lines.entry.sets.now plan.old }
 {
-    let all = placements::total(quantities) as u32;
-    let tips = choose_tips(m, lines, quantities, all)?;
-    lay_tips(tips, lines, plan);
+    let all = lines.total() as u32;
+    let tips = choose_tips(lines.rack, lines.sets, lines.quantities, all)?;
+    lay_tips(tips, lines.sets, plan);
     Some(Found {
         pairs: tips.pairs,
         u: tips.u,

@@ -16,12 +16,5 @@ pub fn goal(lines: Lines<'_>, goal: u32, struck: &mut [u64]) -> Result<(), Refus
         ≡ struck_sets none lines.entry.rack lines.entry.quantities.now lines.entry.sets.now goal struck.old }
 {
     call_refusals::run_refusal(lines.sets)?;
-    striking::strike(
-        ranks::names_of(lines.sets),
-        lines.rack,
-        lines.sets,
-        lines.quantities,
-        goal,
-        struck,
-    )
+    striking::strike(lines, ranks::names_of(lines.sets), goal, struck)
 }

@@ -24,7 +24,7 @@ pub fn junior(lines: Lines<'_>, plan: &mut [u8]) -> Result<Found, Refused>
 {
     let count = lines.len();
     call_refusals::junior_refusal(lines.rack, count, plan.len())?;
-    match junior::plan_lines(lines.rack, lines.sets, lines.quantities, &mut plan[..count]) {
+    match junior::plan_lines(lines, &mut plan[..count]) {
         Some(found) => Ok(found),
         None => Err(Reason::NoTwoTips.at(0)),
     }

@@ -29,7 +29,7 @@ pub fn common(lines: Lines<'_>) -> Common
     ensures rule { CommonRule lines.entry.rack lines.entry.quantities.now lines.entry.sets.now 0
         result.top result.off result.tips }
 {
-    common_tip::common_tip(lines.rack, lines.sets, lines.quantities)
+    common_tip::common_tip(lines)
 }
 
 // Keep within k: the margin, which is top - n + k of n placements. Where it is below zero the sets stay as they were. They are pruned in
@@ -109,10 +109,8 @@ pub fn check(lines: Lines<'_>, plan: &[u8], claim: u32, table: &[u32]) -> Result
 {
     call_refusals::best_refusal(lines.rack, lines.sets, plan.len(), table.len())?;
     checking::check_plan(
+        lines,
         ranks::names_of(lines.sets),
-        lines.rack,
-        lines.sets,
-        lines.quantities,
         &plan[..lines.len()],
         claim,
         table,

@@ -39,7 +39,7 @@ module _ {names m : ℕ} {qs sets : List ℕ} (r : NamedRuns names m qs sets) (i
     (x : InsideAll m (repeated qs sets) inner) (o : OutsideAll m (repeated qs sets) upper) where
   -- what is known of the tables
   pub known : Known names m (get_or qs i 0) (repeated qs sets) (others qs sets i) xs inner upper
-  known = record { others = k; inside = x; outside = o; fewer = fewer r.good r.runs i l; few = Out_few ks }
+  known = record { others = k; inside = x; outside = o; fewer = fewer r.good r.named.runs i l; few = Out_few ks }
 
   -- where enough pairs can be had an interval is followed
   opens : (K t a w : ℕ) → T (has (get_or sets i 0) t) → a ≤ t → t < a + w → a + w ≤ m
@@ -67,7 +67,7 @@ module _ {names m : ℕ} {qs sets : List ℕ} (r : NamedRuns names m qs sets) (i
       × Ends (open_by m xs inner upper (get_or qs i 0) (get_or sets i 0) K) m (C (repeated qs sets)) (others qs sets i) (get_or qs i 0) K t))
       → kept ≡ goal_tips m qs sets K i
   kept-goal K kept f = set_same kept (goal_tips m qs sets K i) (λ t.
-      let g = tips-by_tables r.good r.runs i l K (open_by m xs inner upper (get_or qs i 0) (get_or sets i 0) K) (opens K) t in
+      let g = tips-by_tables r.good r.named.runs i l K (open_by m xs inner upper (get_or qs i 0) (get_or sets i 0) K) (opens K) t in
       same_test (has kept t) (has (goal_tips m qs sets K i) t) (λ h. g.1 ((f t).0 h)) (λ h. (f t).1 (g.0 h)))
 
 -- the kept set of a line before i

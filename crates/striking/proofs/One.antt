@@ -26,7 +26,7 @@ module _ {names m : ℕ} {qs sets : List ℕ} (r : NamedRuns names m qs sets) (i
   g = goal_tips m qs sets K i
 
   exact : Struck m qs sets K (strike m qs sets K)
-  exact = strike_runs r.good r.runs K k
+  exact = strike_runs r.good r.named.runs K k
 
   at : get_or (strike m qs sets K) i 0 ≡ g
   unfolding strike

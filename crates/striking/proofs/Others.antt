@@ -10,23 +10,24 @@ use Rattle.model.specs.Interval.{low, high}
 use Rattle.model.proofs.ListOf.{list_of-at, list_of_cong}
 use Rattle.model.proofs.Mix.{count_mix, length_mix}
 use Rattle.placements.specs.Repeated.{repeated}
+use Rattle.placements.specs.Good.{GoodLines}
 use Rattle.placements.proofs.Good.{good_placements}
 use Rattle.placements.proofs.Repeated.{all-repeated}
 use Rattle.spans.specs.Spans.{sums_width, sums_size, below, sums}
 use Rattle.spans.proofs.Below.{length-sums, sums_at}
 use Rattle.goals.specs.Goal.{without, others}
 use Rattle.goals.proofs.Append.{count-replicate, mix_repeated, all_without}
-use Rattle.checking.specs.Checking.{NamedRuns}
+use Rattle.checking.specs.Checking.{Named, NamedRuns}
 use Rattle.checking.proofs.Bounds.{named_runs}
 use Rattle.striking.specs.Striking.{own_at, sums_without, Removable, RunSums}
 
 -- the sums of all lines
-pub all-sums : {names m : ℕ} {qs sets xs : List ℕ} → NamedRuns names m qs sets → xs ≡ sums m (repeated qs sets)
+pub all-sums : {names m : ℕ} {qs sets xs : List ℕ} → GoodLines m qs sets → Named names sets → xs ≡ sums m (repeated qs sets)
     → RunSums names m 0 (repeated qs sets) xs
-all-sums {qs = qs} r e = record {
-  rack = r.good.most;
-  few = omega (arith, (good_placements r.good).few);
-  runs = all-repeated qs (named_runs r);
+all-sums {qs = qs} g n e = record {
+  rack = g.most;
+  few = omega (arith, (good_placements g).few);
+  runs = all-repeated qs (named_runs (record { good = g; named = n }));
   summed = e;
 }
 

@@ -10,7 +10,7 @@ mod summed;
 
 ghost use Rattle.std.specs.Prelude.{◌≡◌, ◌*◌, ◌^◌, ◌<◌, ◌≤◌, length};
 ghost use Rattle.spans.specs.Spans.{sums_size};
-ghost use Rattle.checking.specs.Checking.{NamedRuns};
+ghost use Rattle.checking.specs.Checking.{Named};
 ghost use Rattle.refusal.specs.Reasons.{refusal_of};
 ghost use Rattle.striking.specs.Striking.{goal_refusal, struck_by};
 
@@ -20,26 +20,25 @@ use summed::Lines;
 
 // The goal's refusal and the struck sets, with room for the sums and the tables of a rack of m tips.
 fn strike_in<const SUMS: usize, const CELLS: usize>(
+    lines: placements::Lines<'_>,
     names: u64,
-    m: usize,
-    lines: &[u64],
-    quantities: &[u8],
     goal: u32,
     struck: &mut [u64],
 ) -> Result<(), Refused>
-    requires named { NamedRuns names m quantities.now lines.now }
-    requires as_lines { length struck.old ≡ length lines.now }
-    requires sums { sums_size m ≤ SUMS }
-    requires cells { m * m ≤ CELLS }
+    requires named { Named names lines.sets.now }
+    requires as_lines { length struck.old ≡ length lines.sets.now }
+    requires sums { sums_size lines.rack ≤ SUMS }
+    requires cells { lines.rack * lines.rack ≤ CELLS }
     requires few_sums { SUMS < 2 ^ 16 }
     requires few_cells { CELLS < 2 ^ 16 }
-    ensures answer { refusal_of result ≡ goal_refusal m quantities.now lines.now goal }
-    ensures struck { struck.new ≡ struck_by m quantities.now lines.now goal struck.old }
+    ensures answer { refusal_of result ≡ goal_refusal lines.entry.rack lines.entry.quantities.now lines.entry.sets.now goal }
+    ensures struck { struck.new ≡ struck_by lines.entry.rack lines.entry.quantities.now lines.entry.sets.now goal struck.old }
 {
+    let m = lines.rack;
     let size = spans::sums_size(m);
     let mut sums = [0u32; SUMS];
     let sums = &mut sums[..size];
-    spans::sum_spans(m, lines, quantities, sums);
+    spans::sum_spans(m, lines.sets, lines.quantities, sums);
     let all = Lines {
         names,
         m,
@@ -54,8 +53,8 @@ fn strike_in<const SUMS: usize, const CELLS: usize>(
     let mut upper = [0u32; CELLS];
     all.fill_outside(&inner, &mut upper);
     let each = Each {
-        lines,
-        quantities,
+        lines: lines.sets,
+        quantities: lines.quantities,
         goal,
         all,
         inner: &inner,
@@ -67,24 +66,23 @@ fn strike_in<const SUMS: usize, const CELLS: usize>(
     Ok(())
 }
 
-// 34 where the best plan has fewer pairs than the goal, and nothing is struck. `names` is the set of the tips that the lines name.
-// The six arrays for a rack of more than 16 tips take 91,148 bytes of the stack; for a small rack small ones are filled, as it is quicker.
+// `GoalMissed` where the best plan has fewer pairs than the goal, and nothing is struck. `names` is the set of the tips that the lines name.
+// The five arrays for a rack of more than 16 tips take 82,952 bytes of the stack; for a small rack small ones are filled, as it is quicker.
 pub fn strike(
+    lines: placements::Lines<'_>,
     names: u64,
-    m: usize,
-    lines: &[u64],
-    quantities: &[u8],
     goal: u32,
     struck: &mut [u64],
 ) -> Result<(), Refused>
-    requires { NamedRuns names m quantities.now lines.now × (length struck.old ≡ length lines.now) }
-    ensures answer { refusal_of result ≡ goal_refusal m quantities.now lines.now goal }
-    ensures struck { struck.new ≡ struck_by m quantities.now lines.now goal struck.old }
+    requires named { Named names lines.sets.now }
+    requires as_lines { length struck.old ≡ length lines.sets.now }
+    ensures answer { refusal_of result ≡ goal_refusal lines.entry.rack lines.entry.quantities.now lines.entry.sets.now goal }
+    ensures struck { struck.new ≡ struck_by lines.entry.rack lines.entry.quantities.now lines.entry.sets.now goal struck.old }
 {
-    if m <= 16 {
+    if lines.rack <= 16 {
         return strike_in::<{ spans::SMALL_SUMS }, { spans::SMALL_TABLE }>(
-            names, m, lines, quantities, goal, struck,
+            lines, names, goal, struck,
         );
     }
-    strike_in::<{ spans::MOST_SUMS }, { spans::MOST_TABLE }>(names, m, lines, quantities, goal, struck)
+    strike_in::<{ spans::MOST_SUMS }, { spans::MOST_TABLE }>(lines, names, goal, struck)
 }

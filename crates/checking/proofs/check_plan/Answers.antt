@@ -2,7 +2,7 @@ use Rattle.std.proofs.Common.{◌≡◌, ap, ◌∙◌, not, rules}
 use Rattle.refusal.specs.Refusal.{when}
 use Rattle.refusal.specs.Reasons.{refusal_of, told_of}
 use Rattle.refusal.proofs.Laws.{or_err, or_ok}
-use Rattle.checking.specs.Checking.{check_refusal, table_ok}
+use Rattle.checking.specs.Checking.{check_refusal, table_ok, NamedRuns}
 use Rattle.checking.proofs.Bounds.{ready, bounds_same}
 use Rattle.checking.proofs.check_plan.Goals as goal
 
@@ -13,10 +13,15 @@ returns-in_err-claim_refusal c =
     e ∙ or_err _ _ c.in_err-claim_refusal.ensures
 
 pub invariant_of-foreign : goal.invariant_of-foreign
-invariant_of-foreign c = record { ready = rw c.sum_spans.ensures (ready c.requires.0 c.args.table.now c.requires.2) }
+invariant_of-foreign c =
+    let l = c.args.lines in
+    let r : NamedRuns c.args.names l.rack l.quantities.now l.sets.now = record { good = l.good; named = c.requires.named } in
+    record { ready = rw c.sum_spans.ensures (ready r c.args.table.now c.requires.cells) }
 
 pub returns : goal.returns
 unfolding check_refusal table_ok
 returns c =
-    let fits = c.fits.ensures ∙ rw (c.sum_spans.ensures, bounds_same c.requires.0 c.args.table.now) in
+    let l = c.args.lines in
+    let r : NamedRuns c.args.names l.rack l.quantities.now l.sets.now = record { good = l.good; named = c.requires.named } in
+    let fits = c.fits.ensures ∙ rw (c.sum_spans.ensures, bounds_same r c.args.table.now) in
     or_ok _ c.in_ok-claim_refusal.ensures (c.refuse_when.ensures ∙ ap (λ b. when (not b) 33) fits)

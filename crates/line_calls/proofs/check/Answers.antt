@@ -25,10 +25,18 @@ slice_bounds-check_plan-end c =
     let room = (best_none none _ _ _ _ (ap (λ r. r.number) (sym c.in_ok-best_refusal.ensures))).bytes in
     rw c.len.ensures (sym (length-take-le _ _ room))
 
-pub check_plan-requires : goal.check_plan-requires
-check_plan-requires c =
+pub check_plan-requires-clause-named : goal.check_plan-requires-clause-named
+check_plan-requires-clause-named c =
     let free = best_none none _ _ _ _ (ap (λ r. r.number) (sym c.in_ok-best_refusal.ensures)) in
-    (record { good = c.args.lines.good; runs = free.runs; all = c.names_of.ensures }, rw c.len.ensures (length-take-le _ _ free.bytes), free.cells)
+    record { runs = free.runs; all = c.names_of.ensures }
+
+pub check_plan-requires-clause-planned : goal.check_plan-requires-clause-planned
+check_plan-requires-clause-planned c =
+    let free = best_none none _ _ _ _ (ap (λ r. r.number) (sym c.in_ok-best_refusal.ensures)) in
+    rw c.len.ensures (length-take-le _ _ free.bytes)
+
+pub check_plan-requires-clause-cells : goal.check_plan-requires-clause-cells
+check_plan-requires-clause-cells c = (best_none none _ _ _ _ (ap (λ r. r.number) (sym c.in_ok-best_refusal.ensures))).cells
 
 pub returns : goal.returns
 returns c =

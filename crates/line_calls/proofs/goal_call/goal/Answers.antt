@@ -15,11 +15,11 @@ returns-in_err-run_refusal c =
     (asked_runs none a.lines.sets.now refl c.in_err-run_refusal.ensures) (reason_not_0 e.reason) in
     rw same (record { answer = answer; sets = sets })
 
-pub strike-requires : goal.strike-requires
-strike-requires c =
+pub strike-requires-clause-named : goal.strike-requires-clause-named
+strike-requires-clause-named c =
     let sets = c.args.lines.sets.now in
     let all = asked-none none sets (ap (λ r. r.number) (sym (asked_runs none sets refl c.in_ok-run_refusal.ensures))) in
-    (record { good = c.args.lines.good; runs = all.1; all = c.names_of.ensures }, c.requires)
+    record { runs = all.1; all = c.names_of.ensures }
 
 pub returns : goal.returns
 returns c =

@@ -26,7 +26,7 @@ slice_bounds-plan_lines-end-2 c = sym (length-take-le _ _ (junior_none none _ _ 
 pub plan_lines-requires : goal.plan_lines-requires
 plan_lines-requires c =
     let room = (junior_none none _ _ _ (ap (λ r. r.number) (sym c.in_ok-junior_refusal.ensures))).1 in
-    (c.args.lines.good, length-take-le _ _ room ∙ c.len-count.ensures)
+    length-take-le _ _ room ∙ c.len-count.ensures
 
 pub returns-in-Some : goal.returns-in-Some
 returns-in-Some c =

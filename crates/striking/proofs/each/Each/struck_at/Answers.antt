@@ -24,7 +24,7 @@ known-of : (c : After-from) → Known c.args.self.now.all.names c.args.self.now.
 known-of c =
     let s = c.args.self.now in
     let named = c.requires.named in
-    rw c.from.ensures (known named c.args.i c.requires.line (all-sums named s.summed)
+    rw c.from.ensures (known named c.args.i c.requires.line (all-sums named.good named.named s.summed)
     (rest-sums named c.args.i c.requires.line s.summed c.sums_without.ensures) s.inside s.outside)
 
 pub returns-then-lowest-highest : goal.returns-then-lowest-highest
@@ -73,5 +73,5 @@ returns c =
     let all = repeated s.quantities.now s.lines.now in
     let rest = others s.quantities.now s.lines.now c.args.i in
     let kept = c.kept_tips.ensures all rest (known-of (goal.at.returns c).After-from) in
-    kept-goal named c.args.i c.requires.line (all-sums named s.summed)
+    kept-goal named c.args.i c.requires.line (all-sums named.good named.named s.summed)
     (rest-sums named c.args.i c.requires.line s.summed c.sums_without.ensures) s.inside s.outside s.goal _ (rw c.from.ensures at kept)
