@@ -11,13 +11,14 @@ use lib.Dec.{T, leb, ltb, leb→le, le→leb, lt→ltb}
 use lib.ListN.{length, get_or, take}
 use lib.Seq.{get_or-take}
 use borrow.Author.Tests.{lt-ltb, le-ltb}
-use lib.Pow.{pow_pos, pow_mono}
+use lib.Bits.{bit_or, or_block, or_zero_l, or_zero_r}
+use lib.Pow.{pow_pos}
 use Rattle.model.specs.Limits.{most_tips}
 use Rattle.model.specs.Count.{list_of}
 use Rattle.model.specs.Plan.{has, choose2, Domain}
 use Rattle.model.specs.CommonTip.{set_of}
 use Rattle.model.specs.Interval.{low, high, inside, C}
-use Rattle.model.proofs.Tests.{le_or_lt, true_T, false_not, and_in, same_test, cond_case}
+use Rattle.model.proofs.Tests.{le_or_lt, true_T, false_not, and_in, same_test}
 use Rattle.model.proofs.Lists.{all-at}
 use Rattle.model.proofs.Run.{low_le, le_high, high-below}
 use Rattle.model.proofs.ListOf.{list_of-at}
@@ -92,14 +93,24 @@ le-leb x y h = true_T (leb x y) (le→leb x y h)
 pub lt-leb : (x y : ℕ) → y < x → leb x y ≡ false
 lt-leb x y h = false_not (leb x y) (λ t. omega (arith, leb→le x y t))
 
-pub bits_fit : (f : ℕ → Bool) (t : ℕ) (b : Bool) → t < most_tips → set_of f t + cond b (2 ^ t) 0 < 2 ^ most_tips
-bits_fit f t b h =
-    let p : 2 ^ suc t ≤ 2 ^ most_tips = pow_mono h in
-    cond_case (λ x. set_of f t + x < 2 ^ most_tips) b (λ _. omega (arith, set_of_lt f t)) (λ _. omega (arith, set_of_lt f t, pow_pos t))
+-- the bit of tip t joined to a set of tips below t is added
+bit_joined : (f : ℕ → Bool) (t : ℕ) → bit_or (set_of f t) (2 ^ t) ≡ set_of f t + 2 ^ t
+bit_joined f t =
+    let s = set_of f t in
+    let none : 0 * 2 ^ t + s ≡ s = omega arith in
+    let one : 1 * 2 ^ t + 0 ≡ 2 ^ t = omega arith in
+    let both = or_block t 0 1 s 0 (set_of_lt f t) (pow_pos t) in
+    omega (arith, rw (none, one, or_zero_l 1, or_zero_r s) at both)
 
 pub bits_more : (f : ℕ → Bool) (t : ℕ) → set_of f (t + 1) ≡ set_of f t + cond (f t) (2 ^ t) 0
 unfolding set_of
 bits_more f t = rw add-one
+
+pub bit_kept : (f : ℕ → Bool) (t : ℕ) → f t ≡ true → bit_or (set_of f t) (2 ^ t) ≡ set_of f (t + 1)
+bit_kept f t e = bit_joined f t ∙ sym (bits_more f t ∙ rw e)
+
+pub bit_left : (f : ℕ → Bool) (t : ℕ) → f t ≡ false → set_of f t ≡ set_of f (t + 1)
+bit_left f t e = sym (bits_more f t ∙ rw e (omega arith))
 
 and_none : (b : Bool) → (b && false) ≡ false
 and_none true = refl

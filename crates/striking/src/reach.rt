@@ -1,5 +1,5 @@
 // The tips of a line with which some plan has the goal's pairs, from the inside table of all lines and the sums of the other lines.
-ghost use Rattle.std.specs.Prelude.{◌≡◌, cond, ◌↔◌, List, ℕ, ◌+◌, ◌*◌, ◌-◌, ◌^◌, ◌≤◌, ◌<◌, T, length, IfSome, set as put};
+ghost use Rattle.std.specs.Prelude.{◌≡◌, ◌↔◌, List, ℕ, ◌+◌, ◌*◌, ◌-◌, ◌^◌, ◌≤◌, ◌<◌, T, length, IfSome, set as put};
 ghost use Rattle.std.specs.Option.{unwrap_or};
 ghost use Rattle.model.specs.Limits.{most_placements};
 ghost use Rattle.model.specs.Plan.{has, Domain};
@@ -71,25 +71,22 @@ impl Reach<'_, '_> {
         u64::from(self.goal) <= self.limit_at(of)
     }
 
-    // The bit of tip t if a chain ends there in the interval with the goal's pairs, where so many are outside; else 0.
-    fn end_bit(&self, outside: u64, of: Interval, t: usize) -> u64
+    // A chain ends at tip t in the interval with the goal's pairs, where `outside` pairs are outside it.
+    fn ends_at(&self, outside: u64, of: Interval, t: usize) -> bool
         requires inside { of.first + of.width ≤ self.now.others.m }
         requires from { of.first ≤ t }
         requires to { t < of.first + of.width }
         requires narrow { outside < 2 ^ 32 }
-        ensures { result ≡ cond (ends_by self.now.others.names self.now.others.m self.now.others.sums.now self.now.inner.now
-            self.now.others.added self.now.set self.now.goal outside of.first of.width t) (2 ^ t) 0 }
+        ensures { result ≡ ends_by self.now.others.names self.now.others.m self.now.others.sums.now self.now.inner.now
+            self.now.others.added self.now.set self.now.goal outside of.first of.width t }
     {
         if !tips::has_tip(self.set, t) {
-            return 0;
+            return false;
         }
         let split = self
             .others
             .split_at(of, t - of.first, self.others.added, self.inner);
-        if outside + split < u64::from(self.goal) {
-            return 0;
-        }
-        1u64 << t
+        u64::from(self.goal) <= outside + split
     }
 
     // No tip before the lowest of the set or after the highest is tried.
@@ -103,7 +100,9 @@ impl Reach<'_, '_> {
         let begin = of.first.max(tips::lowest(self.set)).min(end);
         let mut kept = 0u64;
         for t in begin..end {
-            kept += self.end_bit(outside, of, t);
+            if self.ends_at(outside, of, t) {
+                kept |= 1 << t;
+            }
         }
         kept
     }

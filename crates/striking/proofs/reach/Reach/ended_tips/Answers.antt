@@ -1,7 +1,9 @@
-use Rattle.std.proofs.Common.{ℕ, Bool, sym, ◌∙◌, arith}
+use Rattle.std.proofs.Common.{◌≡◌, ◌*◌, ◌%◌, ◌^◌, ◌<◌, ℕ, Bool, sym, ◌∙◌, arith}
+use lib.Pow.{pow-lt}
 use Rattle.model.proofs.Run.{high-below}
 use Rattle.striking.specs.Striking.{ends_by}
-use Rattle.striking.proofs.Kept.{tips-before, tips-after, bits_fit, bits_more}
+use Rattle.striking.proofs.Kept.{tips-before, tips-after, bit_kept, bit_left}
+use Rattle.striking.proofs.reach.Reach.ended_tips.Goals.{then-ends_at, else-ends_at}
 use Rattle.striking.proofs.reach.Reach.ended_tips.Goals as goal
 
 pub overflow_add-highest : goal.overflow_add-highest
@@ -14,19 +16,17 @@ loop-t-init c =
     sym (tips-before s.others.names s.others.m s.others.sums.now s.inner.now s.others.added s.set s.goal c.args.outside c.args.of.first
     c.args.of.width _ (omega (arith, c.min-begin.ensures, c.max.ensures, c.lowest.ensures)))
 
-pub overflow_add-kept : goal.overflow_add-kept
-overflow_add-kept c =
-    let s = c.args.self.now in
-    let f : ℕ → Bool
-    = ends_by s.others.names s.others.m s.others.sums.now s.inner.now s.others.added s.set s.goal c.args.outside c.args.of.first c.args.of.width in
-    record { fits = omega (arith, c.loop-t.invariant, c.end_bit-kept.ensures, bits_fit f c.loop-t.t (f c.loop-t.t) (omega arith)) }
-
 pub loop-t-preserved : goal.loop-t-preserved
 loop-t-preserved c =
     let s = c.args.self.now in
     let f : ℕ → Bool
     = ends_by s.others.names s.others.m s.others.sums.now s.inner.now s.others.added s.set s.goal c.args.outside c.args.of.first c.args.of.width in
-    omega (arith, c.loop-t.invariant, c.end_bit-kept.ensures, bits_more f c.loop-t.t)
+    let below : 2 ^ c.loop-t.t < 2 ^ 64 = pow-lt {j = 64} (omega (arith, c.min-end.ensures, s.others.ready.rack)) in
+    let bit : 1 * 2 ^ c.loop-t.t % 2 ^ 64 ≡ 2 ^ c.loop-t.t = omega arith in
+    elim c.if-ends_at.branch [
+      | then-ends_at w ↦ rw (w.kept-is, bit, c.loop-t.invariant) (bit_kept f c.loop-t.t (sym c.ends_at.ensures ∙ w.if-ends_at.true))
+      | else-ends_at w ↦ rw (w.kept-is, c.loop-t.invariant) (bit_left f c.loop-t.t (sym c.ends_at.ensures ∙ w.if-ends_at.false))
+    ]
 
 pub returns : goal.returns
 returns c =
