@@ -12,7 +12,7 @@ use Rattle.junior.specs.declared.Tips.{Tips}
 use Rattle.junior.specs.Found.{tips_on, score_is}
 
 abbrev pub tips_with : ℕ → ℕ → ℕ → Bool → Tips
-tips_with p u v first = record { pairs = p; u = u; v = v; first = first }
+tips_with p u v first = record { found = record { pairs = p; u = u; v = v }; first = first }
 
 module _ (lines : List ℕ) (u v : ℕ) where
   -- the score of the tips is that of their number

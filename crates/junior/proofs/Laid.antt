@@ -18,8 +18,8 @@ use Rattle.junior.proofs.Choice.{tips_with, score_on}
 
 -- what tips that are a choice are
 record On (lines : List ℕ) (u v : ℕ) (tips : Tips) : Type 0 where
-  u_is : tips.u ≡ u
-  v_is : tips.v ≡ v
+  u_is : tips.found.u ≡ u
+  v_is : tips.found.v ≡ v
   first_is : tips.first ≡ to_first lines u v
 
 tips_are : (lines : List ℕ) (u v : ℕ) {tips : Tips} → Some tips ≡ tips_on lines u v → On lines u v tips
@@ -27,7 +27,9 @@ unfolding tips_on
 tips_are lines u v {tips} e = by (is_choice lines u v) e
   where
     by : (c : Bool) → Some tips ≡ cond c (Some (tips_with (pairs (two_plan lines u v)) u v (to_first lines u v))) None → On lines u v tips
-    by true q = record { u_is = cc; v_is = cc; first_is = cc }
+    by true q =
+        let t : tips ≡ tips_with (pairs (two_plan lines u v)) u v (to_first lines u v) = cc in
+        record { u_is = ap (λ x. x.found.u) t; v_is = ap (λ x. x.found.v) t; first_is = ap (λ x. x.first) t }
     by false q = absurd (cc)
 
 module _ {m : ℕ} {qs lines : List ℕ} (good : GoodLines m qs lines) where
@@ -63,17 +65,17 @@ module _ {m : ℕ} {qs lines : List ℕ} (good : GoodLines m qs lines) where
     unfolding tips_of
     on = tips_are (repeated qs lines) (first_tip m qs lines) (second_tip m qs lines) found
 
-    pub tips-inside : (tips.u < m) × (tips.v < m)
+    pub tips-inside : (tips.found.u < m) × (tips.found.v < m)
     tips-inside =
         let (l, b) = junior_rack good (T_true served) in
         (omega (arith, on.u_is, on.v_is), omega (arith, on.v_is))
 
-    pub answer_some : Some (record { pairs = tips.pairs; u = tips.u; v = tips.v }) ≡ found_of m qs lines
+    pub answer_some : Some tips.found ≡ found_of m qs lines
     unfolding found_of score_is
     answer_some = rw (served, on.u_is, on.v_is) (ap (λ p. Some (record { pairs = p; u = first_tip m qs lines; v = second_tip m qs lines }))
         (omega (arith, junior_score good (T_true served), score_of, ap score_is found)))
 
     pub plan_some : (old : List ℕ)
-        → cond tips.first (gathered lines tips.u tips.v) (gathered lines tips.v tips.u) ≡ plan_of m qs lines old
+        → cond tips.first (gathered lines tips.found.u tips.found.v) (gathered lines tips.found.v tips.found.u) ≡ plan_of m qs lines old
     unfolding plan_of junior_plan line_plan
     plan_some old = rw (served, on.u_is, on.v_is, on.first_is) refl

@@ -12,21 +12,20 @@ ghost use Rattle.junior.specs.Found.{tips_on, score_is, tips_of, found_of, plan_
 
 use placements::Lines;
 
-// Two tips that serve every line, or one as both, and the plan's pairs; `first` says that the lines that have both go to u.
-#[derive(Clone, Copy)]
-struct Tips {
-    pairs: u32,
-    u: usize,
-    v: usize,
-    first: bool,
-}
-
 // The plan's pairs, and its tips u and v.
 #[derive(Clone, Copy, Debug, PartialEq, Eq)]
 pub struct Found {
     pub pairs: u32,
     pub u: usize,
     pub v: usize,
+}
+
+// Two tips that serve every line, or one as both, with the plan's pairs. `first` says that the lines that have both go to u: no other field
+// tells that.
+#[derive(Clone, Copy)]
+struct Tips {
+    found: Found,
+    first: bool,
 }
 
 // The placements of a line that has the tip.
@@ -90,10 +89,9 @@ fn on_tips(u: usize, v: usize, lines: &[u64], quantities: &[u8], all: u32) -> Op
     }
     let to_u = side_pairs(all, with_u);
     let to_v = side_pairs(all, with_v);
+    let pairs = to_u.max(to_v);
     Some(Tips {
-        pairs: to_u.max(to_v),
-        u,
-        v,
+        found: Found { pairs, u, v },
         first: to_v <= to_u,
     })
 }
@@ -106,7 +104,7 @@ fn better(first: Option<Tips>, next: Tips) -> Option<Tips>
     let Some(old) = first else {
         return Some(next);
     };
-    if old.pairs < next.pairs {
+    if old.found.pairs < next.found.pairs {
         Some(next)
     } else {
         first
@@ -158,16 +156,17 @@ fn lay_lines(tip: usize, other: usize, lines: &[u64], plan: &mut [u8])
 
 // The lines that have both go to their side.
 fn lay_tips(tips: Tips, lines: &[u64], plan: &mut [u8])
-    requires u { tips.u < most_tips }
-    requires v { tips.v < most_tips }
+    requires u { tips.found.u < most_tips }
+    requires v { tips.found.v < most_tips }
     requires size { length plan.old ≡ length lines.now }
-    ensures { plan.new ≡ cond tips.first (gathered lines.now tips.u tips.v)
-        (gathered lines.now tips.v tips.u) }
+    ensures { plan.new ≡ cond tips.first (gathered lines.now tips.found.u tips.found.v)
+        (gathered lines.now tips.found.v tips.found.u) }
 {
+    let Found { u, v, .. } = tips.found;
     if tips.first {
-        lay_lines(tips.u, tips.v, lines, plan);
+        lay_lines(u, v, lines, plan);
     } else {
-        lay_lines(tips.v, tips.u, lines, plan);
+        lay_lines(v, u, lines, plan);
     }
 }
 
@@ -180,9 +179,5 @@ pub fn plan_lines(lines: Lines<'_>, plan: &mut [u8]) -> Option<Found>
     let all = lines.total() as u32;
     let tips = choose_tips(lines.rack, lines.sets, lines.quantities, all)?;
     lay_tips(tips, lines.sets, plan);
-    Some(Found {
-        pairs: tips.pairs,
-        u: tips.u,
-        v: tips.v,
-    })
+    Some(tips.found)
 }

@@ -75,6 +75,6 @@ returns c =
     let lines = c.args.lines.now in
     let (served, with_u, with_v) = c.loop-i.invariant in
     let used = sym c.each_used.ensures ∙ c.if-not-each_used.false in
-    rw (c.max.ensures, c.side_pairs-to_u.ensures, c.side_pairs-to_v.ensures)
+    rw (c.max-pairs.ensures, c.side_pairs-to_u.ensures, c.side_pairs-to_v.ensures)
     (passed_some qs lines c.requires.same c.args.u c.args.v c.loop-i.i c.loop-i-test.false c.requires.ordered c.requires.all
     served with_u with_v used)
