@@ -5,7 +5,6 @@ use native.Mathlib.Nat.{pow-suc}
 use native.Mathlib.Numerals.{add-one}
 use mathlib.Core.Path.{◌≡◌, refl, ap, sym, ◌∙◌}
 use mathlib.Core.List.{List, [], ◌∷◌, ◌++◌}
-use lib.Bits.{bit_and, bit_xor}
 use lib.ListN.{length, get_or, drop, take, set, replicate, length-drop, length-set, drop_of_length-le}
 use lib.Seq.{take_all, length-take-le, take-suc-set, drop-cons, drop-drop, drop-set-lt, get_or-drop}
 use Rattle.model.specs.Count.{count}
@@ -13,6 +12,7 @@ use Rattle.model.specs.Plan.{has, occ}
 use Rattle.model.proofs.Loops.{count-rest}
 use Rattle.counts.specs.declared.adders.Pair.{Pair}
 use Rattle.counts.specs.Counts.{plane_count, digit, count_at, AddsThree}
+use Rattle.counts.specs.Sums.{differing, met}
 use Rattle.counts.specs.Sums.{pair_at, both_at, eight_at, AddsEight, Raisable, Raised, Empty, Fits, Added, Doublable, Doubled, Joinable, Joined}
 use Rattle.counts.proofs.Digits.{has_one, half_adder, empty_digit}
 
@@ -102,8 +102,8 @@ rising_start r = record { within = omega arith; size = r.size; sum = λ t. refl 
 module _ {carry : Pair} {j : ℕ} {left : Pair} {old sums : List Pair} (r : Rising carry old sums j left) where
   pub rising_more : j < plane_count
       → let p = get_or sums j no_pair in
-      Rising carry old (set sums j (pair (bit_xor p.even left.even) (bit_xor p.odd left.odd))) (j + 1)
-      (pair (bit_and p.even left.even) (bit_and p.odd left.odd))
+      Rising carry old (set sums j (differing p left)) (j + 1) (met p left)
+  unfolding differing met
   rising_more h = record {
     within = omega arith;
     size = simp length-set r.size;
@@ -111,7 +111,7 @@ module _ {carry : Pair} {j : ℕ} {left : Pair} {old sums : List Pair} (r : Risi
         let p = get_or sums j no_pair in
         let first = ap (λ x. 2 ^ j * x) (half_adder p.even left.even t) in
         let second = ap (λ x. 2 ^ j * x) (half_adder p.odd left.odd t) in
-        let stored = both-set sums j (pair (bit_xor p.even left.even) (bit_xor p.odd left.odd)) t (omega (arith, r.size)) in
+        let stored = both-set sums j (differing p left) t (omega (arith, r.size)) in
         rw (add-one j, pow-suc) (omega (arith, r.sum t, stored, first, second));
   }
 

@@ -1,9 +1,17 @@
 -- Two counts of all tips side by side: in pairs, a plane of each.
 use Rattle.std.specs.Prelude.{ℕ, ◌+◌, ◌*◌, ◌^◌, ◌≤◌, ◌<◌, ◌≡◌, List, [], ◌∷◌, length, get_or, drop}
+use Rattle.std.specs.Int.Bits.{bit_and, bit_xor}
 use Rattle.model.specs.Plan.{occ}
 use Rattle.placements.specs.Repeated.{repeated}
 use Rattle.counts.specs.declared.adders.Pair.{Pair}
 use Rattle.counts.specs.Counts.{plane_count, digit, count_at}
+
+-- the tips that one of two planes has, and those that both have, for each plane of a pair
+unfoldable pub differing : Pair → Pair → Pair
+differing p q = record { even = bit_xor p.even q.even; odd = bit_xor p.odd q.odd }
+
+unfoldable pub met : Pair → Pair → Pair
+met p q = record { even = bit_and p.even q.even; odd = bit_and p.odd q.odd }
 
 -- how many planes of a pair have tip t
 abbrev pub pair_at : Pair → ℕ → ℕ

@@ -1,7 +1,9 @@
 // The occurrences of all tips added up, thirty-two lines at a time: in two counts side by side, so that the compiler adds both at once.
-ghost use Rattle.std.specs.Prelude.{◌≤◌, length};
+ghost use Rattle.std.specs.Prelude.{◌≡◌, ◌≤◌, length};
 ghost use Rattle.counts.specs.Counts.{AddsThree};
-ghost use Rattle.counts.specs.Sums.{AddsEight, Raisable, Raised, Fits, Added, Doublable, Doubled, Joinable, Joined};
+ghost use Rattle.counts.specs.Sums.{AddsEight, Raisable, Raised, Fits, Added, Doublable, Doubled, Joinable, Joined, differing, met};
+
+use std::ops::{BitAnd, BitXor};
 
 // The two binary digits of a small count of each tip. Like the four of `Low` they have names: an array of planes would be no plainer.
 #[derive(Clone, Copy)]
@@ -57,6 +59,34 @@ pub struct Pair {
     pub odd: u64,
 }
 
+impl BitXor for Pair {
+    type Output = Pair;
+
+    ghost bitxor_gives = { λ p q r. r ≡ differing p q };
+
+    #[tactic(auto, unfolding(crate::specs::Sums::differing))]
+    fn bitxor(self, other: Pair) -> Pair {
+        Pair {
+            even: self.even ^ other.even,
+            odd: self.odd ^ other.odd,
+        }
+    }
+}
+
+impl BitAnd for Pair {
+    type Output = Pair;
+
+    ghost bitand_gives = { λ p q r. r ≡ met p q };
+
+    #[tactic(auto, unfolding(crate::specs::Sums::met))]
+    fn bitand(self, other: Pair) -> Pair {
+        Pair {
+            even: self.even & other.even,
+            odd: self.odd & other.odd,
+        }
+    }
+}
+
 // 16 more for each tip of either carry, through all planes; a test of what is left of the carries would cost more than it saves.
 fn carry_up(carry: Pair, sums: &mut [Pair; crate::PLANES])
     requires { Raisable carry sums.old }
@@ -66,14 +96,8 @@ fn carry_up(carry: Pair, sums: &mut [Pair; crate::PLANES])
     // A range of places: the planes from the fifth on as a slice of their own would be no plainer.
     for j in 4..crate::PLANES {
         let old = sums[j];
-        sums[j] = Pair {
-            even: old.even ^ left.even,
-            odd: old.odd ^ left.odd,
-        };
-        left = Pair {
-            even: old.even & left.even,
-            odd: old.odd & left.odd,
-        };
+        sums[j] = old ^ left;
+        left = old & left;
     }
 }
 
