@@ -1,10 +1,12 @@
 -- Two counts side by side: a pair of planes stored, sixteen lines added to both, and a carry that goes up the planes.
-use Prim.Native.Nat.{ℕ, zero, suc, ◌+◌, ◌*◌, ◌^◌, ◌≤◌, ◌<◌}
+use Prim.Native.Nat.{ℕ, zero, suc, ◌+◌, ◌-◌, ◌*◌, ◌^◌, ◌≤◌, ◌<◌}
 use native.Mathlib.Omega.{arith}
 use native.Mathlib.Nat.{pow-suc}
 use native.Mathlib.Numerals.{add-one}
 use mathlib.Core.Path.{◌≡◌, refl, ap, sym, ◌∙◌}
 use mathlib.Core.List.{List, [], ◌∷◌, ◌++◌}
+use borrow.Rule.Slice.PartMut.{put_mid}
+use Rattle.std.proofs.lemmas.List.{get_or-append_right, get_or_append_left, set-append_right, set-append_left}
 use lib.ListN.{length, get_or, drop, take, set, replicate, length-drop, length-set, drop_of_length-le}
 use lib.Seq.{take_all, length-take-le, take-suc-set, drop-cons, drop-drop, drop-set-lt, get_or-drop}
 use Rattle.model.specs.Count.{count}
@@ -89,6 +91,21 @@ both-four (_ ∷ _ ∷ []) p q r s t l = absurd (omega arith)
 both-four (_ ∷ _ ∷ _ ∷ []) p q r s t l = absurd (omega arith)
 both-four (_ ∷ _ ∷ _ ∷ _ ∷ sums) p q r s t l = omega arith
 
+-- ---- a part of the pairs in their place: its pair j is pair a + j of all
+
+module _ (a k j : ℕ) (old items : List Pair) (h : a ≤ length old) (l : j < length items) where
+  put_get : get_or (put_mid a k old items) (a + j) no_pair ≡ get_or items j no_pair
+  put_get =
+      let e : a + j - a ≡ j = omega arith in
+      get_or-append_right (take a old) _ a (a + j) no_pair (length-take-le a old h) (omega arith)
+      ∙ rw e (get_or_append_left items _ no_pair j l)
+
+  put_set : (p : Pair) → set (put_mid a k old items) (a + j) p ≡ put_mid a k old (set items j p)
+  put_set p =
+      let e : a + j - a ≡ j = omega arith in
+      set-append_right (take a old) _ a (a + j) p (length-take-le a old h) (omega arith)
+      ∙ rw e (ap (λ x. take a old ++ x) (set-append_left items _ j p l))
+
 -- ---- a carry of each count is at plane j
 
 pub record Rising (carry : Pair) (old sums : List Pair) (j : ℕ) (left : Pair) : Type 0 where
@@ -100,7 +117,7 @@ pub rising_start : {carry : Pair} {sums : List Pair} → Raisable carry sums →
 rising_start r = record { within = omega arith; size = r.size; sum = λ t. refl }
 
 module _ {carry : Pair} {j : ℕ} {left : Pair} {old sums : List Pair} (r : Rising carry old sums j left) where
-  pub rising_more : j < plane_count
+  rising_more : j < plane_count
       → let p = get_or sums j no_pair in
       Rising carry old (set sums j (differing p left)) (j + 1) (met p left)
   unfolding differing met
@@ -120,6 +137,15 @@ module _ {carry : Pair} {j : ℕ} {left : Pair} {old sums : List Pair} (r : Risi
     size = r.size;
     sum = λ t. let e : j ≡ plane_count = omega (arith, r.within) in omega (arith, rw e at (r.sum t), a.fits t);
   }
+
+-- plane j of all is the next of the part from plane a on
+pub rising_part : {carry : Pair} {a j : ℕ} {left : Pair} {old : List Pair} (k : ℕ) (items : List Pair)
+    → Rising carry old (put_mid a k old items) (a + j) left → a ≤ length old → j < length items → a + j < plane_count
+    → let p = get_or items j no_pair in
+    Rising carry old (put_mid a k old (set items j (differing p left))) (a + (j + 1)) (met p left)
+rising_part {a = a} {j = j} {old = old} k items r h l more =
+    let e : a + j + 1 ≡ a + (j + 1) = omega arith in
+    rw (e, put_get a k j old items h l, put_set a k j old items h l) at (rising_more r more)
 
 -- ---- the pairs from pair j on
 

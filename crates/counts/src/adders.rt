@@ -93,10 +93,9 @@ fn carry_up(carry: Pair, sums: &mut [Pair; crate::PLANES])
     ensures { Raised carry sums.old sums.new }
 {
     let mut left = carry;
-    // A range of places: the planes from the fifth on as a slice of their own would be no plainer.
-    for j in 4..crate::PLANES {
-        let old = sums[j];
-        sums[j] = old ^ left;
+    for sum in sums[4..].iter_mut() {
+        let old = *sum;
+        *sum = old ^ left;
         left = old & left;
     }
 }
