@@ -78,8 +78,8 @@ fn add_digit(j: usize, lines: &[u64], quantities: &[u8], sums: &mut [Pair; crate
     let (blocks, rest) = lines.as_chunks::<32>();
     let (many, few) = quantities.as_chunks::<32>();
     let mut chosen = [0; 32];
-    for (i, block) in blocks.iter().enumerate() {
-        pick_lines(j, block, &many[i], &mut chosen);
+    for (block, numbers) in blocks.iter().zip(many) {
+        pick_lines(j, block, numbers, &mut chosen);
         adders::add_block(&chosen, sums);
     }
     pick_rest(j, rest, few, sums);
