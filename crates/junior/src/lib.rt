@@ -77,12 +77,12 @@ fn on_tips(u: usize, v: usize, lines: &[u64], quantities: &[u8], all: u32) -> Op
 {
     let mut with_u = 0;
     let mut with_v = 0;
-    for (i, &set) in lines.iter().enumerate() {
+    for (&set, &quantity) in lines.iter().zip(quantities) {
         if !has_one(set, u, v) {
             return None;
         }
-        with_u += placed(set, u, quantities[i]);
-        with_v += placed(set, v, quantities[i]);
+        with_u += placed(set, u, quantity);
+        with_v += placed(set, v, quantity);
     }
     if !each_used(u == v, all, with_u, with_v) {
         return None;
