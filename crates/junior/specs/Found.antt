@@ -9,7 +9,9 @@ use Rattle.junior.specs.declared.Found.{Found}
 -- the tips u and v with the pairs of their plan and the side for the lines that have both, where they are a choice
 unfoldable pub tips_on : List ℕ → ℕ → ℕ → Option Tips
 tips_on lines u v =
-    cond (is_choice lines u v) (Some (record { found = record { pairs = pairs (two_plan lines u v); u = u; v = v }; first = to_first lines u v })) None
+    cond (is_choice lines u v)
+    (Some (record { found = record { pairs = pairs (two_plan lines u v); u = u; v = v }; first = to_first lines u v }))
+    None
 
 -- one more than the pairs; 0 where there is no choice
 unfoldable pub score_is : Option Tips → ℕ

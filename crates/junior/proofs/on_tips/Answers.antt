@@ -27,7 +27,8 @@ turns c =
 
 -- the placements on one tip so far, with this line's
 more : (c : In-Some) → (t : ℕ) {x r : ℕ} → let i = length c.loop-set.yielded in
-    x ≡ weighted (λ s. has s t) (take i c.args.quantities.now) (take i c.args.lines.now) → r ≡ cond (has c.in-Some.field-0-0.now t) c.in-Some.field-0-1.now 0
+    x ≡ weighted (λ s. has s t) (take i c.args.quantities.now) (take i c.args.lines.now)
+    → r ≡ cond (has c.in-Some.field-0-0.now t) c.in-Some.field-0-1.now 0
     → (x + r ≡ weighted (λ s. has s t) (take (i + 1) c.args.quantities.now) (take (i + 1) c.args.lines.now)) × (x + r ≤ most_placements)
 more c t e f =
     let (below, set, quantity) = turn c in
@@ -80,12 +81,14 @@ returns-then-not-each_used c =
 pub side_pairs-to_u-requires-clause-on : goal.side_pairs-to_u-requires-clause-on
 side_pairs-to_u-requires-clause-on c =
     let i = length c.loop-set.yielded in
-    omega (arith, c.requires.all, counted_le c.args.quantities.now c.args.lines.now c.requires.same c.args.u c.args.v i c.args.u c.loop-set.invariant.1)
+    let some = counted_le c.args.quantities.now c.args.lines.now c.requires.same c.args.u c.args.v i c.args.u c.loop-set.invariant.1 in
+    omega (arith, c.requires.all, some)
 
 pub side_pairs-to_v-requires-clause-on : goal.side_pairs-to_v-requires-clause-on
 side_pairs-to_v-requires-clause-on c =
     let i = length c.loop-set.yielded in
-    omega (arith, c.requires.all, counted_le c.args.quantities.now c.args.lines.now c.requires.same c.args.u c.args.v i c.args.v c.loop-set.invariant.2)
+    let some = counted_le c.args.quantities.now c.args.lines.now c.requires.same c.args.u c.args.v i c.args.v c.loop-set.invariant.2 in
+    omega (arith, c.requires.all, some)
 
 pub returns : goal.returns
 returns c =
