@@ -1,7 +1,7 @@
 -- Laws of the ordered decision of a call: which refusal is the first, and what holds where none is.
 use Prim.Native.Nat.{ℕ, ◌≤◌, ◌<◌}
 use mathlib.Core.Path.{◌≡◌, refl, ap, sym, ◌∙◌}
-use mathlib.Core.Bool.{Bool, true, false, not, cond}
+use mathlib.Core.Bool.{Bool, true, false, cond}
 use mathlib.Core.List.{List, [], ◌++◌, append-nil}
 use native.Mathlib.Omega.{arith}
 use lib.Dec.{T, ltb}
@@ -19,7 +19,7 @@ use Rattle.refusal.specs.declared.Reason.TheVariants.{TooManyLines, NoRun, NoPla
 use Rattle.refusal.specs.declared.Reason.TheVariants.{WrongTable, GoalMissed, BrokenRecord}
 use Rattle.refusal.specs.declared.Refused.{Refused}
 use Rattle.refusal.specs.Reasons.{reason_number, told_of, refused_at}
-use Rattle.refusal.specs.Refusal.{none, refuse, accepts, or_else, when, refuse_at, scan, told, lent_by, Given}
+use Rattle.refusal.specs.Refusal.{none, accepts, or_else, when, refuse_at, scan, lent_by, Given}
 
 -- a refusal known by an equation has its number
 pub number_of : {d r : Refusal} → d ≡ r → d.number ≡ 0 → r.number ≡ 0
