@@ -1,7 +1,7 @@
 // The job file over slices: its header, its length by its version, and the refusals by its first bytes and by a line.
 #![tactic(auto)]
 
-ghost use Rattle.std.specs.Prelude.{◌≡◌, ◌+◌, ◌<◌, ◌≤◌, ◌^◌, length, is_some, IfSome, IfOk};
+ghost use Rattle.std.specs.Prelude.{◌≡◌, ◌+◌, ◌<◌, ◌≤◌, ◌^◌, cond, length, IfOk};
 ghost use Rattle.job.specs.Job.{number_at, header_length, counted, line_length, file_length, mark_in, version_ok, start_number, line_number};
 ghost use Rattle.job.specs.Header.{version_number, IsHeaderOf};
 ghost use Rattle.refusal.specs.Reasons.{number_in};
@@ -31,19 +31,6 @@ impl Version {
         self as u8
     }
 
-    // The version that a number stands for.
-    #[tactic(auto, unfolding(crate::specs::Job::version_ok))]
-    pub fn from_number(number: u16) -> Option<Version>
-        ensures known { is_some result ≡ version_ok number }
-        ensures number { IfSome result (λ version. version_number version ≡ number) }
-    {
-        match number {
-            1 => Some(Version::Plain),
-            2 => Some(Version::Counted),
-            _ => None,
-        }
-    }
-
     // Its lines have quantities.
     pub fn is_counted(self) -> bool
         ensures { result ≡ counted (version_number self) }
@@ -65,6 +52,23 @@ impl Version {
         ensures { result ≡ file_length (version_number self) count }
     {
         HEADER + self.line_length() * count
+    }
+}
+
+// The version that a number stands for.
+impl TryFrom<u16> for Version {
+    type Error = Reason;
+
+    ghost try_from_gives = { λ number read. (number_in read ≡ cond (version_ok number) 0 8)
+        × IfOk read (λ version. version_number version ≡ number) };
+
+    #[tactic(auto, unfolding(crate::specs::Job::version_ok))]
+    fn try_from(number: u16) -> Result<Version, Reason> {
+        match number {
+            1 => Ok(Version::Plain),
+            2 => Ok(Version::Counted),
+            _ => Err(Reason::WrongVersion),
+        }
     }
 }
 
@@ -105,9 +109,7 @@ impl Header {
         if mark_in(file) != MARK {
             return Err(Reason::WrongMark);
         }
-        let Some(version) = Version::from_number(two_at(file, 3)) else {
-            return Err(Reason::WrongVersion);
-        };
+        let version = Version::try_from(two_at(file, 3))?;
         let rack = usize::from(file[5]);
         if !tips::rack_ok(rack) {
             return Err(Reason::RackSize);
