@@ -1,15 +1,15 @@
 // The job file over slices: its header, its length by its version, and the refusals by its first bytes and by a line.
 #![tactic(auto)]
 
-ghost use Rattle.std.specs.Prelude.{◌≡◌, ◌+◌, ◌<◌, ◌≤◌, ◌^◌, cond, length, IfOk};
-ghost use Rattle.job.specs.Job.{number_at, header_length, counted, line_length, file_length, mark_in, version_ok, start_number, line_number};
+ghost use Rattle.std.specs.Prelude.{◌≡◌, ◌+◌, ◌<◌, ◌≤◌, ◌^◌, cond, eqb, length, IfOk};
+ghost use Rattle.job.specs.Job.{number_at, header_length, counted, line_length, file_length, mark, mark_in, version_ok, start_number, line_number};
 ghost use Rattle.job.specs.Header.{version_number, IsHeaderOf};
 ghost use Rattle.refusal.specs.Reasons.{number_in};
 
 use refusal::Reason;
 
 // The bytes 54 49 50 hex, "TIP": what every file begins with, and not a kind of file.
-pub const MARK: u64 = 0x544950;
+pub const MARK: [u8; 3] = *b"TIP";
 
 // The bytes of the header, and of a line's set; a quantity has one byte.
 pub const HEADER: usize = 8;
@@ -81,12 +81,11 @@ fn two_at(file: &[u8], i: usize) -> u16
     u16::from_be_bytes([file[i], file[i + 1]])
 }
 
-#[tactic(auto, using(crate::proofs::Numbers::number_three))]
-fn mark_in(file: &[u8]) -> u64
+fn has_mark(file: &[u8]) -> bool
     requires { header_length ≤ length file.now }
-    ensures { result ≡ mark_in file.now }
+    ensures { result ≡ eqb (mark_in file.now) mark }
 {
-    u64::from(u32::from_be_bytes([0, file[0], file[1], file[2]]))
+    file.starts_with(&MARK)
 }
 
 // What a file's first bytes say: its version, the size of its rack and the number of its lines.
@@ -106,7 +105,7 @@ impl Header {
         if file.len() < HEADER {
             return Err(Reason::ShortFile);
         }
-        if mark_in(file) != MARK {
+        if !has_mark(file) {
             return Err(Reason::WrongMark);
         }
         let version = Version::try_from(two_at(file, 3))?;

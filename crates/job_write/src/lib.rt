@@ -29,13 +29,12 @@ pub fn put_header(header: Header, out: &mut [u8])
     ensures { out.new
         ≡ header_of (version_number header.version) header.rack header.count ++ drop header_length out.old }
 {
-    let mark = job::MARK.to_be_bytes();
     let rack = header.rack.to_be_bytes();
     let count = header.count.to_be_bytes();
     out[..job::HEADER].copy_from_slice(&[
-        mark[5],
-        mark[6],
-        mark[7],
+        job::MARK[0],
+        job::MARK[1],
+        job::MARK[2],
         0,
         header.version.number(),
         rack[7],

@@ -1,6 +1,6 @@
 use mathlib.Core.Path.{◌≡◌, refl, sym, ap, ◌∙◌}
 use native.Mathlib.Omega.{arith}
-use borrow.Author.Tests.{lt-ltb, le-ltb, eq-eqb, ne_eqb}
+use borrow.Author.Tests.{lt-ltb, le-ltb}
 use Rattle.std.proofs.Common.{ℕ, Bool, cond, true, false, rules}
 use Rattle.model.specs.Plan.{rack_ok}
 use Rattle.refusal.specs.Reasons.{reason_number, number_in}
@@ -22,10 +22,10 @@ pub returns-then-file-lt-HEADER-clause-refusal : goal.returns-then-file-lt-HEADE
 unfolding start_number
 returns-then-file-lt-HEADER-clause-refusal c = rw (lt-ltb _ _ c.if-file-lt-HEADER.true) refl
 
-pub returns-then-mark_in-ne-MARK-clause-refusal : goal.returns-then-mark_in-ne-MARK-clause-refusal
+pub returns-then-not-has_mark-clause-refusal : goal.returns-then-not-has_mark-clause-refusal
 unfolding start_number
-returns-then-mark_in-ne-MARK-clause-refusal c =
-    rw (le-ltb _ _ c.if-file-lt-HEADER.false, ne_eqb _ _ (λ e. c.if-mark_in-ne-MARK.true (c.mark_in.ensures ∙ e))) refl
+returns-then-not-has_mark-clause-refusal c =
+    rw (le-ltb _ _ c.if-file-lt-HEADER.false, sym c.has_mark.ensures ∙ c.if-not-has_mark.true) refl
 
 pub returns-in_err-version-clause-refusal : goal.returns-in_err-version-clause-refusal
 unfolding start_number
@@ -37,7 +37,7 @@ returns-in_err-version-clause-refusal c =
     let unknown : version_ok (version_in c.args.file.now) ≡ false = ap version_ok (sym c.two_at.ensures) ∙ out in
     rw (
       le-ltb _ _ c.if-file-lt-HEADER.false,
-      eq-eqb _ _ (sym c.mark_in.ensures ∙ c.if-mark_in-ne-MARK.false),
+      sym c.has_mark.ensures ∙ c.if-not-has_mark.false,
       unknown,
     )
     (told ∙ n ∙ ap (λ known. cond known 0 8) out)
@@ -50,7 +50,7 @@ returns-then-not-rack_ok-clause-refusal c =
     let rack : c.from-rack.result ≡ rack_in c.args.file.now = omega (arith, c.from-rack.ensures, number_one c.args.file.now 5 (omega arith)) in
     rw (
       le-ltb _ _ c.if-file-lt-HEADER.false,
-      eq-eqb _ _ (sym c.mark_in.ensures ∙ c.if-mark_in-ne-MARK.false),
+      sym c.has_mark.ensures ∙ c.if-not-has_mark.false,
       known,
       ap rack_ok (sym rack) ∙ sym c.rack_ok.ensures ∙ c.if-not-rack_ok.true,
     ) refl
@@ -63,7 +63,7 @@ returns-clause-refusal c =
     let rack : c.from-rack.result ≡ rack_in c.args.file.now = omega (arith, c.from-rack.ensures, number_one c.args.file.now 5 (omega arith)) in
     rw (
       le-ltb _ _ c.if-file-lt-HEADER.false,
-      eq-eqb _ _ (sym c.mark_in.ensures ∙ c.if-mark_in-ne-MARK.false),
+      sym c.has_mark.ensures ∙ c.if-not-has_mark.false,
       known,
       ap rack_ok (sym rack) ∙ sym c.rack_ok.ensures ∙ c.if-not-rack_ok.false,
     ) refl
