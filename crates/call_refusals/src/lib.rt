@@ -36,13 +36,13 @@ fn stage_refusal(asked: Stage, stage: Stage) -> Result<(), Refused>
     }
 }
 
-pub fn state_refusal<'a>(
+pub fn state_refusal(
     asked: Stage,
     rack: usize,
     stage: Stage,
     count: usize,
-    sets: &'a [u64],
-    quantities: &'a [u8],
+    sets: &[u64],
+    quantities: &[u8],
 ) -> Result<(), Refused>
     requires sets_len { length sets.now ≡ most_lines }
     requires quantities_len { length quantities.now ≡ most_lines }

@@ -19,21 +19,7 @@ pub struct Measured<'a> {
     ghost changes_few: { changes ≤ 4 * most_lines },
 }
 
-impl<'a> Measured<'a> {
-    fn new(file: Started<'a>, kept: usize, changes: usize) -> Measured<'a>
-        requires kept_is { kept ≡ length (lines_kept_in file.bytes.now) }
-        requires kept_few { kept ≤ most_lines }
-        requires changes_are { changes ≡ length (line_changes file.bytes.now) }
-        requires changes_few { changes ≤ 4 * most_lines }
-        ensures { result.file.bytes.now ≡ file.entry.bytes.now }
-    {
-        Measured {
-            file,
-            kept,
-            changes,
-        }
-    }
-
+impl Measured<'_> {
     // The count written differs from the count found, by the number of lines kept.
     pub fn is_recounted(self) -> bool
         ensures { result ≡ recounted self.entry.file.bytes.now }
@@ -59,7 +45,7 @@ impl<'a> Measured<'a> {
     }
 }
 
-pub fn measure<'a>(file: Started<'a>) -> Measured<'a>
+pub fn measure(file: Started<'_>) -> Measured<'_>
     ensures { result.file.bytes.now ≡ file.entry.bytes.now }
 {
     let mut running = Running::new(file.header.rack);
@@ -67,9 +53,13 @@ pub fn measure<'a>(file: Started<'a>) -> Measured<'a>
     let mut changes = 0;
     for i in 0..file.count {
         let step = running.step(file.line(i));
-        kept += step.kept;
+        kept += usize::from(step.kept);
         changes += step.changes;
         running = step.next;
     }
-    Measured::new(file, kept, changes)
+    Measured {
+        file,
+        kept,
+        changes,
+    }
 }

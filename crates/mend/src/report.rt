@@ -1,4 +1,4 @@
-// The second pass, second part: the report. Each `put_` function tells the place after what it wrote.
+// The second pass, second part: the report. Each `put_` function returns the place after what it wrote.
 ghost use Rattle.std.specs.Prelude.{◌≡◌, ◌++◌, ◌≤◌, length, drop};
 ghost use Rattle.text.specs.Buffer.{Room, Put};
 ghost use Rattle.mending.specs.Mending.{codes, bytes_of_changes, mended_report};

@@ -17,10 +17,10 @@ pub struct Running {
     ghost low: { total ≤ most_running },
 }
 
-// Whether a line is kept, 1 or 0, the number of its changes, and the running total after it.
+// Whether a line is kept, the number of its changes, and the running total after it.
 #[derive(Clone, Copy)]
 pub struct Step {
-    pub kept: usize,
+    pub kept: bool,
     pub changes: usize,
     pub next: Running,
 }
@@ -89,8 +89,7 @@ impl Running {
     // Most lines are good, and need no other test.
     #[tactic(auto, using(crate::proofs::Codes::codes_count))]
     pub fn step(self, line: Line) -> Step
-        ensures kept { result.kept ≡ cond (stays self.rack self.total (read_as line)) 1 0 }
-        ensures kept_few { result.kept ≤ 1 }
+        ensures kept { result.kept ≡ stays self.rack self.total (read_as line) }
         ensures changes { result.changes ≡ length (codes self.rack self.total (read_as line)) }
         ensures changes_few { result.changes ≤ 4 }
         ensures rack { result.next.rack ≡ self.rack }
@@ -98,7 +97,7 @@ impl Running {
     {
         if self.is_good(line) {
             return Step {
-                kept: 1,
+                kept: true,
                 changes: 0,
                 next: Running {
                     rack: self.rack,
@@ -107,7 +106,7 @@ impl Running {
             };
         }
         Step {
-            kept: usize::from(self.keeps(line)),
+            kept: self.keeps(line),
             changes: self.changed(line).count(),
             next: self.after(line),
         }

@@ -1,4 +1,4 @@
-// The second pass, first part: the mended file. Each `put_` function tells the place after what it wrote; the place and the buffer are
+// The second pass, first part: the mended file. Each `put_` function returns the place after what it wrote; the place and the buffer are
 // parameters, as of the functions of `text`, whose words `Room` and `Put` the contracts take.
 ghost use Rattle.std.specs.Prelude.{◌≡◌, ◌++◌, ◌+◌, ◌≤◌, length, drop};
 ghost use Rattle.text.specs.Buffer.{Room, Put};

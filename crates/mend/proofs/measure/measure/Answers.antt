@@ -1,4 +1,5 @@
-use Rattle.std.proofs.Common.{◌+◌, length, refl, sym, ap, ap₂, ◌∙◌, arith}
+use mir.Val.{bool_byte}
+use Rattle.std.proofs.Common.{◌+◌, ◌≤◌, ◌≡◌, Bool, true, false, cond, length, refl, sym, ap, ap₂, ◌∙◌, arith}
 use Rattle.job.specs.Job.{rack_in}
 use Rattle.mending.specs.Mending.{kept, changes}
 use Rattle.mending.proofs.Files.{read_few}
@@ -19,8 +20,14 @@ loop-i-init c =
       changes_few = omega arith;
     }
 
+-- a line is counted where it is kept, and counts at most 1
+one_or_none : (b : Bool) → (bool_byte b ≡ cond b 1 0) × (bool_byte b ≤ 1)
+one_or_none true = (refl, omega arith)
+one_or_none false = (refl, omega arith)
+
 pub overflow_add-kept : goal.overflow_add-kept
-overflow_add-kept c = omega (arith, c.args.file.count_is, read_few c.args.file.bytes.now)
+overflow_add-kept c =
+    omega (arith, c.args.file.count_is, read_few c.args.file.bytes.now, c.from-kept.ensures, (one_or_none c.step-step.result.kept).1)
 
 pub overflow_add-changes : goal.overflow_add-changes
 overflow_add-changes c = omega (arith, c.args.file.count_is, read_few c.args.file.bytes.now)
@@ -34,32 +41,24 @@ loop-i-preserved c =
     record {
       passed = pass_next file _ _ at.i at.running.total line.result.set line.result.quantity at.invariant.passed (omega arith)
           line.ensures.set line.ensures.quantity next.result.next.rack next.result.next.total next.ensures.rack next.ensures.total;
-      kept = ap₂ ◌+◌ at.invariant.kept next.ensures.kept
+      kept = ap₂ ◌+◌ at.invariant.kept (c.from-kept.ensures ∙ (one_or_none next.result.kept).0 ∙ ap (λ b. cond b 1 0) next.ensures.kept)
           ∙ sym (kept_next file _ _ at.i at.running.total line.result.set line.result.quantity at.invariant.passed (omega arith)
           line.ensures.set line.ensures.quantity);
-      kept_few = omega (arith, next.ensures.kept_few);
+      kept_few = omega (arith, c.from-kept.ensures, (one_or_none next.result.kept).1);
       changes = ap₂ ◌+◌ at.invariant.changes next.ensures.changes
           ∙ sym (changes_next file _ _ at.i at.running.total line.result.set line.result.quantity at.invariant.passed (omega arith)
           line.ensures.set line.ensures.quantity);
       changes_few = omega (arith, next.ensures.changes_few);
     }
 
-pub new-requires-clause-kept_is : goal.new-requires-clause-kept_is
-new-requires-clause-kept_is c =
+pub invariant_of-result : goal.invariant_of-result
+invariant_of-result c =
     let file = c.args.file.bytes.now in
     let at = c.loop-i in
-    at.invariant.kept
-    ∙ ap (λ l. length (kept (rack_in file) 0 l)) (pass_end file _ _ at.i at.running.total at.invariant.passed (omega arith))
-
-pub new-requires-clause-kept_few : goal.new-requires-clause-kept_few
-new-requires-clause-kept_few c = omega (arith, c.args.file.count_is, read_few c.args.file.bytes.now)
-
-pub new-requires-clause-changes_are : goal.new-requires-clause-changes_are
-new-requires-clause-changes_are c =
-    let file = c.args.file.bytes.now in
-    let at = c.loop-i in
-    at.invariant.changes
-    ∙ ap (λ l. length (changes (rack_in file) 0 0 l)) (pass_end file _ _ at.i at.running.total at.invariant.passed (omega arith))
-
-pub new-requires-clause-changes_few : goal.new-requires-clause-changes_few
-new-requires-clause-changes_few c = omega (arith, c.args.file.count_is, read_few c.args.file.bytes.now)
+    let all = pass_end file _ _ at.i at.running.total at.invariant.passed (omega arith) in
+    record {
+      kept_is = at.invariant.kept ∙ ap (λ l. length (kept (rack_in file) 0 l)) all;
+      kept_few = omega (arith, c.args.file.count_is, read_few file);
+      changes_are = at.invariant.changes ∙ ap (λ l. length (changes (rack_in file) 0 0 l)) all;
+      changes_few = omega (arith, c.args.file.count_is, read_few file);
+    }

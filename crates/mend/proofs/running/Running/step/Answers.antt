@@ -1,4 +1,4 @@
-use Rattle.std.proofs.Common.{◌≡◌, ℕ, ◌+◌, ◌≤◌, true, ◌&&◌, cond, [], length, eqb, leb, sym, ap, ◌∙◌}
+use Rattle.std.proofs.Common.{◌≡◌, ℕ, ◌+◌, ◌≤◌, true, ◌&&◌, [], length, eqb, leb, sym, ap, ◌∙◌}
 use lib.Dec.{eqb→eq, leb→le}
 use Rattle.model.specs.Limits.{most_placements}
 use Rattle.model.proofs.Tests.{T_true, and_left, and_right}
@@ -27,7 +27,7 @@ good-line m t s q told =
 pub returns-then-is_good-clause-kept : goal.returns-then-is_good-clause-kept
 returns-then-is_good-clause-kept c =
     let a = c.args in
-    sym (ap {B = ℕ} (λ b. cond b 1 0) (good-line a.self.rack a.self.total a.line.set a.line.quantity (sym c.is_good.ensures ∙ c.if-is_good.true)).0)
+    sym (good-line a.self.rack a.self.total a.line.set a.line.quantity (sym c.is_good.ensures ∙ c.if-is_good.true)).0
 
 pub returns-then-is_good-clause-changes : goal.returns-then-is_good-clause-changes
 returns-then-is_good-clause-changes c =
