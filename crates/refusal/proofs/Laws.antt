@@ -10,7 +10,8 @@ use borrow.Author.Tests.{eq-eqb, ne_eqb, eqb-true, eqb-false, ltb-false, lt-ltb,
 use Rattle.model.specs.Count.{All, first_fail, place_in}
 use Rattle.model.proofs.Fails.{fails_none, none_fails}
 use Rattle.refusal.specs.Told.{Refusal}
-use Rattle.std.specs.Prelude.{Some, None}
+use Rattle.std.specs.Prelude.{Some, None, Result, Ok, Err}
+use Rattle.std.specs.Result.{IsErr, IsErrAnd}
 use Rattle.refusal.specs.declared.Reason.{Reason}
 use Rattle.refusal.specs.declared.Reason.TheVariants.{RackSize, EmptyLine, TipOutside, ShortPlan, ShortTable, ShortFile, WrongMark, WrongVersion}
 use Rattle.refusal.specs.declared.Reason.TheVariants.{FileLines, FileLength, ShortOutput, BadWindow, BadRule, ShortOrder, ZeroQuantity}
@@ -18,8 +19,8 @@ use Rattle.refusal.specs.declared.Reason.TheVariants.{MountedOutside, RacksDiffe
 use Rattle.refusal.specs.declared.Reason.TheVariants.{TooManyLines, NoRun, NoPlan, UnsoundLine, HeldBehind, NoOrder, TooManyPlacements, NoTwoTips}
 use Rattle.refusal.specs.declared.Reason.TheVariants.{WrongTable, GoalMissed, BrokenRecord}
 use Rattle.refusal.specs.declared.Refused.{Refused}
-use Rattle.refusal.specs.Reasons.{reason_number, told_of, refused_at}
-use Rattle.refusal.specs.Refusal.{none, accepts, or_else, when, refuse_at, scan, lent_by, Given}
+use Rattle.refusal.specs.Reasons.{reason_number, told_of, refusal_of, refused_at}
+use Rattle.refusal.specs.Refusal.{none, refuse, accepts, or_else, when, refuse_at, scan, lent_by, Given}
 
 -- a refusal known by an equation has its number
 pub number_of : {d r : Refusal} → d ≡ r → d.number ≡ 0 → r.number ≡ 0
@@ -157,6 +158,16 @@ reason_not_0 NoTwoTips h = cc
 reason_not_0 WrongTable h = cc
 reason_not_0 GoalMissed h = cc
 reason_not_0 BrokenRecord h = cc
+
+-- a result that `?` returns tells what it was given
+pub told_err : {A : Type 0} (r : Result A Refused) (e : Refused) → IsErr r × IsErrAnd r (λ x. x ≡ e) → refusal_of r ≡ told_of e
+told_err (Ok x) e h = absurd h.1
+told_err (Err x) e h = ap told_of h.1
+
+pub told_reason : {A : Type 0} (r : Result A Refused) (reason : Reason) → IsErr r × IsErrAnd r (λ x. x ≡ record { reason = reason; place = 0 })
+    → refusal_of r ≡ refuse (reason_number reason)
+told_reason (Ok x) reason h = absurd h.1
+told_reason (Err x) reason h = ap told_of h.1
 
 -- the first refuses with an error; or it does not, and the next one decides
 pub or_err : {first : Refusal} (next : Refusal) (e : Refused) → told_of e ≡ first → told_of e ≡ or_else first next

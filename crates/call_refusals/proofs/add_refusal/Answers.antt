@@ -1,8 +1,6 @@
-use mathlib.Core.Path.{◌≡◌, refl, sym, ap, ◌∙◌}
-use Rattle.std.proofs.Common.{rules}
+use mathlib.Core.Path.{refl, sym, ap, ◌∙◌}
 use Rattle.refusal.specs.Refusal.{none, refuse}
-use Rattle.refusal.specs.Reasons.{refusal_of, reason_number}
-use Rattle.refusal.proofs.Laws.{reason_not_0}
+use Rattle.refusal.proofs.Laws.{told_reason, reason_not_0}
 use Rattle.call_refusals.proofs.Calls.{add_full, add-line, add_over}
 use Rattle.call_refusals.proofs.add_refusal.Goals as goal
 
@@ -12,8 +10,7 @@ returns-then-quantities-eq-MOST_LINES c = rw c.at.ensures (add_full none refl _ 
 pub returns-in_err-check_line : goal.returns-in_err-check_line
 returns-in_err-check_line c =
     let reason = c.in_err-check_line.field-0.0 in
-    let told : refusal_of c.from_residual.result ≡ refuse (reason_number reason) = search rules in
-    told
+    told_reason _ _ c.from_residual.ensures
     ∙ ap refuse c.in_err-check_line.ensures
     ∙ add-line none refl _ _ _ _ _ c.if-quantities-eq-MOST_LINES.false (λ z. reason_not_0 reason (c.in_err-check_line.ensures ∙ z))
 

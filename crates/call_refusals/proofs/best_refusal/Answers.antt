@@ -1,21 +1,17 @@
-use mathlib.Core.Path.{◌≡◌, ◌∙◌}
-use Rattle.std.proofs.Common.{rules}
-use Rattle.refusal.specs.Reasons.{refusal_of, told_of}
-use Rattle.refusal.proofs.Laws.{or_err, or_ok}
+use mathlib.Core.Path.{◌∙◌}
+use Rattle.refusal.proofs.Laws.{told_err, or_err, or_ok}
 use Rattle.call_refusals.specs.Calls.{best_refusal}
 use Rattle.call_refusals.proofs.best_refusal.Goals as goal
 
 pub returns-in_err-plan_refusal : goal.returns-in_err-plan_refusal
 unfolding best_refusal
 returns-in_err-plan_refusal c =
-    let told : refusal_of c.from_residual.result ≡ told_of c.in_err-plan_refusal.field-0.0 = search rules in
-    told ∙ or_err _ _ c.in_err-plan_refusal.ensures
+    told_err _ _ c.from_residual.ensures ∙ or_err _ _ c.in_err-plan_refusal.ensures
 
 pub returns-in_err-refuse_when : goal.returns-in_err-refuse_when
 unfolding best_refusal
 returns-in_err-refuse_when c =
-    let told : refusal_of c.from_residual-in_err-refuse_when.result ≡ told_of c.in_err-refuse_when.field-0.0 = search rules in
-    told ∙ or_ok _ c.in_ok-plan_refusal.ensures (or_err _ _ c.in_err-refuse_when.ensures)
+    told_err _ _ c.from_residual-in_err-refuse_when.ensures ∙ or_ok _ c.in_ok-plan_refusal.ensures (or_err _ _ c.in_err-refuse_when.ensures)
 
 pub returns : goal.returns
 unfolding best_refusal

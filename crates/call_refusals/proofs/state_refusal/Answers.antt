@@ -1,15 +1,12 @@
-use mathlib.Core.Path.{◌≡◌, ◌∙◌}
-use Rattle.std.proofs.Common.{rules}
-use Rattle.refusal.specs.Reasons.{refusal_of, told_of}
-use Rattle.refusal.proofs.Laws.{or_err, or_ok}
+use mathlib.Core.Path.{◌∙◌}
+use Rattle.refusal.proofs.Laws.{told_err, or_err, or_ok}
 use Rattle.call_refusals.specs.State.{state_refusal}
 use Rattle.call_refusals.proofs.state_refusal.Goals as goal
 
 pub returns-in_err-sound_refusal : goal.returns-in_err-sound_refusal
 unfolding state_refusal
 returns-in_err-sound_refusal c =
-    let told : refusal_of c.from_residual.result ≡ told_of c.in_err-sound_refusal.field-0.0 = search rules in
-    told ∙ or_err _ _ c.in_err-sound_refusal.ensures
+    told_err _ _ c.from_residual.ensures ∙ or_err _ _ c.in_err-sound_refusal.ensures
 
 pub returns : goal.returns
 unfolding state_refusal

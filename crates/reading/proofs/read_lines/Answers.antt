@@ -1,10 +1,9 @@
-use mathlib.Core.Path.{◌≡◌, sym, ap, ◌∙◌}
+use mathlib.Core.Path.{sym, ap, ◌∙◌}
 use native.Mathlib.Omega.{arith}
 use lib.Seq.{length-take-le}
 use Rattle.std.proofs.Common.{rules}
 use Rattle.refusal.specs.Refusal.{refuse}
-use Rattle.refusal.specs.Reasons.{refusal_of, reason_number}
-use Rattle.refusal.proofs.Laws.{reason_not_0}
+use Rattle.refusal.proofs.Laws.{told_reason, reason_not_0}
 use Rattle.job.specs.Job.{good_lines}
 use Rattle.job.proofs.Reading.{read_refused}
 use Rattle.job.proofs.Good.{good_accepted, bad_refused}
@@ -14,9 +13,8 @@ pub returns-in_err-opened : goal.returns-in_err-opened
 returns-in_err-opened c =
     let reason = c.in_err-opened.field-0.0 in
     let number = c.in_err-opened.ensures.refusal in
-    let told : refusal_of c.from_residual.result ≡ refuse (reason_number reason) = search rules in
     record {
-      refusal = told ∙ ap refuse number ∙ sym (read_refused _ (λ z. reason_not_0 reason (number ∙ z)));
+      refusal = told_reason _ _ c.from_residual.ensures ∙ ap refuse number ∙ sym (read_refused _ (λ z. reason_not_0 reason (number ∙ z)));
       lines = search rules;
     }
 

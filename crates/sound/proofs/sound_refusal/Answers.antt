@@ -3,7 +3,7 @@ use Rattle.std.proofs.Common.{rules}
 use borrow.Author.Tests.{lt-leb, le-leb}
 use Rattle.refusal.specs.Refusal.{or_else}
 use Rattle.refusal.specs.Reasons.{refusal_of, told_of}
-use Rattle.refusal.proofs.Laws.{or_err, or_ok}
+use Rattle.refusal.proofs.Laws.{told_err, or_err, or_ok}
 use Rattle.sound.specs.Sound.{count_ok, sound_refusal}
 use Rattle.sound.proofs.sound_refusal.Goals.{then-not-rack_ok-via-then-not-rack_ok, then-not-rack_ok-via-else-not-rack_ok+then-count-gt-MOST_LINES}
 use Rattle.sound.proofs.sound_refusal.Goals as goal
@@ -19,8 +19,7 @@ returns-then-not-rack_ok c = rw c.at.ensures (elim c.then-not-rack_ok.branch [
 pub returns-in_err-line_refusal : goal.returns-in_err-line_refusal
 unfolding sound_refusal count_ok
 returns-in_err-line_refusal c =
-    let e : refusal_of c.from_residual.result ≡ told_of c.in_err-line_refusal.field-0.0 = search rules in
-    e
+    told_err _ _ c.from_residual.ensures
     ∙ or_ok _ (rw (sym c.rack_ok.ensures ∙ c.if-not-rack_ok.false, le-leb _ 512 c.if-count-gt-MOST_LINES.false) refl)
     (or_err _ _ c.in_err-line_refusal.ensures)
 
