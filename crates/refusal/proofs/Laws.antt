@@ -169,6 +169,11 @@ pub told_reason : {A : Type 0} (r : Result A Refused) (reason : Reason) → IsEr
 told_reason (Ok x) reason h = absurd h.1
 told_reason (Err x) reason h = ap told_of h.1
 
+-- a result that tells a refusal is an error
+pub refused_err : {A : Type 0} (r : Result A Refused) → ((refusal_of r).number ≡ 0 → ⊥) → IsErr r
+refused_err (Ok x) n = absurd (n refl)
+refused_err (Err e) n = refl
+
 -- the first refuses with an error; or it does not, and the next one decides
 pub or_err : {first : Refusal} (next : Refusal) (e : Refused) → told_of e ≡ first → told_of e ≡ or_else first next
 or_err next e h = or_first h next (reason_not_0 e.reason)

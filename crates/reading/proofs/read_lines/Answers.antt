@@ -3,7 +3,7 @@ use native.Mathlib.Omega.{arith}
 use lib.Seq.{length-take-le}
 use Rattle.std.proofs.Common.{rules}
 use Rattle.refusal.specs.Refusal.{refuse}
-use Rattle.refusal.proofs.Laws.{told_reason, reason_not_0}
+use Rattle.refusal.proofs.Laws.{told_reason, refused_err, reason_not_0}
 use Rattle.job.specs.Job.{good_lines}
 use Rattle.job.proofs.Reading.{read_refused}
 use Rattle.job.proofs.Good.{good_accepted, bad_refused}
@@ -41,8 +41,8 @@ returns-then-read_lines-clause-refusal c =
     let opened = c.in_ok-opened.ensures in
     sym (good_accepted _ (sym opened.refusal) (ap good_lines (sym opened.same) ∙ sym c.read_lines.ensures.good ∙ c.if-read_lines.true))
 
-pub unreachable-requires : goal.unreachable-requires
-unreachable-requires c =
+pub unwrap_err-requires : goal.unwrap_err-requires
+unwrap_err-requires c =
     let opened = c.in_ok-opened.ensures in
-    bad_refused _ (sym opened.refusal) (ap good_lines (sym opened.same) ∙ sym c.read_lines.ensures.good ∙ c.if-read_lines.false)
-    (ap (λ r. r.number) (sym c.in-Ok.ensures.refusal))
+    let bad = bad_refused _ (sym opened.refusal) (ap good_lines (sym opened.same) ∙ sym c.read_lines.ensures.good ∙ c.if-read_lines.false) in
+    refused_err _ (λ z. bad (ap (λ r. r.number) (sym c.open-2.ensures.refusal) ∙ z))
