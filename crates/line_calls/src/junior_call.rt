@@ -24,8 +24,5 @@ pub fn junior(lines: Lines<'_>, plan: &mut [u8]) -> Result<Found, Refused>
 {
     let count = lines.len();
     call_refusals::junior_refusal(lines.rack, count, plan.len())?;
-    match junior::plan_lines(lines, &mut plan[..count]) {
-        Some(found) => Ok(found),
-        None => Err(Reason::NoTwoTips.at(0)),
-    }
+    junior::plan_lines(lines, &mut plan[..count]).ok_or(Reason::NoTwoTips.at(0))
 }

@@ -22,7 +22,8 @@ returns-in_err-write_refusal c =
     rw same (record { answer = answer; buffer = buffer })
 
 pub file_length-bytes-requires : goal.file_length-bytes-requires
-file_length-bytes-requires c = rw c.len-count.ensures (omega (arith, file_few (version_number c.version_for-version.result) _ c.args.lines.good.few-lines))
+file_length-bytes-requires c =
+    rw c.len-count.ensures (omega (arith, file_few (version_number c.version_for-version.result) _ c.args.lines.good.few-lines))
 
 pub slice_bounds-write_file-end : goal.slice_bounds-write_file-end
 slice_bounds-write_file-end c =

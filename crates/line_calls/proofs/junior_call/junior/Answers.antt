@@ -1,10 +1,20 @@
 use mathlib.Core.Path.{◌≡◌, sym, ap, ◌∙◌}
 use lib.Seq.{length-take-le}
-use Rattle.std.proofs.Common.{rules, Err}
+use Rattle.std.proofs.Common.{ℕ, List, ◌++◌, length, take, drop, rules}
+use Rattle.std.specs.Prelude.{Option, Some, None, Result, Err}
+use Rattle.std.specs.Option.{ok_or}
+use Rattle.placements.specs.Good.{GoodLines}
 use Rattle.refusal.specs.Refusal.{none}
+use Rattle.refusal.specs.Reasons.{refusal_of}
+use Rattle.refusal.specs.declared.Reason.TheVariants.{NoTwoTips}
+use Rattle.refusal.specs.declared.Refused.{Refused}
 use Rattle.refusal.proofs.Laws.{reason_not_0}
 use Rattle.call_refusals.proofs.Junior.{junior_none}
-use Rattle.line_calls.proofs.JuniorPlan.{junior_refused, junior_found, junior_missed}
+use Rattle.junior.specs.declared.Found.{Found}
+use Rattle.junior.specs.Found.{found_of, plan_of}
+use Rattle.line_calls.specs.Answers.{junior_told}
+use Rattle.line_calls.specs.Junior.{junior_of, junior_buffer, JuniorRule}
+use Rattle.line_calls.proofs.JuniorPlan.{asked, junior_refused, junior_found, junior_missed}
 use Rattle.line_calls.proofs.junior_call.junior.Goals as goal
 
 pub returns-in_err-junior_refusal : goal.returns-in_err-junior_refusal
@@ -28,20 +38,26 @@ plan_lines-requires c =
     let room = (junior_none none _ _ _ (ap (λ r. r.number) (sym c.in_ok-junior_refusal.ensures))).1 in
     length-take-le _ _ room ∙ c.len-count.ensures
 
-pub returns-in-Some : goal.returns-in-Some
-returns-in-Some c =
-    let a = c.args in
-    let asked = rw c.len-count.ensures at (ap (λ r. r.number) (sym c.in_ok-junior_refusal.ensures)) in
-    let (answer, (plan, rule)) =
-    junior_found none a.lines.rack a.lines.quantities.now a.lines.sets.now a.plan.now asked a.lines.good
-    c.len-count.ensures c.in-Some.ensures.plan c.in-Some.ensures.answer in
-    record { answer = answer; plan = plan; rule = rule }
+-- what is answered and left where the tips are sought: the plan that is found, or none
+module _ (m : ℕ) (qs lines old : List ℕ) (asked_none : (asked none m qs lines old).number ≡ 0) (good : GoodLines m qs lines)
+    {n : ℕ} (size : n ≡ length lines) {out : List ℕ} (plan : out ≡ plan_of m qs lines (take n old)) where
+  abbrev answered : Result Found Refused → Type 0
+  answered r =
+      (junior_told r ≡ junior_of none m qs lines (length old))
+      × ((out ++ drop n old ≡ junior_buffer none m qs lines old)
+      × JuniorRule (asked none m qs lines old).number qs lines (out ++ drop n old) (refusal_of r).number
+      (junior_told r).pairs (junior_told r).u (junior_told r).v)
 
-pub returns-in-None : goal.returns-in-None
-returns-in-None c =
+  by_found : (found : Option Found) → found ≡ found_of m qs lines → answered (ok_or found (record { reason = NoTwoTips; place = 0 }))
+  by_found (Some found) is = junior_found none m qs lines old asked_none good size plan is
+  by_found None is = junior_missed none m qs lines old asked_none good size plan is
+
+pub returns : goal.returns
+returns c =
     let a = c.args in
-    let asked = rw c.len-count.ensures at (ap (λ r. r.number) (sym c.in_ok-junior_refusal.ensures)) in
+    let asked_none = rw c.len-count.ensures at (ap (λ r. r.number) (sym c.in_ok-junior_refusal.ensures)) in
+    let found = c.plan_lines.ensures in
     let (answer, (plan, rule)) =
-    junior_missed none a.lines.rack a.lines.quantities.now a.lines.sets.now a.plan.now asked a.lines.good
-    c.len-count.ensures c.in-None.ensures.plan c.in-None.ensures.answer in
-    rw c.at.ensures (record { answer = answer; plan = plan; rule = rule })
+    by_found a.lines.rack a.lines.quantities.now a.lines.sets.now a.plan.now asked_none a.lines.good
+    c.len-count.ensures found.plan c.plan_lines.result found.answer in
+    rw (c.ok_or.ensures.value, c.at.ensures) (record { answer = answer; plan = plan; rule = rule })
