@@ -1,12 +1,10 @@
-use Rattle.std.proofs.Common.{◌≡◌, ◌∙◌, ◌&&◌, leb, sym, ap, refl, arith}
-use lib.Seq.{take_all}
+use Rattle.std.proofs.Common.{◌≡◌, ◌∙◌, sym, ap, refl, arith}
 use Rattle.model.specs.Count.{list_of}
-use Rattle.model.specs.Limits.{most_placements}
 use Rattle.model.proofs.ListOf.{filled_more}
 use Rattle.job.specs.Header.{version_number}
 use Rattle.job.specs.Job.{version_in, set_in, quantity_in, sets_in, set_from}
-use Rattle.job.proofs.Good.{all_good, read_start, read_next, read_end}
-use Rattle.job_read.proofs.There.{line_there}
+use Rattle.job.proofs.Good.{read_start, read_next}
+use Rattle.job_read.proofs.There.{line_there, all_filled, all_read}
 use Rattle.job_read.proofs.JobFile.read_plain.Goals as goal
 
 pub loop-i-init : goal.loop-i-init
@@ -35,15 +33,9 @@ loop-i-preserved c =
 
 pub returns-clause-good : goal.returns-clause-good
 returns-clause-good c =
-    let file = c.args.self.bytes.now in
-    let at = c.loop-i in
-    c.is_good.ensures
-    ∙ ap (λ m. all_good m at.gathered.union at.gathered.zeros && leb at.gathered.total most_placements) c.args.self.header_is.rack-is
-    ∙ read_end file at.i at.gathered.union at.gathered.zeros at.gathered.total (omega arith) at.invariant.read
+    let self = c.args.self in
+    all_read self.bytes.now c.loop-i.i _ _ _ self.header_is.rack-is (omega arith) c.loop-i.invariant.read c.is_good.ensures
 
 pub returns-clause-sets : goal.returns-clause-sets
 unfolding sets_in
-returns-clause-sets c =
-    sym (take_all c.loop-i.i c.loop-i.sets (omega arith))
-    ∙ c.loop-i.invariant.sets
-    ∙ ap (list_of (set_in c.args.self.bytes.now)) (omega arith)
+returns-clause-sets c = all_filled (set_in c.args.self.bytes.now) _ c.loop-i.i (omega arith) (omega arith) c.loop-i.invariant.sets
