@@ -159,15 +159,17 @@ reason_not_0 WrongTable h = cc
 reason_not_0 GoalMissed h = cc
 reason_not_0 BrokenRecord h = cc
 
--- a result that `?` returns tells what it was given
+-- a result that `?` returns is the error that it was given, and tells it
+pub err_of : {A E : Type 0} (r : Result A E) (e : E) → IsErr r × IsErrAnd r (λ x. x ≡ e) → r ≡ Err e
+err_of (Ok x) e h = absurd h.1
+err_of (Err x) e h = ap Err h.1
+
 pub told_err : {A : Type 0} (r : Result A Refused) (e : Refused) → IsErr r × IsErrAnd r (λ x. x ≡ e) → refusal_of r ≡ told_of e
-told_err (Ok x) e h = absurd h.1
-told_err (Err x) e h = ap told_of h.1
+told_err r e h = ap refusal_of (err_of r e h)
 
 pub told_reason : {A : Type 0} (r : Result A Refused) (reason : Reason) → IsErr r × IsErrAnd r (λ x. x ≡ record { reason = reason; place = 0 })
     → refusal_of r ≡ refuse (reason_number reason)
-told_reason (Ok x) reason h = absurd h.1
-told_reason (Err x) reason h = ap told_of h.1
+told_reason r reason h = ap refusal_of (err_of r _ h)
 
 -- a result that tells a refusal is an error
 pub refused_err : {A : Type 0} (r : Result A Refused) → ((refusal_of r).number ≡ 0 → ⊥) → IsErr r

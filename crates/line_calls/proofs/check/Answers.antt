@@ -1,8 +1,7 @@
-use mathlib.Core.Path.{◌≡◌, refl, sym, ap}
+use mathlib.Core.Path.{refl, sym, ap}
 use lib.Seq.{length-take-le}
-use Rattle.std.proofs.Common.{rules, Err}
 use Rattle.refusal.specs.Refusal.{none}
-use Rattle.refusal.proofs.Laws.{reason_not_0}
+use Rattle.refusal.proofs.Laws.{err_of, reason_not_0}
 use Rattle.call_refusals.proofs.Calls.{best_none}
 use Rattle.line_calls.proofs.Checked.{check_first, check_next, check_rule}
 use Rattle.line_calls.proofs.check.Goals as goal
@@ -11,7 +10,7 @@ pub returns-in_err-best_refusal : goal.returns-in_err-best_refusal
 returns-in_err-best_refusal c =
     let a = c.args in
     let e = c.in_err-best_refusal.field-0.0 in
-    let same : c.from_residual.result ≡ Err e = search rules in
+    let same = err_of _ e c.from_residual.ensures in
     let first =
     check_first none a.lines.rack a.lines.quantities.now a.lines.sets.now a.plan.now a.claim a.table.now
     c.in_err-best_refusal.ensures (reason_not_0 e.reason) in

@@ -1,8 +1,8 @@
-use mathlib.Core.Path.{◌≡◌, refl, sym, ap, ◌∙◌}
+use mathlib.Core.Path.{refl, sym, ap, ◌∙◌}
 use lib.Seq.{length-take-le}
-use Rattle.std.proofs.Common.{rules, Err, length}
+use Rattle.std.proofs.Common.{length}
 use Rattle.refusal.specs.Refusal.{none}
-use Rattle.refusal.proofs.Laws.{reason_not_0}
+use Rattle.refusal.proofs.Laws.{err_of, reason_not_0}
 use Rattle.head.specs.OnHead.{on_head}
 use Rattle.call_refusals.proofs.Calls.{plan_none}
 use Rattle.line_calls.proofs.Plans.{quick_refused, quick_accepted}
@@ -12,7 +12,7 @@ pub returns-in_err-plan_refusal : goal.returns-in_err-plan_refusal
 returns-in_err-plan_refusal c =
     let a = c.args in
     let e = c.in_err-plan_refusal.field-0.0 in
-    let same : c.from_residual.result ≡ Err e = search rules in
+    let same = err_of _ e c.from_residual.ensures in
     let (answer, (plan, rule)) =
     quick_refused none a.lines.rack (on_head a.mounted) a.lines.quantities.now a.lines.sets.now a.plan.now c.in_err-plan_refusal.ensures
     (λ _. c.len-count.ensures) (reason_not_0 e.reason) in

@@ -1,9 +1,8 @@
-use mathlib.Core.Path.{◌≡◌, refl, sym, ap, ap₂, ◌∙◌}
+use mathlib.Core.Path.{refl, sym, ap, ap₂, ◌∙◌}
 use native.Mathlib.Omega.{arith}
 use lib.Seq.{length-take-le}
-use Rattle.std.proofs.Common.{rules, Err}
 use Rattle.refusal.specs.Refusal.{none}
-use Rattle.refusal.proofs.Laws.{reason_not_0}
+use Rattle.refusal.proofs.Laws.{err_of, reason_not_0}
 use Rattle.job.specs.Job.{file_length}
 use Rattle.job.specs.Header.{version_number}
 use Rattle.job.proofs.Lines.{file_few}
@@ -15,7 +14,7 @@ pub returns-in_err-write_refusal : goal.returns-in_err-write_refusal
 returns-in_err-write_refusal c =
     let a = c.args in
     let e = c.in_err-write_refusal.field-0.0 in
-    let same : c.from_residual.result ≡ Err e = search rules in
+    let same = err_of _ e c.from_residual.ensures in
     let (answer, buffer) =
     write-refused none a.lines.rack a.lines.quantities.now a.lines.sets.now a.out.now c.in_err-write_refusal.ensures
     c.version_for-version.ensures c.len-count.ensures (reason_not_0 e.reason) in

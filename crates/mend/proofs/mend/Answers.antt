@@ -1,4 +1,4 @@
-use Rattle.std.proofs.Common.{◌≡◌, ◌<◌, ◌⊎◌, inl, inr, length, refl, sym, ap, ◌∙◌, arith, rules, Err, ℕ, Bool, true, false, ltb}
+use Rattle.std.proofs.Common.{◌≡◌, ◌<◌, ◌⊎◌, inl, inr, length, refl, sym, ap, ◌∙◌, arith, ℕ, Bool, true, false, ltb}
 use lib.Dec.{eqb→eq}
 use borrow.Author.Tests.{ltb-true, ltb-false}
 use Rattle.model.proofs.Lists.{all_get_d}
@@ -6,7 +6,7 @@ use Rattle.model.proofs.Tests.{T_true}
 use Rattle.refusal.specs.Refusal.{none, refuse, when}
 use Rattle.refusal.specs.declared.Refused.{Refused}
 use Rattle.refusal.specs.Reasons.{reason_number, told_of}
-use Rattle.refusal.proofs.Laws.{reason_not_0, when-none}
+use Rattle.refusal.proofs.Laws.{err_of, reason_not_0, when-none}
 use Rattle.text.proofs.Buffer.{printed}
 use Rattle.job.specs.Job.{Bytes, start_number, read_refusal}
 use Rattle.mending.specs.Mending.{mended_file, mended_report}
@@ -27,7 +27,7 @@ returns-in_err-started c =
     let reason = c.in_err-started.field-0.0 in
     let n = reason_number reason in
     let e : Refused = record { reason = reason; place = 0 } in
-    let same : c.from_residual.result ≡ Err e = search rules in
+    let same = err_of _ e c.from_residual.ensures in
     let told : n ≡ start_number a.file.now = c.in_err-started.ensures.refusal in
     rw same (call_refused a.file.now a.out.now a.report.now (refused_by n) n refl
     (ap refuse told ∙ start_refused a.file.now a.out.now a.report.now (λ z. reason_not_0 reason (told ∙ z))) (reason_not_0 reason))
@@ -38,7 +38,7 @@ returns-in_err-refuse_when c =
     let out = c.args.out.now in
     let report = c.args.report.now in
     let e = c.in_err-refuse_when.field-0.0 in
-    let same : c.from_residual-in_err-refuse_when.result ≡ Err e = search rules in
+    let same = err_of _ e c.from_residual-in_err-refuse_when.ensures in
     let test = ltb (length out) (length file) in
     let told : told_of e ≡ when test 11 = c.in_err-refuse_when.ensures in
     let taken : test ≡ true = refused_taken e test 11 told in

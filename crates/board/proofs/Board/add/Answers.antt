@@ -1,7 +1,6 @@
 use Rattle.std.proofs.Common.{rules}
-use mathlib.Core.Path.{◌≡◌, refl, ap, ◌∙◌}
-use Rattle.std.specs.Prelude.{Err}
-use Rattle.refusal.proofs.Laws.{reason_not_0}
+use mathlib.Core.Path.{refl, ap, ◌∙◌}
+use Rattle.refusal.proofs.Laws.{err_of, reason_not_0}
 use Rattle.board.specs.Told.{answered}
 use Rattle.board.proofs.Sets.{Full}
 use Rattle.board.proofs.Answers.{add_refused, add_accepted, add_place}
@@ -15,13 +14,13 @@ full c = record { sets_full = search rules; quantities_full = search rules }
 pub returns-in_err-state : goal.returns-in_err-state
 returns-in_err-state c =
     let x = c.in_err-state.field-0.0 in
-    let e : c.from_residual.result ≡ Err x = search rules in
+    let e = err_of _ x c.from_residual.ensures in
     ap (answered c.args.self.now) e ∙ add_stopped x c.args.self.now c.in_err-state.ensures _ _
 
 pub returns-in_err-add_refusal : goal.returns-in_err-add_refusal
 returns-in_err-add_refusal c =
     let x = c.in_err-add_refusal.field-0.0 in
-    let e : c.from_residual-in_err-add_refusal.result ≡ Err x = search rules in
+    let e = err_of _ x c.from_residual-in_err-add_refusal.ensures in
     ap (answered c.args.self.now) e
     ∙ add_refused c.args.self.now c.args.set c.args.quantity (full (goal.at.returns-in_err-add_refusal c).In_ok-state)
     c.in_ok-state.ensures c.in_err-add_refusal.ensures (reason_not_0 x.reason)

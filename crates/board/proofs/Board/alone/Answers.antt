@@ -1,8 +1,7 @@
 use Rattle.std.proofs.Common.{rules}
-use mathlib.Core.Path.{◌≡◌, refl, ap, ◌∙◌}
-use Rattle.std.specs.Prelude.{Err}
+use mathlib.Core.Path.{refl, ap, ◌∙◌}
 use Rattle.refusal.specs.Refusal.{none}
-use Rattle.refusal.proofs.Laws.{or_err, or_ok}
+use Rattle.refusal.proofs.Laws.{err_of, or_err, or_ok}
 use Rattle.board.specs.Told.{alone_answered}
 use Rattle.board.proofs.Sets.{Full}
 use Rattle.board.proofs.PanelRule.{alone_answer}
@@ -19,7 +18,7 @@ other-full c = record { sets_full = search rules; quantities_full = search rules
 pub returns-in_err-lines-clause-answer : goal.returns-in_err-lines-clause-answer
 returns-in_err-lines-clause-answer c =
     let x = c.in_err-lines.field-0.0 in
-    let e : c.from_residual.result ≡ Err x = search rules in
+    let e = err_of _ x c.from_residual.ensures in
     ap (alone_answered c.args.self.now c.args.other.now) e
     ∙ alone_stopped x c.args.self.now c.args.other.now (or_err _ x c.in_err-lines.ensures.refusal) _
 
@@ -31,7 +30,7 @@ returns-in_err-lines-clause-plan c =
 pub returns-in_err-others-clause-answer : goal.returns-in_err-others-clause-answer
 returns-in_err-others-clause-answer c =
     let x = c.in_err-others.field-0.0 in
-    let e : c.from_residual-in_err-others.result ≡ Err x = search rules in
+    let e = err_of _ x c.from_residual-in_err-others.ensures in
     ap (alone_answered c.args.self.now c.args.other.now) e
     ∙ alone_stopped x c.args.self.now c.args.other.now (or_ok _ c.in_ok-lines.ensures.refusal c.in_err-others.ensures.refusal) _
 

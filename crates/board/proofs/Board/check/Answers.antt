@@ -1,21 +1,20 @@
-use Rattle.std.proofs.Common.{rules}
-use mathlib.Core.Path.{◌≡◌, ap, ◌∙◌}
-use Rattle.std.specs.Prelude.{Err}
+use mathlib.Core.Path.{ap, ◌∙◌}
 use Rattle.board.specs.Told.{answered}
 use Rattle.board.proofs.Answers.{check_answer}
 use Rattle.board.proofs.Stopped.{check_stopped, check_rule}
+use Rattle.refusal.proofs.Laws.{err_of}
 use Rattle.board.proofs.Board.check.Goals as goal
 
 pub returns-in_err-lines-clause-answer : goal.returns-in_err-lines-clause-answer
 returns-in_err-lines-clause-answer c =
     let x = c.in_err-lines.field-0.0 in
-    let e : c.from_residual.result ≡ Err x = search rules in
+    let e = err_of _ x c.from_residual.ensures in
     ap (answered c.args.self.now) e ∙ check_stopped x c.args.self.now c.in_err-lines.ensures.refusal _ _ _
 
 pub returns-in_err-lines-clause-rule : goal.returns-in_err-lines-clause-rule
 returns-in_err-lines-clause-rule c =
     let x = c.in_err-lines.field-0.0 in
-    let e : c.from_residual.result ≡ Err x = search rules in
+    let e = err_of _ x c.from_residual.ensures in
     rw e (check_rule x c.args.self.now c.in_err-lines.ensures.refusal _ _ _)
 
 pub returns-clause-answer : goal.returns-clause-answer

@@ -1,15 +1,14 @@
-use Rattle.std.proofs.Common.{rules}
-use mathlib.Core.Path.{◌≡◌, ap, ◌∙◌}
-use Rattle.std.specs.Prelude.{Err}
+use mathlib.Core.Path.{ap, ◌∙◌}
 use Rattle.board.specs.Told.{answered}
 use Rattle.board.proofs.Answers.{close_accepted}
 use Rattle.board.proofs.Stopped.{close_stopped}
+use Rattle.refusal.proofs.Laws.{err_of}
 use Rattle.board.proofs.Board.close.Goals as goal
 
 pub returns-in_err-state : goal.returns-in_err-state
 returns-in_err-state c =
     let x = c.in_err-state.field-0.0 in
-    let e : c.from_residual.result ≡ Err x = search rules in
+    let e = err_of _ x c.from_residual.ensures in
     ap (answered c.args.self.now) e ∙ close_stopped x c.args.self.now c.in_err-state.ensures
 
 pub returns : goal.returns

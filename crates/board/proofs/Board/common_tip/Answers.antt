@@ -1,15 +1,14 @@
-use Rattle.std.proofs.Common.{rules}
-use mathlib.Core.Path.{◌≡◌, ap, ◌∙◌}
-use Rattle.std.specs.Prelude.{Err}
+use mathlib.Core.Path.{ap, ◌∙◌}
 use Rattle.board.specs.Told.{common_answered}
 use Rattle.board.proofs.Answers.{common_answer}
 use Rattle.board.proofs.Stopped.{common_stopped}
+use Rattle.refusal.proofs.Laws.{err_of}
 use Rattle.board.proofs.Board.common_tip.Goals as goal
 
 pub returns-in_err-lines-clause-answer : goal.returns-in_err-lines-clause-answer
 returns-in_err-lines-clause-answer c =
     let x = c.in_err-lines.field-0.0 in
-    let e : c.from_residual.result ≡ Err x = search rules in
+    let e = err_of _ x c.from_residual.ensures in
     ap (common_answered c.args.self.now) e ∙ common_stopped x c.args.self.now c.in_err-lines.ensures.refusal
 
 pub returns-clause-answer : goal.returns-clause-answer

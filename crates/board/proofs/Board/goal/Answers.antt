@@ -1,7 +1,6 @@
 use Rattle.std.proofs.Common.{rules}
-use mathlib.Core.Path.{◌≡◌, refl, ap, ◌∙◌}
-use Rattle.std.specs.Prelude.{Err}
-use Rattle.refusal.proofs.Laws.{reason_not_0}
+use mathlib.Core.Path.{refl, ap, ◌∙◌}
+use Rattle.refusal.proofs.Laws.{err_of, reason_not_0}
 use Rattle.board.specs.Told.{answered}
 use Rattle.board.proofs.Sets.{Full}
 use Rattle.board.proofs.GoalRule.{goal_ruled, goal-answer, goal-refused}
@@ -15,7 +14,7 @@ full c = record { sets_full = search rules; quantities_full = search rules }
 pub returns-in_err-lines-clause-answer : goal.returns-in_err-lines-clause-answer
 returns-in_err-lines-clause-answer c =
     let x = c.in_err-lines.field-0.0 in
-    let e : c.from_residual.result ≡ Err x = search rules in
+    let e = err_of _ x c.from_residual.ensures in
     ap (answered c.args.self.now) e ∙ goal_stopped x c.args.self.now c.in_err-lines.ensures.refusal _
 
 pub returns-in_err-lines-clause-rule : goal.returns-in_err-lines-clause-rule
@@ -25,7 +24,7 @@ returns-in_err-lines-clause-rule c =
 pub returns-in_err-goal-clause-answer : goal.returns-in_err-goal-clause-answer
 returns-in_err-goal-clause-answer c =
     let x = c.in_err-goal.field-0.0 in
-    let e : c.from_residual-in_err-goal.result ≡ Err x = search rules in
+    let e = err_of _ x c.from_residual-in_err-goal.ensures in
     let l = c.in_ok-lines.ensures in
     ap (answered c.args.self.now) e
     ∙ goal-refused c.args.self.now _ (full (goal.at.returns-in_err-goal-clause-answer c).After-lines) c.in_ok-lines.ensures.refusal refl

@@ -1,15 +1,14 @@
-use Rattle.std.proofs.Common.{rules}
-use mathlib.Core.Path.{◌≡◌, ap, ◌∙◌}
-use Rattle.std.specs.Prelude.{Err}
+use mathlib.Core.Path.{ap, ◌∙◌}
 use Rattle.board.specs.Told.{junior_answered}
 use Rattle.board.proofs.JuniorCall.{junior_answer}
 use Rattle.board.proofs.Stopped.{junior_stopped, junior_same, junior_rule}
+use Rattle.refusal.proofs.Laws.{err_of}
 use Rattle.board.proofs.Board.junior.Goals as goal
 
 pub returns-in_err-lines-clause-answer : goal.returns-in_err-lines-clause-answer
 returns-in_err-lines-clause-answer c =
     let x = c.in_err-lines.field-0.0 in
-    let e : c.from_residual.result ≡ Err x = search rules in
+    let e = err_of _ x c.from_residual.ensures in
     ap (junior_answered c.args.self.now) e ∙ junior_stopped x c.args.self.now c.in_err-lines.ensures.refusal _
 
 pub returns-in_err-lines-clause-buffer : goal.returns-in_err-lines-clause-buffer
@@ -18,7 +17,7 @@ returns-in_err-lines-clause-buffer c = junior_same c.in_err-lines.field-0.0 c.ar
 pub returns-in_err-lines-clause-rule : goal.returns-in_err-lines-clause-rule
 returns-in_err-lines-clause-rule c =
     let x = c.in_err-lines.field-0.0 in
-    let e : c.from_residual.result ≡ Err x = search rules in
+    let e = err_of _ x c.from_residual.ensures in
     rw e (junior_rule x c.args.self.now c.in_err-lines.ensures.refusal _ _)
 
 pub returns-clause-answer : goal.returns-clause-answer

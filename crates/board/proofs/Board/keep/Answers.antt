@@ -1,11 +1,12 @@
 use Rattle.std.proofs.Common.{rules}
-use mathlib.Core.Path.{◌≡◌, refl, ap, ◌∙◌}
-use Rattle.std.specs.Prelude.{pos, Err}
+use mathlib.Core.Path.{refl, ap, ◌∙◌}
+use Rattle.std.specs.Prelude.{pos}
 use Rattle.board.specs.Told.{kept_answered}
 use Rattle.board.proofs.Sets.{Full}
 use Rattle.board.proofs.KeepRule.{keep_ruled, kept-answer}
 use Rattle.board.proofs.Stopped.{keep_stopped}
 use Rattle.board.proofs.Board.keep.Goals.{After-state}
+use Rattle.refusal.proofs.Laws.{err_of}
 use Rattle.board.proofs.Board.keep.Goals as goal
 
 full : (c : After-state) → Full c.args.self.now
@@ -14,7 +15,7 @@ full c = record { sets_full = search rules; quantities_full = search rules }
 pub returns-in_err-state-clause-answer : goal.returns-in_err-state-clause-answer
 returns-in_err-state-clause-answer c =
     let x = c.in_err-state.field-0.0 in
-    let e : c.from_residual.result ≡ Err (record { refused = x; margin = pos 0 }) = search rules in
+    let e = err_of _ (record { refused = x; margin = pos 0 }) c.from_residual.ensures in
     ap (kept_answered c.args.self.now) e ∙ keep_stopped x c.args.self.now c.in_err-state.ensures _
 
 pub returns-in_err-state-clause-rule : goal.returns-in_err-state-clause-rule

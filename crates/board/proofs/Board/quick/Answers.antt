@@ -1,15 +1,14 @@
-use Rattle.std.proofs.Common.{rules}
-use mathlib.Core.Path.{◌≡◌, ap, ◌∙◌}
-use Rattle.std.specs.Prelude.{Err}
+use mathlib.Core.Path.{ap, ◌∙◌}
 use Rattle.board.specs.Told.{shared_answered}
 use Rattle.board.proofs.Answers.{by_state, quick_answer}
 use Rattle.board.proofs.Stopped.{mounted_state, quick_stopped, quick_same}
+use Rattle.refusal.proofs.Laws.{err_of}
 use Rattle.board.proofs.Board.quick.Goals as goal
 
 pub returns-in_err-lines-clause-answer : goal.returns-in_err-lines-clause-answer
 returns-in_err-lines-clause-answer c =
     let x = c.in_err-lines.field-0.0 in
-    let e : c.from_residual.result ≡ Err x = search rules in
+    let e = err_of _ x c.from_residual.ensures in
     ap (shared_answered c.args.self.now) e ∙ quick_stopped x c.args.self.now _ (mounted_state x c.args.self.now c.in_err-lines.ensures.refusal _) _
 
 pub returns-in_err-lines-clause-buffer : goal.returns-in_err-lines-clause-buffer
@@ -20,7 +19,7 @@ returns-in_err-lines-clause-buffer c =
 pub returns-in_err-mounted_refusal-clause-answer : goal.returns-in_err-mounted_refusal-clause-answer
 returns-in_err-mounted_refusal-clause-answer c =
     let x = c.in_err-mounted_refusal.field-0.0 in
-    let e : c.from_residual-in_err-mounted_refusal.result ≡ Err x = search rules in
+    let e = err_of _ x c.from_residual-in_err-mounted_refusal.ensures in
     ap (shared_answered c.args.self.now) e
     ∙ quick_stopped x c.args.self.now _ (by_state c.args.self.now _ c.in_ok-lines.ensures.refusal c.in_err-mounted_refusal.ensures) _
 

@@ -1,8 +1,6 @@
-use Rattle.std.proofs.Common.{rules}
-use mathlib.Core.Path.{◌≡◌, refl, ap, ◌∙◌}
-use Rattle.std.specs.Prelude.{Err}
+use mathlib.Core.Path.{refl, ap, ◌∙◌}
 use Rattle.model.proofs.Lists.{all_get_d}
-use Rattle.refusal.proofs.Laws.{reason_not_0}
+use Rattle.refusal.proofs.Laws.{err_of, reason_not_0}
 use Rattle.job.specs.Job.{Bytes}
 use Rattle.board.specs.Told.{given}
 use Rattle.board.proofs.Sets.{no-sets, no-quantities}
@@ -16,7 +14,7 @@ bytes c = all_get_d 0 c.args.file.now (λ i l. (c.type_inv.file i).fits)
 pub returns-in_err-read-clause-answer : goal.returns-in_err-read-clause-answer
 returns-in_err-read-clause-answer c =
     let x = c.in_err-read.field-0.0 in
-    let e : c.from_residual.result ≡ Err x = search rules in
+    let e = err_of _ x c.from_residual.ensures in
     ap given e ∙ read_stopped c.args.file.now c.in_err-read.ensures.refusal (reason_not_0 x.reason)
 
 pub returns-clause-answer : goal.returns-clause-answer

@@ -1,11 +1,11 @@
 use Rattle.std.proofs.Common.{rules}
-use mathlib.Core.Path.{◌≡◌, ap, ◌∙◌}
-use Rattle.std.specs.Prelude.{Err}
+use mathlib.Core.Path.{ap, ◌∙◌}
 use Rattle.board.specs.Told.{written_answered}
 use Rattle.board.proofs.Sets.{Full}
 use Rattle.board.proofs.JobFileRule.{write_clauses}
 use Rattle.board.proofs.Stopped.{write_stopped, write_same}
 use Rattle.board.proofs.Board.write.Goals.{After-lines}
+use Rattle.refusal.proofs.Laws.{err_of}
 use Rattle.board.proofs.Board.write.Goals as goal
 
 full : (c : After-lines) → Full c.args.self.now
@@ -14,7 +14,7 @@ full c = record { sets_full = search rules; quantities_full = search rules }
 pub returns-in_err-lines-clause-answer : goal.returns-in_err-lines-clause-answer
 returns-in_err-lines-clause-answer c =
     let x = c.in_err-lines.field-0.0 in
-    let e : c.from_residual.result ≡ Err x = search rules in
+    let e = err_of _ x c.from_residual.ensures in
     ap (written_answered c.args.self.now) e ∙ write_stopped x c.args.self.now c.in_err-lines.ensures.refusal _
 
 pub returns-in_err-lines-clause-buffer : goal.returns-in_err-lines-clause-buffer

@@ -1,10 +1,10 @@
 use mathlib.Core.Path.{◌≡◌, refl, sym, ap, ◌∙◌}
 use native.Mathlib.Omega.{arith}
 use borrow.Author.Tests.{lt-ltb, le-ltb}
-use Rattle.std.proofs.Common.{ℕ, Bool, cond, true, false, rules}
+use Rattle.std.proofs.Common.{ℕ, Bool, cond, true, false}
 use Rattle.model.specs.Plan.{rack_ok}
-use Rattle.refusal.specs.Reasons.{reason_number, number_in}
-use Rattle.refusal.proofs.Laws.{reason_not_0}
+use Rattle.refusal.specs.Reasons.{number_in}
+use Rattle.refusal.proofs.Laws.{err_of, reason_not_0}
 use Rattle.job.specs.Job.{version_ok, version_in, rack_in, start_number}
 use Rattle.job.proofs.Numbers.{number_one}
 use Rattle.job.proofs.Header.read.Goals as goal
@@ -31,7 +31,7 @@ pub returns-in_err-version-clause-refusal : goal.returns-in_err-version-clause-r
 unfolding start_number
 returns-in_err-version-clause-refusal c =
     let reason = c.in_err-version.field-0.0 in
-    let told : number_in c.from_residual.result ≡ reason_number reason = search rules in
+    let told = ap number_in (err_of _ reason c.from_residual.ensures) in
     let n = c.in_err-version.ensures.0 in
     let out = refused _ (reason_not_0 reason) n in
     let unknown : version_ok (version_in c.args.file.now) ≡ false = ap version_ok (sym c.two_at.ensures) ∙ out in

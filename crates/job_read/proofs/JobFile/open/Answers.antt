@@ -1,9 +1,8 @@
-use mathlib.Core.Path.{◌≡◌, refl, sym, ap₂, ◌∙◌}
+use mathlib.Core.Path.{◌≡◌, refl, sym, ap, ap₂, ◌∙◌}
 use native.Mathlib.Omega.{arith}
 use borrow.Author.Tests.{lt-ltb, le-ltb, eq-eqb, ne_eqb}
-use Rattle.std.proofs.Common.{rules}
 use Rattle.refusal.specs.Reasons.{reason_number, number_in}
-use Rattle.refusal.proofs.Laws.{reason_not_0}
+use Rattle.refusal.proofs.Laws.{err_of, reason_not_0}
 use Rattle.job.specs.Job.{file_length, start_number, size_number, header_number}
 use Rattle.job.specs.Header.{version_number}
 use Rattle.job.proofs.Lines.{file_few}
@@ -13,7 +12,7 @@ pub returns-in_err-header-clause-refusal : goal.returns-in_err-header-clause-ref
 unfolding header_number
 returns-in_err-header-clause-refusal c =
     let reason = c.in_err-header.field-0.0 in
-    let same : number_in c.from_residual.result ≡ reason_number reason = search rules in
+    let same = ap number_in (err_of _ reason c.from_residual.ensures) in
     let first : reason_number reason ≡ start_number c.args.file.now = c.in_err-header.ensures.refusal in
     rw (ne_eqb (start_number c.args.file.now) 0 (λ z. reason_not_0 reason (first ∙ z))) (same ∙ first)
 

@@ -1,7 +1,6 @@
-use mathlib.Core.Path.{◌≡◌, refl, sym, ap}
-use Rattle.std.proofs.Common.{rules, Err}
+use mathlib.Core.Path.{refl, sym, ap}
 use Rattle.refusal.specs.Refusal.{none}
-use Rattle.refusal.proofs.Laws.{reason_not_0}
+use Rattle.refusal.proofs.Laws.{err_of, reason_not_0}
 use Rattle.line_calls.proofs.PairGoal.{asked_runs, asked-none, goal-stopped, goal-all}
 use Rattle.line_calls.proofs.goal_call.goal.Goals as goal
 
@@ -9,7 +8,7 @@ pub returns-in_err-run_refusal : goal.returns-in_err-run_refusal
 returns-in_err-run_refusal c =
     let a = c.args in
     let e = c.in_err-run_refusal.field-0.0 in
-    let same : c.from_residual.result ≡ Err e = search rules in
+    let same = err_of _ e c.from_residual.ensures in
     let (answer, sets) =
     goal-stopped none a.lines.rack a.lines.quantities.now a.lines.sets.now a.goal a.struck.now
     (asked_runs none a.lines.sets.now refl c.in_err-run_refusal.ensures) (reason_not_0 e.reason) in

@@ -1,14 +1,14 @@
 use mathlib.Core.Path.{◌≡◌, sym, ap, ◌∙◌}
 use lib.Seq.{length-take-le}
-use Rattle.std.proofs.Common.{ℕ, List, ◌++◌, length, take, drop, rules}
-use Rattle.std.specs.Prelude.{Option, Some, None, Result, Err}
+use Rattle.std.proofs.Common.{ℕ, List, ◌++◌, length, take, drop}
+use Rattle.std.specs.Prelude.{Option, Some, None, Result}
 use Rattle.std.specs.Option.{ok_or}
 use Rattle.placements.specs.Good.{GoodLines}
 use Rattle.refusal.specs.Refusal.{none}
 use Rattle.refusal.specs.Reasons.{refusal_of}
 use Rattle.refusal.specs.declared.Reason.TheVariants.{NoTwoTips}
 use Rattle.refusal.specs.declared.Refused.{Refused}
-use Rattle.refusal.proofs.Laws.{reason_not_0}
+use Rattle.refusal.proofs.Laws.{err_of, reason_not_0}
 use Rattle.call_refusals.proofs.Junior.{junior_none}
 use Rattle.junior.specs.declared.Found.{Found}
 use Rattle.junior.specs.Found.{found_of, plan_of}
@@ -21,7 +21,7 @@ pub returns-in_err-junior_refusal : goal.returns-in_err-junior_refusal
 returns-in_err-junior_refusal c =
     let a = c.args in
     let e = c.in_err-junior_refusal.field-0.0 in
-    let same : c.from_residual.result ≡ Err e = search rules in
+    let same = err_of _ e c.from_residual.ensures in
     let (answer, (plan, rule)) =
     junior_refused none a.lines.rack a.lines.quantities.now a.lines.sets.now a.plan.now
     (rw c.len-count.ensures at c.in_err-junior_refusal.ensures) (reason_not_0 e.reason) in
