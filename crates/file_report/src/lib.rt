@@ -2,7 +2,6 @@
 #![tactic(auto)]
 
 ghost use Rattle.std.specs.Prelude.{◌≡◌, ◌≤◌, length, is_some, unwrap_or};
-ghost use Rattle.model.specs.Limits.{most_lines};
 ghost use Rattle.report.specs.Report.{report_of};
 ghost use Rattle.text.specs.Buffer.{Printed};
 ghost use Rattle.file_report.specs.Summary.{facts_of, BestTold, text_of, text_room, summary_of};
@@ -11,24 +10,10 @@ use placements::Lines;
 use reading::Room;
 
 // The bytes of a file that are taken: one more than the longest good file has, by which a longer one is seen.
-pub const TAKEN: usize = 4617;
+const TAKEN: usize = 4617;
 
 // The bytes that the longest text may need.
-pub const ROOM: usize = 16384;
-
-// A byte for each line of the longest board.
-fn plan_buffer() -> [u8; model::MOST_LINES]
-    ensures { length result ≡ most_lines }
-{
-    [0u8; model::MOST_LINES]
-}
-
-// A place for each interval of the largest rack.
-fn table_buffer() -> [u32; 4096]
-    ensures { length result ≡ 4096 }
-{
-    [0u32; 4096]
-}
+const ROOM: usize = 16384;
 
 // The pairs of best sharing of the lines; nothing where some line is no run of the named tips, and then the plan stays as it was.
 fn best_lines(lines: Lines<'_>, plan: &mut [u8]) -> Option<u32>
@@ -36,7 +21,7 @@ fn best_lines(lines: Lines<'_>, plan: &mut [u8]) -> Option<u32>
     ensures { BestTold lines.entry.rack lines.entry.quantities.now lines.entry.sets.now
         (is_some result) (unwrap_or result 0) plan.new }
 {
-    let mut table = table_buffer();
+    let mut table = [0u32; model::MOST_TIPS * model::MOST_TIPS];
     line_calls::best(lines, None, plan, &mut table).ok()
 }
 
@@ -50,11 +35,11 @@ fn write_lines(lines: Lines<'_>, out: &mut [u8]) -> usize
         out.new }
 {
     let count = lines.len();
-    let mut best_buffer = plan_buffer();
+    let mut best_buffer = [0u8; model::MOST_LINES];
     let best = &mut best_buffer[..count];
     let shared = best_lines(lines, best);
     let common = line_calls::common(lines);
-    let mut quick_buffer = plan_buffer();
+    let mut quick_buffer = [0u8; model::MOST_LINES];
     let quick = &mut quick_buffer[..count];
     let pairs = line_calls::quick(lines, None, quick).unwrap();
     report::write_report(
@@ -81,7 +66,8 @@ fn write_file(file: &[u8], out: &mut [u8]) -> usize
     }
 }
 
-// The text for a file, and its length; a buffer shorter than the longest text is left as it is.
+// Writes the text for a file, and returns how many bytes that are. Into a buffer shorter than the longest text it writes none, and returns 0:
+// no text is empty.
 pub fn summarize(file: &[u8], out: &mut [u8]) -> usize
     ensures { Printed (summary_of file.now (length out.old)) out.old result out.new }
 {
