@@ -22,9 +22,9 @@ pub extern "C" fn tipshare_alone(
     ensures rule { 4 ≤ length answer.old
         → AloneRuleOf first.now second.now plan.new (seen result answer.new) }
 {
-    if answer.len() < PLACES {
+    let Some(places) = answer.first_chunk_mut::<PLACES>() else {
         return SHORT_ANSWER;
-    }
+    };
     let outcome = file_calls::alone_outcome(first, second, plan);
-    put_answer(outcome, answer)
+    put_answer(outcome, places)
 }

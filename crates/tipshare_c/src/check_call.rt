@@ -22,9 +22,9 @@ pub extern "C" fn tipshare_check(
     ensures rule { 4 ≤ length answer.old
         → CheckRuleOf file.now plan.now claim table.now (seen result answer.new) }
 {
-    if answer.len() < PLACES {
+    let Some(places) = answer.first_chunk_mut::<PLACES>() else {
         return SHORT_ANSWER;
-    }
+    };
     let outcome = file_calls::check_outcome(file, plan, claim, table);
-    put_answer(outcome, answer)
+    put_answer(outcome, places)
 }

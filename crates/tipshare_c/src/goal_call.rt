@@ -16,9 +16,9 @@ pub extern "C" fn tipshare_goal(file: &[u8], goal: u32, out: &mut [u8], answer: 
     ensures rule { 4 ≤ length answer.old
         → GoalRuleOf file.now goal out.new (seen result answer.new) }
 {
-    if answer.len() < PLACES {
+    let Some(places) = answer.first_chunk_mut::<PLACES>() else {
         return SHORT_ANSWER;
-    }
+    };
     let outcome = file_calls::goal_outcome(file, goal, out);
-    put_answer(outcome, answer)
+    put_answer(outcome, places)
 }

@@ -15,9 +15,9 @@ pub extern "C" fn tipshare_junior(file: &[u8], plan: &mut [u8], answer: &mut [u6
     ensures rule { 4 ≤ length answer.old
         → JuniorRuleOf file.now (length plan.old) plan.new (seen result answer.new) }
 {
-    if answer.len() < PLACES {
+    let Some(places) = answer.first_chunk_mut::<PLACES>() else {
         return SHORT_ANSWER;
-    }
+    };
     let outcome = file_calls::junior_outcome(file, plan);
-    put_answer(outcome, answer)
+    put_answer(outcome, places)
 }

@@ -42,8 +42,8 @@ pub extern "C" fn tipshare_mend(
         (report_after file.now (length out.old) report.old) }
     ensures rule { MendRuleIn file.now out.new report.new (seen result answer.new) }
 {
-    if answer.len() < PLACES {
+    let Some(places) = answer.first_chunk_mut::<PLACES>() else {
         return SHORT_ANSWER;
-    }
-    put_answer(mend_outcome(file, out, report), answer)
+    };
+    put_answer(mend_outcome(file, out, report), places)
 }

@@ -22,9 +22,9 @@ pub extern "C" fn tipshare_merge(
     ensures rule { 4 ≤ length answer.old
         → MergeRuleOf first.now second.now out.new (seen result answer.new) }
 {
-    if answer.len() < PLACES {
+    let Some(places) = answer.first_chunk_mut::<PLACES>() else {
         return SHORT_ANSWER;
-    }
+    };
     let outcome = file_calls::merge_outcome(first, second, out);
-    put_answer(outcome, answer)
+    put_answer(outcome, places)
 }

@@ -37,8 +37,8 @@ pub extern "C" fn tipshare_order(
         → PlacingRuleIn parts.now rules.now (length order.old) order.new
         (seen result answer.new).refusal }
 {
-    if answer.len() < PLACES {
+    let Some(places) = answer.first_chunk_mut::<PLACES>() else {
         return SHORT_ANSWER;
-    }
-    put_answer(order_outcome(parts, rules, order), answer)
+    };
+    put_answer(order_outcome(parts, rules, order), places)
 }

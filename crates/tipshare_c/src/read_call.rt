@@ -11,9 +11,8 @@ pub extern "C" fn tipshare_read(file: &[u8], answer: &mut [u64]) -> u32
     ensures number { result ≡ number_in answer.old (read_in file.now) }
     ensures answer { answer.new ≡ answer_in answer.old (read_in file.now) }
 {
-    if answer.len() < PLACES {
+    let Some(places) = answer.first_chunk_mut::<PLACES>() else {
         return SHORT_ANSWER;
-    }
-    let outcome = file_calls::read_outcome(file);
-    put_answer(outcome, answer)
+    };
+    put_answer(file_calls::read_outcome(file), places)
 }

@@ -1,4 +1,4 @@
-use Rattle.std.proofs.Common.{rules, ◌≡◌, ℕ, refl, sym, Err}
+use Rattle.std.proofs.Common.{rules, ◌≡◌, ℕ, refl, Err}
 use borrow.Author.Tests.{ne_eqb}
 use Rattle.refusal.specs.Told.{Refusal}
 use Rattle.refusal.specs.Refusal.{none}
