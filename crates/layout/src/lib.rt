@@ -22,6 +22,7 @@ pub struct Counted<'a> {
 impl Counted<'_> {
     // The most pairs of the interval of first tip a and width w, from the table. No tip has 0 pairs: callers add or compare the number.
     // `a + w ≤ m` stays a clause here and below: it bounds two numbers that are passed, and no value holds them with the rack.
+    // They are no struct as in striking: `split` and `lay` would make two more for the halves, and the clauses would name its fields.
     #[tactic(auto, unfolding(crate::specs::Picks::most_by))]
     fn most(&self, a: usize, w: usize) -> u32
         requires { a + w ≤ self.now.m }
