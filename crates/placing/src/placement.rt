@@ -39,6 +39,7 @@ fn search(parts: &[Part], rows: &[PartSet]) -> Option<[u8; MOST_PARTS]>
     ensures none { IfNone result ((rules : List Rule) → RowsFor parts.now rules rows.now
         → none ≡ placing_order parts.now rules) }
 {
+    // Two arrays: the last positions alone are written, as they are settled.
     let mut firsts = [0; MOST_PARTS];
     let mut lasts = [0; MOST_PARTS];
     for (i, part) in parts.iter().enumerate() {

@@ -12,6 +12,7 @@ use std::alloc::Global;
 use std::io;
 use std::io::{BufRead, BufReader, BufWriter, Write};
 
+// Each kind of command is matched here alone.
 fn run<W: Write>(out: &mut W, state: &mut State, command: &Command) -> io::Result<()> {
     match command {
         Command::Call(call) => state.call(out, *call),

@@ -10,7 +10,7 @@ const SHOWN: usize = 32;
 // A set with one tip more or less has another remainder.
 const PRIME: u64 = 1000003;
 
-// The number and the place of a refusal; both are 0 where nothing is refused.
+// The number and the place of a refusal; both are 0 where nothing is refused, as the expected output has them.
 #[derive(Clone, Copy)]
 pub(crate) struct Told {
     number: u32,
