@@ -116,6 +116,7 @@ fn prune(margin: i32, n: usize, v: u64, lines: &mut [u64], quantities: &[u8])
     if n == lines.len() {
         return;
     }
+    // The quantities by places: with a second adapter of `iter_mut` a proof knows nothing of the elements.
     for (i, set) in lines.iter_mut().enumerate() {
         *set = kept(v, margin, quantities[i], *set);
     }

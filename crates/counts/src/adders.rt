@@ -180,6 +180,7 @@ pub fn join(sums: &[Pair; crate::PLANES]) -> [u64; crate::PLANES]
 {
     let mut planes = [0; crate::PLANES];
     let mut carry = 0;
+    // By places: after an adapter of `iter_mut` a proof knows nothing of the elements.
     for (j, sum) in sums.iter().enumerate() {
         let both = add_three(sum.even, sum.odd, carry);
         planes[j] = both.ones;

@@ -7,6 +7,7 @@ pub fn subtract(gone: &[u64; crate::PLANES], planes: &mut [u64; crate::PLANES])
     ensures { Subtracted gone.now planes.old planes.new }
 {
     let mut borrow = 0;
+    // By places: after an adapter of `iter_mut` a proof knows nothing of the elements.
     for (j, &less) in gone.iter().enumerate() {
         let either = planes[j] ^ less;
         let rest = either ^ borrow;

@@ -47,6 +47,7 @@ fn pick_lines(j: usize, lines: &[u64], quantities: &[u8], chosen: &mut [u64])
     ensures { chosen.new ≡ picked j quantities.now lines.now
         ++ drop (length lines.now) chosen.old }
 {
+    // By places: after an adapter of `iter_mut` a proof knows nothing of the elements.
     for (i, &set) in lines.iter().enumerate() {
         chosen[i] = pick(j, quantities[i], set);
     }

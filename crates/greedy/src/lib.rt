@@ -47,6 +47,7 @@ impl<const N: usize> Rooms<N> {
         let list = &self.list;
         let sets = &mut self.sets;
         let taken = &mut self.taken;
+        // By places: after an adapter of `iter_mut` a proof knows nothing of the elements.
         for (k, &place) in places.iter().enumerate() {
             let line = usize::from(list[usize::from(place)]);
             sets[k] = left[line];

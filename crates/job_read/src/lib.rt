@@ -188,6 +188,7 @@ impl<'a> JobFile<'a> {
         ensures quantities { quantities.new ≡ quantities_in self.entry.bytes.now }
     {
         let mut gathered = NONE;
+        // By places: after an adapter of `iter_mut` a proof knows nothing of the elements.
         for i in 0..sets.len() {
             let (set, quantity) = line_of(self.bytes, Version::Counted, i);
             sets[i] = set;

@@ -149,6 +149,7 @@ fn lay_lines(tip: usize, other: usize, lines: &[u64], plan: &mut [u8])
     requires size { length plan.old ≡ length lines.now }
     ensures { plan.new ≡ gathered lines.now tip other }
 {
+    // By places: after an adapter of `iter_mut` a proof knows nothing of the elements.
     for (i, &set) in lines.iter().enumerate() {
         plan[i] = tip_for(set, tip, other);
     }

@@ -113,6 +113,7 @@ impl Counted<'_> {
         requires size { length plan.old ≡ length lines.now }
         ensures { plan.new ≡ map (owner_of self.now.m owner.now) lines.now }
     {
+        // By places: after an adapter of `iter_mut` a proof knows nothing of the elements.
         for (i, line) in lines.iter().enumerate() {
             plan[i] = self.owner_of(owner, *line);
         }

@@ -17,7 +17,7 @@ pub struct Running {
     ghost low: { total ≤ most_running },
 }
 
-// Whether a line is kept, the number of its changes, and the running total after it.
+// Whether a line is kept, which is a fact by itself, the number of its changes, and the running total after it.
 #[derive(Clone, Copy)]
 pub struct Step {
     pub kept: bool,

@@ -57,6 +57,7 @@ pub fn start_rows(parts: &[Part]) -> [PartSet; MOST_PARTS]
 {
     let kinds = kinds_of(parts);
     let mut rows = [PartSet::EMPTY; MOST_PARTS];
+    // By places: after an adapter of `iter_mut` a proof knows nothing of the elements.
     for (b, &part) in parts.iter().enumerate() {
         rows[b] = flag_row(part, kinds);
     }
