@@ -34,8 +34,8 @@
  * rounded up (docs/PERFORMANCE.md); the first call of a process may need 2 KB
  * more, to look up those two functions:
  *
- *   read 1, common 6, keep 7, goal 99, quick 21, best 36, check 30, junior 13,
- *   merge 10, alone 26, mend 1, order 15, report 52
+ *   read 1, common 6, keep 7, goal 91, quick 17, best 32, check 22, junior 5,
+ *   merge 14, alone 22, mend 1, order 15, report 48
  *
  * All but tipshare_words and tipshare_version are proved. The two are tables in
  * C, in libtipshare.a and libtipshare.so; libtipshare_c.a, which make leaves in
