@@ -96,6 +96,23 @@ def scratch_folder():
             shutil.rmtree(folder, ignore_errors=True)
 
 
+def copy_below(root, folder, crate):
+    """A copy of one crate and of those that it is built on, in a new folder, in which they can be changed and checked."""
+    lines = (root / "crates.txt").read_text(encoding="utf-8").splitlines()
+    built_on = {line.split()[0].rstrip(":"): line.partition(":")[2].split() for line in lines if ":" in line and line[0] != "#"}
+    wanted, left = set(), [crate]
+    while left:
+        name = left.pop()
+        if name not in wanted:
+            wanted.add(name)
+            left += built_on[name]
+    (folder / "crates").mkdir(parents=True)
+    kept = [line for line in lines if line.split() and line.split()[0].rstrip(":") in wanted]
+    (folder / "crates.txt").write_text("\n".join(kept) + "\n", encoding="utf-8")
+    for name in wanted:
+        shutil.copytree(root / "crates" / name, folder / "crates" / name, symlinks=True)
+
+
 def copy_crates(root, folder):
     """A copy of the crates in a new folder, in which they can be changed and checked."""
     folder.mkdir()

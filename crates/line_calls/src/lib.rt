@@ -43,6 +43,16 @@ pub fn keep(rack: usize, lines: &mut [u64], quantities: &[u8], k: u16) -> Result
     call_refusals::keep_refusal(margin)
 }
 
+// Set by set: of `copy_from_slice` the compiler makes memmove here, which the header does not name.
+fn copy_sets(sets: &[u64], left: &mut [u64])
+    requires { length left.old ≡ length sets.now }
+    ensures { left.new ≡ sets.now }
+{
+    for (i, set) in left.iter_mut().enumerate() {
+        *set = sets[i];
+    }
+}
+
 // The pairs of the plan of quick sharing, which uses up a working copy of the sets.
 pub fn quick(lines: Lines<'_>, mounted: Option<usize>, plan: &mut [u8]) -> Result<u32, Refused>
     ensures answer { plan_told result
@@ -56,7 +66,7 @@ pub fn quick(lines: Lines<'_>, mounted: Option<usize>, plan: &mut [u8]) -> Resul
     call_refusals::plan_refusal(count, plan.len())?;
     let mut room = [0u64; model::MOST_LINES];
     let left = &mut room[..count];
-    left.copy_from_slice(lines.sets);
+    copy_sets(lines.sets, left);
     Ok(greedy::plan_lines(
         lines.rack,
         mounted,
@@ -87,7 +97,7 @@ pub fn best(
     let square = lines.rack * lines.rack;
     let mut room = [0u64; model::MOST_LINES];
     let left = &mut room[..count];
-    left.copy_from_slice(lines.sets);
+    copy_sets(lines.sets, left);
     Ok(best::plan_lines(
         lines.rack,
         mounted,

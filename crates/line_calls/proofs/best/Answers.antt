@@ -36,7 +36,7 @@ slice_bounds-plan_lines-end-4 c = sym (length-take-le _ _ (best_none none _ _ _ 
 pub plan_lines-requires : goal.plan_lines-requires
 plan_lines-requires c =
     let free = best_none none _ _ _ _ (ap (λ r. r.number) (sym c.in_ok-best_refusal.ensures)) in
-    let same = c.copy_from_slice.ensures.after in
+    let same = c.copy_sets.ensures in
     let room = rw (← c.len-count.ensures) at free.bytes in (
       rw same (record { good = c.args.lines.good; runs = free.runs }),
       length-take-le _ _ room ∙ c.len-count.ensures ∙ sym (ap length same),
@@ -47,7 +47,7 @@ pub returns : goal.returns
 returns c =
     let a = c.args in
     let laid = c.plan_lines.ensures in
-    let same = c.copy_from_slice.ensures.after in
+    let same = c.copy_sets.ensures in
     let (answer, (plan, (table, rule))) =
     best_accepted none a.lines.rack (on_head a.mounted) a.lines.quantities.now a.lines.sets.now a.plan.now a.table.now
     c.in_ok-best_refusal.ensures refl a.lines.good c.len-count.ensures

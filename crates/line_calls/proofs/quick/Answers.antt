@@ -27,7 +27,7 @@ slice_bounds-plan_lines-end-2 c = sym (length-take-le _ _ (plan_none none _ _ (a
 pub plan_lines-requires : goal.plan_lines-requires
 plan_lines-requires c =
     let room = (plan_none none _ _ (ap (λ r. r.number) (sym c.in_ok-plan_refusal.ensures))).1 in
-    let same = c.copy_from_slice.ensures.after in
+    let same = c.copy_sets.ensures in
     record {
       good = rw same c.args.lines.good;
       size = length-take-le _ _ room ∙ c.len-count.ensures ∙ sym (ap length same);
@@ -36,7 +36,7 @@ plan_lines-requires c =
 pub returns : goal.returns
 returns c =
     let a = c.args in
-    let same = c.copy_from_slice.ensures.after in
+    let same = c.copy_sets.ensures in
     let (answer, (plan, rule)) =
     quick_accepted none a.lines.rack (on_head a.mounted) a.lines.quantities.now a.lines.sets.now a.plan.now c.in_ok-plan_refusal.ensures
     (λ _. c.len-count.ensures) refl c.len-count.ensures a.lines.good
