@@ -116,7 +116,7 @@ fn heads_are_refused() {
     // Each version has its own length.
     assert_eq!(refused(&with(&EXAMPLE, &[(4, 2)])), (refusal::FILE_LENGTH, 0));
     assert_eq!(refused(&with(&TEN, &[(4, 1)])), (refusal::FILE_LENGTH, 0));
-    // Of 513 lines 9 is told, whether they are there or not.
+    // A file that says 513 lines gives 9, whether they are there or not.
     assert_eq!(refused(&job(1, &[(1, 1); 513]).write()), (refusal::FILE_LINES, 0));
 }
 

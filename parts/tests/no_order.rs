@@ -85,7 +85,7 @@ fn holds(parts: &[Part], rules: &[Rule], one: usize, other: usize, because: Beca
     }
 }
 
-/// A reason is told exactly where the library finds no order, and each step of it holds.
+/// `parts` gives a reason exactly where the library finds no order, and each step of the reason holds.
 fn check(parts: &[Part], rules: &[Rule]) -> bool {
     let number = library::order(parts, rules, &mut vec![0; parts.len()]).err().map_or(0, |refusal| refusal.number);
     let placing = Placing::new(parts, rules);
