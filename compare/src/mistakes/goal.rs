@@ -1,13 +1,13 @@
 //! Mistakes in striking by a goal of pairs.
 
+use super::changes::{at_refusal, board_of, lowest, on_accepted, on_single, refusal};
+use super::Mistake;
+use crate::boards::is_unbroken;
+use crate::check::{call_library, Buffers, Call};
+use crate::files::{board_in, file_in, file_of, line_in, put_line, version_of};
 use job_file::Version;
 use second::interface::ANSWER_PLACES;
 use second::{pairs_in, Board, Line};
-
-use super::{
-    at_refusal, board_in, board_of, call_library, file_in, file_of, is_unbroken, line_in, lowest, on_accepted,
-    on_single, put_line, refusal, version_of, Buffers, Call, Mistake,
-};
 
 pub(super) const OF_GOALS: &[Mistake] = &[
     ("a goal of as many pairs as a best plan has is refused", |call, lent| on_goal_number(call, lent, |goal| goal + 1)),

@@ -1,10 +1,11 @@
 //! Mistakes in planning for the Junior.
 
+use super::changes::{at_refusal, board_of, on_accepted, on_head, on_single, touch};
+use super::Mistake;
+use crate::check::{call_library, Buffers, Call};
 use job_file::AT_RACK;
 use second::interface::ANSWER_PLACES;
 use second::{pairs_in, Board, JUNIOR_LINES, JUNIOR_TIPS};
-
-use super::{at_refusal, board_of, call_library, on_accepted, on_head, on_single, touch, Buffers, Call, Mistake};
 
 pub(super) const OF_JUNIOR: &[Mistake] = &[
     ("the Junior refuses 64 lines", |call, lent| on_size(call, lent, |board| board.count == JUNIOR_LINES, 24)),
@@ -190,7 +191,7 @@ fn on_both(call: &Call, lent: &mut Buffers, side: fn(u64, u64) -> u64, applies: 
 fn on_junior_mirrored(call: &Call, lent: &mut Buffers) -> u64 {
     match (call, board_of(lent)) {
         (Call::Junior { .. }, Some(board)) => {
-            let returned = super::mirrored(call, lent, &board);
+            let returned = super::changes::mirrored(call, lent, &board);
             if returned == 0 && board.count > 0 {
                 let (u, v) = tips_in(lent);
                 let last = board.rack as u64 - 1;

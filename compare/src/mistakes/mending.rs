@@ -1,12 +1,12 @@
 //! Ways in which mending can be wrong.
 
+use super::changes::{at_refusal, head_of, on_file, touch};
+use super::Mistake;
+use crate::check::{call_library, Buffers, Call};
+use crate::files::{board_in, file_in, file_of, line_in, put_line};
 use job_file::{Head, Version, AT_COUNT, AT_RACK, HEAD, LONGEST_FILE};
 use second::interface::ANSWER_PLACES;
 use second::{mended, Board, Line, CHANGE};
-
-use super::{at_refusal, head_of, on_file, touch, Mistake};
-use crate::check::{call_library, Buffers, Call};
-use crate::files::{board_in, file_in, file_of, line_in, put_line};
 
 /// A change of a report: line and code.
 type Told = (u16, u8);

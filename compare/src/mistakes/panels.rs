@@ -1,12 +1,12 @@
 //! Ways in which two boards on one panel can be wrong.
 
-use job_file::{Job, Version, AT_RACK};
-use second::Board;
-
-use super::{after, at_refusal, Mistake};
+use super::changes::{after, at_refusal};
+use super::Mistake;
 use crate::boards::{is_counted, single};
 use crate::check::{call_library, Buffers, Call, Lent};
 use crate::files::{board_in, file_in, file_of, number_of};
+use job_file::{Job, Version, AT_RACK};
+use second::Board;
 
 pub const OF_MERGING: &[Mistake] = &[
     ("merge puts the lines of the second board first", |call, lent| match (call, boards_of(lent)) {
