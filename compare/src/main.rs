@@ -26,8 +26,8 @@ compare [--cases N] [--seed S] [--last FILE]     compare the library on N calls,
 compare --orders N [--seed S]                    compare it on N placing orders alone
 compare --mendings N [--seed S]                  compare it on N calls that mend, and some that read what is mended
 compare --hex FILE [--seed S]                    compare it on one job file, given as hex digits
-compare --program PROGRAM [--files N]            compare what the program prints for N files, 2,000 without N,
-                                                 1,000 at least
+compare --program PROGRAM [--files N]            compare what the program prints and its exit status for N
+                                                 files, 2,000 without N, 1,000 at least
 compare --self-test [--seed S]                   compare the library with a mistake put in, for each mistake that
                                                  must be found
 --last FILE writes each job file to FILE before its calls, to find one that ends the program.";

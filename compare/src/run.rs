@@ -2,7 +2,7 @@
 
 use std::io::Write;
 use std::path::PathBuf;
-use std::process::{Command, Stdio};
+use std::process::{Command, Output, Stdio};
 use std::{fs, io, thread};
 
 use job_file::{Job, Version, MOST_PLACEMENTS};
@@ -736,7 +736,10 @@ fn is_own_plan(board: &Board, plan: &[u8]) -> bool {
     plan.iter().zip(board.lines()).all(|(&tip, line)| tip < 64 && line.set >> tip & 1 == 1)
 }
 
-/// Compares what a program prints for good and damaged files with the second implementation's report.
+/// The exit status of the program for every file that it can read and whose text it can write, a refused one too.
+const PROGRAM_STATUS: i32 = 0;
+
+/// Compares what a program prints for good and damaged files with the second implementation's report, and how it ends.
 pub fn compare_program(program: &str, seed: u64, files: u64) -> Result<(), Difference> {
     let mut random = Random::new(seed);
     let fixed_boards = fixed_boards();
@@ -755,18 +758,24 @@ pub fn compare_program(program: &str, seed: u64, files: u64) -> Result<(), Diffe
             file = damaged(&mut random, &file);
         }
         let failed = |what: String| Difference { file: file.clone(), other: Vec::new(), what };
-        let printed = printed_by(program, &file).map_err(|error| failed(format!("program {program}: {error}")))?;
+        let output = output_of(program, &file).map_err(|error| failed(format!("program {program}: {error}")))?;
         let expected = second::report(&file);
-        if printed != expected {
-            let (printed, expected) = (String::from_utf8_lossy(&printed), String::from_utf8_lossy(&expected));
+        if output.stdout != expected {
+            let (printed, expected) = (String::from_utf8_lossy(&output.stdout), String::from_utf8_lossy(&expected));
             return Err(failed(format!("program {program} printed\n{printed}\nsecond implementation\n{expected}")));
+        }
+        if output.status.code() != Some(PROGRAM_STATUS) {
+            let ended = output.status;
+            return Err(failed(format!(
+                "program {program} ended with {ended}, expected exit status: {PROGRAM_STATUS}"
+            )));
         }
     }
     Ok(())
 }
 
-/// What a program prints for a file on its standard input.
-fn printed_by(program: &str, file: &[u8]) -> io::Result<Vec<u8>> {
+/// What a program prints for a file on its standard input, and how it ends.
+fn output_of(program: &str, file: &[u8]) -> io::Result<Output> {
     let mut child = Command::new(program).stdin(Stdio::piped()).stdout(Stdio::piped()).spawn()?;
     let mut input = child.stdin.take().expect("the input is a pipe");
     let bytes = file.to_vec();
@@ -774,8 +783,5 @@ fn printed_by(program: &str, file: &[u8]) -> io::Result<Vec<u8>> {
     let writer = thread::spawn(move || drop(input.write_all(&bytes)));
     let output = child.wait_with_output()?;
     writer.join().expect("the writer ends");
-    if output.status.code().is_none() {
-        return Err(io::Error::other(format!("ended by a signal: {}", output.status)));
-    }
-    Ok(output.stdout)
+    Ok(output)
 }

@@ -40,6 +40,27 @@ fn another_program_is_told_apart() {
     assert!(output.starts_with("DIFFERENCE: program cat printed\nTIP") && status == 1, "{output}");
 }
 
+/// What comparing a program tells that prints what the first job file gives, and ends as the command of the shell says.
+fn told_of_program_that_ends(end: &str) -> (String, i32) {
+    let program = concat!(env!("CARGO_MANIFEST_DIR"), "/tests/first-text");
+    let mut compare = Command::new(env!("CARGO_BIN_EXE_compare"));
+    let output = compare.env("END", end).args(["--program", program]).output().expect("running compare");
+    let text = String::from_utf8(output.stdout).expect("plain text");
+    (text.replace(program, "first-text"), output.status.code().expect("an exit status"))
+}
+
+#[test]
+fn another_exit_status_is_told() {
+    for (end, ended) in [("exit 3", "exit status: 3"), ("kill -KILL $$", "signal: 9 (SIGKILL)")] {
+        let told = format!("DIFFERENCE: program first-text ended with {ended}, expected exit status: 0\n");
+        let (output, status) = told_of_program_that_ends(end);
+        assert!(output.starts_with(&told) && status == 1, "{output}");
+    }
+    // With the expected status a later file is the first that differs.
+    let (output, status) = told_of_program_that_ends("exit 0");
+    assert!(output.starts_with("DIFFERENCE: program first-text printed\n") && status == 1, "{output}");
+}
+
 #[test]
 fn one_file_is_compared() {
     let path = Path::new(env!("CARGO_TARGET_TMPDIR")).join("example.hex");

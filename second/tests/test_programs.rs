@@ -14,6 +14,8 @@ mod calls;
 mod counts;
 #[path = "test_programs/junk.rs"]
 mod junk;
+#[path = "test_programs/orders.rs"]
+mod orders;
 #[path = "test_programs/small.rs"]
 mod small;
 

@@ -1,11 +1,12 @@
 // The calls of the script: each prints what it answers, and gives the next state.
+use crate::lent::lent;
 use crate::record::{Patch, State};
-use crate::shown::{Back, Told, Values};
+use crate::shown::{Back, Told, Values, show_told};
 use board::{Board, Common, Stage};
 use refusal::Refused;
 use std::io;
 use std::io::Write;
-use try_lib::{FILE_ROOM, JUNK, JUNK_PLACE, PLAN_ROOM, TABLE_ROOM};
+use try_lib::FILE_ROOM;
 
 // The most lines that are filled at once.
 const MOST_TIMES: usize = 1000;
@@ -36,6 +37,22 @@ pub(crate) enum Call {
         mounted: Option<usize>,
     },
     Write {
+        room: Option<usize>,
+    },
+    Goal {
+        pairs: u32,
+    },
+    Check {
+        claim: u32,
+        room: Option<usize>,
+        places: Option<usize>,
+    },
+    Junior {
+        room: Option<usize>,
+    },
+    // Merge and alone take the board and then the held one.
+    Merge,
+    Alone {
         room: Option<usize>,
     },
 }
@@ -74,29 +91,6 @@ impl Fill {
     }
 }
 
-// The part of a buffer that is lent.
-fn lent<T>(buffer: &mut [T], room: Option<usize>) -> &mut [T] {
-    let all = buffer.len();
-    let room = room.unwrap_or(all).min(all);
-    &mut buffer[..room]
-}
-
-// How much of a buffer an accepted call writes; a refused one writes none of it.
-fn written<T>(told: &Result<T, Refused>, accepted: usize) -> usize {
-    if told.is_ok() { accepted } else { 0 }
-}
-
-// Prints what a call tells that was given one board and leaves another.
-fn show_told<W: Write, T>(
-    out: &mut W,
-    given: &Board,
-    told: &Result<T, Refused>,
-    left: &Board,
-) -> io::Result<()> {
-    let back = Back::new(given, left);
-    writeln!(out, "{}{back}", Told::new(told))
-}
-
 fn common_tip<W: Write>(out: &mut W, board: &Board) -> io::Result<()> {
     let told = board.common_tip();
     write!(out, "{}", Told::new(&told))?;
@@ -124,47 +118,17 @@ fn keep<W: Write>(out: &mut W, board: &Board, k: u16) -> io::Result<Board> {
     Ok(kept)
 }
 
-fn quick<W: Write>(
-    out: &mut W,
-    board: &Board,
-    room: Option<usize>,
-    mounted: Option<usize>,
-) -> io::Result<()> {
-    let mut plan = [JUNK; PLAN_ROOM];
-    let told = board.quick(mounted, lent(&mut plan, room));
-    let plan = Values::new(&plan, JUNK, written(&told, board.count));
-    let back = Back::new(board, board);
-    write!(out, "{} pairs {}", Told::new(&told), told.unwrap_or(0))?;
-    writeln!(out, " plan{plan}{back}")
-}
-
-fn best<W: Write>(
-    out: &mut W,
-    board: &Board,
-    room: Option<usize>,
-    places: Option<usize>,
-    mounted: Option<usize>,
-) -> io::Result<()> {
-    let mut plan = [JUNK; PLAN_ROOM];
-    let mut table = [JUNK_PLACE; TABLE_ROOM];
-    let told = board.best(mounted, lent(&mut plan, room), lent(&mut table, places));
-    let plan = Values::new(&plan, JUNK, written(&told, board.count));
-    let table = Values::new(
-        &table,
-        JUNK_PLACE,
-        written(&told, board.rack.saturating_mul(board.rack)),
-    );
-    let back = Back::new(board, board);
-    write!(out, "{} pairs {}", Told::new(&told), told.unwrap_or(0))?;
-    writeln!(out, " plan{plan} table{table}{back}")
-}
-
 // Gives the file that is written.
-fn write<W: Write>(out: &mut W, board: &Board, room: Option<usize>) -> io::Result<[u8; FILE_ROOM]> {
-    let mut file = [JUNK; FILE_ROOM];
+fn write<W: Write>(
+    out: &mut W,
+    board: &Board,
+    room: Option<usize>,
+    junk: u8,
+) -> io::Result<[u8; FILE_ROOM]> {
+    let mut file = [junk; FILE_ROOM];
     let told = board.write(lent(&mut file, room));
     let length = told.unwrap_or(0);
-    let bytes = Values::new(&file, JUNK, length);
+    let bytes = Values::new(&file, junk, length);
     let back = Back::new(board, board);
     write!(out, "{} bytes {length}", Told::new(&told))?;
     writeln!(out, " file{bytes}{back}")?;
@@ -199,6 +163,24 @@ const EVERY_CALL: &[(&str, Call)] = &[
         },
     ),
     ("write", Call::Write { room: None }),
+    ("goal", Call::Goal { pairs: 1 }),
+    (
+        "check",
+        Call::Check {
+            claim: 0,
+            room: None,
+            places: None,
+        },
+    ),
+    ("junior", Call::Junior { room: None }),
+    ("merge", Call::Merge),
+    ("alone", Call::Alone { room: None }),
+];
+
+// Those that are made once more, with the record as the second board.
+const ON_TWO_BOARDS: &[(&str, Call)] = &[
+    ("held merge", Call::Merge),
+    ("held alone", Call::Alone { room: None }),
 ];
 
 impl State {
@@ -227,16 +209,25 @@ impl State {
                 self.held = keep(out, &given, k)?;
                 Ok(())
             }
-            Call::Quick { room, mounted } => quick(out, &given, room, mounted),
+            Call::Quick { room, mounted } => self.quick(out, room, mounted),
             Call::Best {
                 room,
                 places,
                 mounted,
-            } => best(out, &given, room, places, mounted),
+            } => self.best(out, room, places, mounted),
             Call::Write { room } => {
-                self.file = write(out, &given, room)?;
+                self.file = write(out, &given, room, self.junk)?;
                 Ok(())
             }
+            Call::Goal { pairs } => self.goal(out, pairs),
+            Call::Check {
+                claim,
+                room,
+                places,
+            } => self.check(out, claim, room, places),
+            Call::Junior { room } => self.junior(out, room),
+            Call::Merge => self.merge(out),
+            Call::Alone { room } => self.alone(out, room),
         }
     }
 
@@ -256,21 +247,30 @@ impl State {
         show_told(out, &self.board, &read, &self.held)
     }
 
-    // The record in a stage, then each call on it.
-    pub(crate) fn every<W: Write>(&self, out: &mut W, stage: Stage) -> io::Result<()> {
-        let record = Board {
-            stage,
-            ..self.board
-        };
-        writeln!(out, " record{}", Back::new(&Board::blank(), &record))?;
-        for (name, call) in EVERY_CALL {
+    // Each of the calls on the state as it is.
+    fn each<W: Write>(&self, out: &mut W, calls: &[(&str, Call)]) -> io::Result<()> {
+        for (name, call) in calls {
             write!(out, " {name}")?;
-            let mut state = State {
-                board: record,
-                ..*self
-            };
+            let mut state = *self;
             state.call(out, *call)?;
         }
         Ok(())
+    }
+
+    // The record in a stage, then each call on it.
+    pub(crate) fn every<W: Write>(&self, out: &mut W, stage: Stage) -> io::Result<()> {
+        let board = Board {
+            stage,
+            ..self.board
+        };
+        writeln!(out, " record{}", Back::new(&Board::blank(), &board))?;
+        let record = State { board, ..*self };
+        record.each(out, EVERY_CALL)?;
+        let behind = State {
+            board: self.held,
+            held: board,
+            ..*self
+        };
+        behind.each(out, ON_TWO_BOARDS)
     }
 }

@@ -2,6 +2,9 @@
 #![tactic(auto)]
 
 mod calls;
+mod lent;
+mod orders;
+mod plans;
 mod record;
 mod script;
 mod shown;
@@ -18,6 +21,7 @@ fn run<W: Write>(out: &mut W, state: &mut State, command: &Command) -> io::Resul
         Command::Call(call) => state.call(out, *call),
         Command::Read { length, patches } => state.read(out, *length, patches),
         Command::Every(stage) => state.every(out, *stage),
+        Command::Order { room } => state.orders.order(out, *room, state.junk),
         Command::Edit(edit) => {
             state.edit(*edit);
             Ok(())

@@ -1,7 +1,9 @@
 // The script as it is written: its lines, their numbers and the commands that they stand for.
 use crate::calls::{Call, Fill};
+use crate::orders::OrderEdit;
 use crate::record::{Edit, Patch};
 use board::Stage;
+use ordering::{Part, Rule};
 use std::alloc::{AllocError, AllocFailed, Global};
 use std::error::Error;
 use std::num::ParseIntError;
@@ -59,6 +61,7 @@ pub(crate) enum Command {
     Call(Call),
     Read { length: usize, patches: Vec<Patch> },
     Every(Stage),
+    Order { room: Option<usize> },
     Edit(Edit),
 }
 
@@ -99,6 +102,10 @@ impl FromStr for Argument {
 
 fn byte(number: u64) -> u8 {
     u8::try_from(number).unwrap_or(u8::MAX)
+}
+
+fn pairs(number: u64) -> u32 {
+    u32::try_from(number).unwrap_or(u32::MAX)
 }
 
 fn stage(number: u64) -> Stage {
@@ -163,6 +170,56 @@ impl Call {
             ("write", _) => Some(Call::Write {
                 room: given(numbers, 0),
             }),
+            _ => Call::of_plans(word, numbers),
+        }
+    }
+
+    // The call of a goal, a check, the Junior or two boards that a word stands for, if any does.
+    fn of_plans(word: &str, numbers: &[u64]) -> Option<Call> {
+        match (word, numbers) {
+            ("goal", [goal]) => Some(Call::Goal {
+                pairs: pairs(*goal),
+            }),
+            ("check", [claim, rest @ ..]) => Some(Call::Check {
+                claim: pairs(*claim),
+                room: given(rest, 0),
+                places: given(rest, 1),
+            }),
+            ("junior", _) => Some(Call::Junior {
+                room: given(numbers, 0),
+            }),
+            ("merge", []) => Some(Call::Merge),
+            ("alone", _) => Some(Call::Alone {
+                room: given(numbers, 0),
+            }),
+            _ => None,
+        }
+    }
+}
+
+impl OrderEdit {
+    // The change of parts or rules that a word stands for, if any does.
+    fn new(word: &str, numbers: &[u64]) -> Option<OrderEdit> {
+        match (word, numbers) {
+            ("parts", [count]) => Some(OrderEdit::Parts(*count as usize)),
+            ("part", [from, to, first, last, fine, tall]) => Some(OrderEdit::Part {
+                first: *from as usize,
+                last: *to as usize,
+                part: Part {
+                    first: *first as usize,
+                    last: *last as usize,
+                    fine: *fine != 0,
+                    tall: *tall != 0,
+                },
+            }),
+            ("rules", [count]) => Some(OrderEdit::Rules(*count as usize)),
+            ("rule", [at, earlier, later]) => Some(OrderEdit::Rule {
+                at: *at as usize,
+                rule: Rule {
+                    earlier: *earlier as usize,
+                    later: *later as usize,
+                },
+            }),
             _ => None,
         }
     }
@@ -195,7 +252,18 @@ impl Edit {
                 at: *at as usize,
                 number: *number,
             }),
-            _ => None,
+            ("plan", [first, last, tip]) => Some(Edit::Plan {
+                first: *first as usize,
+                last: *last as usize,
+                tip: byte(*tip),
+            }),
+            ("table", [first, last, number]) => Some(Edit::Table {
+                first: *first as usize,
+                last: *last as usize,
+                pairs: pairs(*number),
+            }),
+            ("junk", [to]) => Some(Edit::Junk(byte(*to))),
+            _ => OrderEdit::new(word, numbers).map(Edit::Order),
         }
     }
 }
@@ -208,6 +276,9 @@ impl Command {
                 patches: patches(alloc, rest)?,
             }),
             ("every", [number]) => Ok(Command::Every(stage(*number))),
+            ("order", _) => Ok(Command::Order {
+                room: given(numbers, 0),
+            }),
             _ => Call::new(word, numbers)
                 .map(Command::Call)
                 .or(Edit::new(word, numbers).map(Command::Edit))

@@ -1,7 +1,8 @@
 // How refusals, buffers and boards are printed.
 use board::Board;
 use refusal::Refused;
-use std::fmt;
+use std::io::Write;
+use std::{fmt, io};
 use try_lib::changes;
 
 // How many values are shown one by one.
@@ -118,4 +119,15 @@ impl fmt::Display for Back<'_> {
         }
         Ok(())
     }
+}
+
+// Prints what a call tells that was given one board and leaves another.
+pub(crate) fn show_told<W: Write, T>(
+    out: &mut W,
+    given: &Board,
+    told: &Result<T, Refused>,
+    left: &Board,
+) -> io::Result<()> {
+    let back = Back::new(given, left);
+    writeln!(out, "{}{back}", Told::new(told))
 }

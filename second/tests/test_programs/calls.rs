@@ -7,16 +7,45 @@ use std::ops::RangeInclusive;
 use second::{Answer, Board, Stage};
 
 use crate::boards::{differences, show_number};
-use crate::junk::{self, show_list, Junk};
+use crate::junk::{self, show_list};
+use crate::orders::Orders;
 
 /// A number that the script does not give.
 const NOT_GIVEN: u64 = u64::MAX;
 
-/// What a line of the script finds: the board, the one that is held beside it, and the bytes of a job file.
+/// The calls that `every` makes on a record, and with which numbers.
+const EVERY_CALL: [(&str, &[u64]); 12] = [
+    ("add", &[1, 1]),
+    ("close", &[]),
+    ("common", &[]),
+    ("keep", &[5]),
+    ("quick", &[]),
+    ("best", &[]),
+    ("write", &[]),
+    ("goal", &[1]),
+    ("check", &[0]),
+    ("junior", &[]),
+    ("merge", &[]),
+    ("alone", &[]),
+];
+
+/// The calls that it makes once more, with the record as the second board.
+const ON_TWO_BOARDS: [&str; 2] = ["merge", "alone"];
+
+/// What a line of the script finds.
+#[derive(Clone)]
 struct State {
     board: Board,
+    /// The board that is held beside it, the second one of a call on two.
     held: Board,
+    /// The bytes of a job file.
     file: [u8; junk::FILE],
+    /// What a check looks at.
+    plan: [u8; junk::PLAN],
+    table: [u32; junk::TABLE],
+    orders: Orders,
+    /// What buffers are filled with before a call.
+    junk: u8,
 }
 
 fn stage_of(number: u64) -> Stage {
@@ -94,66 +123,18 @@ fn mounted(number: u64) -> Option<usize> {
     (number != NOT_GIVEN).then_some(number as usize)
 }
 
-fn show_quick(board: &Board, plan_room: u64, tip: u64) -> String {
-    let mut plan = junk::plan();
-    let room = room(plan_room, plan.len());
-    let answer = board.clone().quick(mounted(tip), &mut plan[..room]);
-    format!(
-        " {} pairs {} plan{}{}",
-        show_number(&answer),
-        answer.value,
-        show_list(&plan, Junk::JUNK, written(&answer, board.count)),
-        show_board(board, &answer.board)
-    )
-}
-
-fn show_best(board: &Board, plan_room: u64, places: u64, tip: u64) -> String {
-    let mut plan = junk::plan();
-    let mut table = junk::table();
-    let (room, places) = (room(plan_room, plan.len()), room(places, table.len()));
-    let answer = board.clone().best(mounted(tip), &mut plan[..room], &mut table[..places]);
-    let square = board.rack.saturating_mul(board.rack);
-    format!(
-        " {} pairs {} plan{} table{}{}",
-        show_number(&answer),
-        answer.value,
-        show_list(&plan, Junk::JUNK, written(&answer, board.count)),
-        show_list(&table, Junk::JUNK, written(&answer, square)),
-        show_board(board, &answer.board)
-    )
-}
-
-fn show_write(board: &Board, out: u64) -> (String, [u8; junk::FILE]) {
-    let mut file = junk::file();
-    let room = room(out, file.len());
-    let answer = board.clone().write(&mut file[..room]);
-    let shown = format!(
-        " {} bytes {} file{}{}",
-        show_number(&answer),
-        answer.value,
-        show_list(&file, Junk::JUNK, answer.value),
-        show_board(board, &answer.board)
-    );
-    (shown, file)
-}
-
-/// The record, then each call on it.
-fn show_every(board: &Board) -> String {
-    let add = show_answer(board, &board.clone().add(1, 1));
-    let close = show_answer(board, &board.clone().close());
-    let common = show_common(board);
-    let keep = show_keep(board, 5).0;
-    let quick = show_quick(board, NOT_GIVEN, NOT_GIVEN);
-    let best = show_best(board, NOT_GIVEN, NOT_GIVEN, NOT_GIVEN);
-    let write = show_write(board, NOT_GIVEN).0;
-    let record = show_board(&Board::open(1).board, board);
-    format!(" record{record} add{add} close{close} common{common} keep{keep} quick{quick} best{best} write{write}")
-}
-
 impl State {
-    /// The board before the first line is an open one of rack 1 without lines, and so is the held one; the file is empty.
+    /// The board before the first line is an open one of rack 1 without lines, and so is the held one; buffers are junk.
     fn new() -> State {
-        State { board: Board::open(1).board, held: Board::open(1).board, file: [0; junk::FILE] }
+        State {
+            board: Board::open(1).board,
+            held: Board::open(1).board,
+            file: [junk::JUNK; junk::FILE],
+            plan: [junk::JUNK; junk::PLAN],
+            table: [junk::place(junk::JUNK); junk::TABLE],
+            orders: Orders::new(),
+            junk: junk::JUNK,
+        }
     }
 
     fn answered(&mut self, answer: Answer<()>) -> String {
@@ -176,6 +157,95 @@ impl State {
     fn put(&mut self, at: u64, bytes: &[u8]) -> String {
         self.file[at as usize..][..bytes.len()].copy_from_slice(bytes);
         String::new()
+    }
+
+    fn quick(&mut self, plan_room: u64, tip: u64) -> String {
+        self.plan.fill(self.junk);
+        let room = room(plan_room, junk::PLAN);
+        let answer = self.board.clone().quick(mounted(tip), &mut self.plan[..room]);
+        let plan = show_list(&self.plan, self.junk, written(&answer, self.board.count));
+        let board = show_board(&self.board, &answer.board);
+        format!(" {} pairs {} plan{plan}{board}", show_number(&answer), answer.value)
+    }
+
+    fn best(&mut self, plan_room: u64, places: u64, tip: u64) -> String {
+        let empty = junk::place(self.junk);
+        self.plan.fill(self.junk);
+        self.table.fill(empty);
+        let (room, places) = (room(plan_room, junk::PLAN), room(places, junk::TABLE));
+        let answer = self.board.clone().best(mounted(tip), &mut self.plan[..room], &mut self.table[..places]);
+        let square = self.board.rack.saturating_mul(self.board.rack);
+        let plan = show_list(&self.plan, self.junk, written(&answer, self.board.count));
+        let table = show_list(&self.table, empty, written(&answer, square));
+        let board = show_board(&self.board, &answer.board);
+        format!(" {} pairs {} plan{plan} table{table}{board}", show_number(&answer), answer.value)
+    }
+
+    fn junior(&mut self, plan_room: u64) -> String {
+        self.plan.fill(self.junk);
+        let room = room(plan_room, junk::PLAN);
+        let answer = self.board.clone().junior(&mut self.plan[..room]);
+        let plan = show_list(&self.plan, self.junk, written(&answer, self.board.count));
+        let board = show_board(&self.board, &answer.board);
+        let found = answer.value;
+        format!(" {} pairs {} u {} v {} plan{plan}{board}", show_number(&answer), found.pairs, found.u, found.v)
+    }
+
+    fn check(&self, claim: u64, plan_room: u64, places: u64) -> String {
+        let (room, places) = (room(plan_room, junk::PLAN), room(places, junk::TABLE));
+        let claim = claim.try_into().expect("a claim");
+        show_answer(&self.board, &self.board.clone().check(&self.plan[..room], claim, &self.table[..places]))
+    }
+
+    fn goal(&mut self, pairs: u64) -> String {
+        let answer = self.board.clone().goal(pairs.try_into().expect("a goal"));
+        let shown = show_answer(&self.board, &answer);
+        self.held = answer.board;
+        shown
+    }
+
+    /// Both boards as they come back, then the panel beside the first.
+    fn merge(&self) -> String {
+        let merged = self.board.clone().merge(self.held.clone());
+        let first = show_board(&self.board, &merged.first);
+        let second = show_board(&self.held, &merged.second);
+        let panel = show_board(&self.board, &merged.panel);
+        let (first, second) = (first.trim_end(), second.trim_end());
+        format!(" number {} place {}{first}{second}{panel}", merged.number, merged.place)
+    }
+
+    fn alone(&self, plan_room: u64) -> String {
+        let mut plan = [self.junk; junk::TWO_PLANS];
+        let room = room(plan_room, plan.len());
+        let alone = self.board.clone().alone(self.held.clone(), &mut plan[..room]);
+        let written = if alone.number == 0 { self.board.count + self.held.count } else { 0 };
+        let plan = show_list(&plan, self.junk, written);
+        let first = show_board(&self.board, &alone.first);
+        let second = show_board(&self.held, &alone.second);
+        format!(
+            " number {} place {} pairs {} {} plan{plan}{}{second}",
+            alone.number,
+            alone.place,
+            alone.first_pairs,
+            alone.second_pairs,
+            first.trim_end()
+        )
+    }
+
+    /// The record in a stage, then each call on it by itself, those on two boards in both orders.
+    fn every(&self, stage: Stage) -> String {
+        let board = Board { stage, ..self.board.clone() };
+        let blank = Board::open(1).board;
+        let mut shown = format!(" record{}", show_board(&blank, &board));
+        let record = State { board, ..self.clone() };
+        for (word, numbers) in EVERY_CALL {
+            shown += &format!(" {word}{}", record.clone().run(word, numbers));
+        }
+        let behind = State { board: self.held.clone(), held: record.board, ..self.clone() };
+        for word in ON_TWO_BOARDS {
+            shown += &format!(" held {word}{}", behind.clone().run(word, &[]));
+        }
+        shown
     }
 
     /// The first bytes of the file, with others at some places.
@@ -202,32 +272,48 @@ impl State {
                 self.held = kept;
                 shown
             }
-            ("quick", []) => show_quick(&self.board, NOT_GIVEN, NOT_GIVEN),
-            ("quick", &[room]) => show_quick(&self.board, room, NOT_GIVEN),
-            ("quick", &[room, tip]) => show_quick(&self.board, room, tip),
-            ("best", []) => show_best(&self.board, NOT_GIVEN, NOT_GIVEN, NOT_GIVEN),
-            ("best", &[room, places]) => show_best(&self.board, room, places, NOT_GIVEN),
-            ("best", &[room, places, tip]) => show_best(&self.board, room, places, tip),
+            ("goal", &[pairs]) => self.goal(pairs),
+            ("quick", []) => self.quick(NOT_GIVEN, NOT_GIVEN),
+            ("quick", &[room]) => self.quick(room, NOT_GIVEN),
+            ("quick", &[room, tip]) => self.quick(room, tip),
+            ("best", []) => self.best(NOT_GIVEN, NOT_GIVEN, NOT_GIVEN),
+            ("best", &[room, places]) => self.best(room, places, NOT_GIVEN),
+            ("best", &[room, places, tip]) => self.best(room, places, tip),
+            ("check", &[claim]) => self.check(claim, NOT_GIVEN, NOT_GIVEN),
+            ("check", &[claim, room]) => self.check(claim, room, NOT_GIVEN),
+            ("check", &[claim, room, places]) => self.check(claim, room, places),
+            ("junior", []) => self.junior(NOT_GIVEN),
+            ("junior", &[room]) => self.junior(room),
+            ("merge", []) => self.merge(),
+            ("alone", []) => self.alone(NOT_GIVEN),
+            ("alone", &[room]) => self.alone(room),
+            ("order", []) => self.orders.show(junk::ORDER, self.junk),
+            ("order", &[at_most]) => self.orders.show(room(at_most, junk::ORDER), self.junk),
             ("write", []) => self.write(NOT_GIVEN),
             ("write", &[room]) => self.write(room),
             ("read", &[length, ref changes @ ..]) => self.read(length, changes),
-            ("every", &[stage]) => show_every(&Board { stage: stage_of(stage), ..self.board.clone() }),
+            ("every", &[stage]) => self.every(stage_of(stage)),
             ("byte", &[at, number]) => self.put(at, &[byte(number)]),
             ("put", &[at, number]) => self.put(at, &number.to_be_bytes()),
             _ => {
-                self.change(word, numbers);
+                if !self.orders.change(word, numbers) {
+                    self.change(word, numbers);
+                }
                 String::new()
             }
         }
     }
 
-    fn write(&mut self, room: u64) -> String {
-        let (shown, file) = show_write(&self.board, room);
-        self.file = file;
-        shown
+    fn write(&mut self, at_most: u64) -> String {
+        self.file.fill(self.junk);
+        let room = room(at_most, junk::FILE);
+        let answer = self.board.clone().write(&mut self.file[..room]);
+        let file = show_list(&self.file, self.junk, answer.value);
+        let board = show_board(&self.board, &answer.board);
+        format!(" {} bytes {} file{file}{board}", show_number(&answer), answer.value)
     }
 
-    /// The record by hand.
+    /// Records, buffers and plans by hand.
     fn change(&mut self, word: &str, numbers: &[u64]) {
         match (word, numbers) {
             ("hold", []) => self.held = self.board.clone(),
@@ -239,6 +325,11 @@ impl State {
             ("quantity", &[first, last, quantity]) => {
                 self.board.quantities[first as usize..=last as usize].fill(byte(quantity));
             }
+            ("plan", &[first, last, tip]) => self.plan[first as usize..=last as usize].fill(byte(tip)),
+            ("table", &[first, last, number]) => {
+                self.table[first as usize..=last as usize].fill(number.try_into().expect("a number of pairs"));
+            }
+            ("junk", &[number]) => self.junk = byte(number),
             _ => panic!("{word} {numbers:?}"),
         }
     }

@@ -1,35 +1,26 @@
 //! Lent buffers full of junk, and what a call left in them.
 
-/// The value that a buffer is filled with.
-pub trait Junk {
-    const JUNK: Self;
-}
-
-/// No tip, and no byte of the files written here.
-impl Junk for u8 {
-    const JUNK: u8 = 0xAA;
-}
-
-/// More than any number of pairs.
-impl Junk for u32 {
-    const JUNK: u32 = 0xAAAA_AAAA;
-}
+/// What buffers are filled with: no tip, and no byte of the files written here.
+pub const JUNK: u8 = 0xAA;
 
 /// Eight bytes more than a plan of 512 lines.
-pub fn plan() -> [u8; 520] {
-    [Junk::JUNK; 520]
-}
+pub const PLAN: usize = 520;
+
+/// Eight bytes more than the plans of two boards of 512 lines.
+pub const TWO_PLANS: usize = 1032;
 
 /// Four places more than the table of a rack of 64 tips.
-pub fn table() -> [u32; 4100] {
-    [Junk::JUNK; 4100]
-}
+pub const TABLE: usize = 4100;
 
 /// Eight bytes more than the job file of 512 lines with quantities.
 pub const FILE: usize = 4624;
 
-pub fn file() -> [u8; FILE] {
-    [Junk::JUNK; FILE]
+/// Eight bytes more than an order of 128 parts.
+pub const ORDER: usize = 136;
+
+/// A place of a table whose bytes are all this one.
+pub fn place(byte: u8) -> u32 {
+    u32::from_ne_bytes([byte; 4])
 }
 
 /// How many values of a list are shown one by one.

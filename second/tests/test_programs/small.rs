@@ -39,7 +39,7 @@ impl Tally {
 }
 
 fn is_best_refused(board: &Board) -> bool {
-    board.clone().best(None, &mut junk::plan(), &mut junk::table()).number == 25
+    board.clone().best(None, &mut [junk::JUNK; junk::PLAN], &mut [junk::place(junk::JUNK); junk::TABLE]).number == 25
 }
 
 /// The calls on one board: keep for each k from 0 to the number of placements and one more.
