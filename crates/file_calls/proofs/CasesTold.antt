@@ -3,15 +3,12 @@ use Prim.Native.Nat.{ℕ, ◌+◌}
 use mathlib.Core.Path.{◌≡◌, sym, subst}
 use mathlib.Core.List.{List, ◌++◌}
 use lib.ListN.{length}
-use Rattle.std.specs.Prelude.{Result, Ok, Err}
 use Rattle.model.specs.Choice.{Mounted}
 use Rattle.model.specs.CommonTip.{margin}
 use Rattle.placements.specs.Repeated.{total, repeated}
 use Rattle.placements.specs.Keep.{prune_q}
 use Rattle.job.specs.Job.{rack_in, sets_in, quantities_in, read_refusal}
 use Rattle.job.proofs.Reading.{read_good}
-use Rattle.refusal.specs.Reasons.{refusal_of}
-use Rattle.refusal.specs.declared.Refused.{Refused}
 use Rattle.cases.specs.Cases.{Told}
 use Rattle.cases.proofs.Laws.{told_or}
 use Rattle.call_refusals.specs.Calls.{keep_refusal}
@@ -22,8 +19,7 @@ use Rattle.panel.specs.Panel.{merge_of, alone_of}
 use Rattle.call_cases.specs.Calls.{mounted_cases}
 use Rattle.call_cases.proofs.Calls as Of
 use Rattle.call_cases.proofs.Reading.{read_told}
-use Rattle.file_calls.specs.Outcomes.{Outcome, outcome_of}
-use Rattle.file_calls.specs.declared.Counts.{Counts}
+use Rattle.file_calls.specs.Outcomes.{Outcome}
 use Rattle.file_calls.specs.Calls.{read_in, common_in, keep_in, mounted_in, quick_in, best_in, check_in}
 use Rattle.file_calls.specs.Goal.{goal_refusal_in, struck_in, goal_in}
 use Rattle.file_calls.specs.Junior.{junior_in}
@@ -32,13 +28,9 @@ use Rattle.file_calls.specs.Cases.{read_cases, keep_cases, goal_cases, quick_cas
 use Rattle.file_calls.specs.Cases.{reads_cases, merge_cases, alone_cases}
 
 module _ (file : List ℕ) where
-  pub header_told : (x : Result Counts Refused) → outcome_of x ≡ read_in file → Told (read_cases file) (refusal_of x)
+  pub header_told : {o : Outcome} → o ≡ read_in file → Told (read_cases file) o.refusal
   unfolding read_in
-  header_told x e = by x (subst (λ o. Told (read_cases file) o.refusal) (sym e) (read_told file))
-    where
-      by : (y : Result Counts Refused) → Told (read_cases file) (outcome_of y).refusal → Told (read_cases file) (refusal_of y)
-      by (Ok n) t = t
-      by (Err r) t = t
+  header_told e = subst (λ x. Told (read_cases file) x.refusal) (sym e) (read_told file)
 
   pub common_told : {o : Outcome} → o ≡ common_in file → Told (read_cases file) o.refusal
   unfolding common_in common_of

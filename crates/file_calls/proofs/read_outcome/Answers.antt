@@ -1,5 +1,5 @@
 use mathlib.Core.Path.{◌≡◌, refl}
-use Rattle.std.proofs.Common.{rules, Ok, Err}
+use Rattle.std.proofs.Common.{rules, Err}
 use Rattle.refusal.proofs.Laws.{reason_not_0, refused}
 use Rattle.job.specs.Job.{rack_in, count_in}
 use Rattle.file_calls.specs.Calls.{read_in}
@@ -24,7 +24,7 @@ returns-clause-outcome c =
     rw (← told.refusal, header.rack-is, header.count-is, told.same) refl
 
 pub returns-in_err-opened-clause-cases : goal.returns-in_err-opened-clause-cases
-returns-in_err-opened-clause-cases c = header_told c.args.file.now _ (returns-in_err-opened-clause-outcome c)
+returns-in_err-opened-clause-cases c = header_told c.args.file.now (returns-in_err-opened-clause-outcome c)
 
 pub returns-clause-cases : goal.returns-clause-cases
-returns-clause-cases c = header_told c.args.file.now (Ok _) (returns-clause-outcome c)
+returns-clause-cases c = header_told c.args.file.now (returns-clause-outcome c)
