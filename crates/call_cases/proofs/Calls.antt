@@ -38,20 +38,20 @@ use Rattle.line_calls.specs.Lines.{check_of}
 use Rattle.line_calls.specs.Goal.{goal_asked, goal_of}
 use Rattle.line_calls.specs.Junior.{junior_refusal}
 use Rattle.panel.specs.Panel.{merge_refusal}
-use Rattle.call_cases.specs.State.{HasOutside}
+use Rattle.call_cases.specs.State.{line_cases}
 use Rattle.call_cases.specs.Calls.{OffRack, Broken, add_cases, keep_cases, goal_cases, mounted_cases, plan_cases, best_cases, check_cases}
 use Rattle.call_cases.specs.Calls.{junior_cases, write_cases, merge_cases}
 use Rattle.call_cases.proofs.Tests.{less_iff, unlike_iff, equal_iff, rack_iff, outside_iff, run_iff, foreign_iff, table_iff}
 use Rattle.call_cases.proofs.Tests.{within_iff, served_iff}
 
 -- 2, 3 or 15 of one line
-pub line_told : (m s q : ℕ) → Told (plain EmptyLine (s ≡ 0) ∷ plain TipOutside (HasOutside m s) ∷ plain ZeroQuantity (q ≡ 0) ∷ []) (refuse (line_number m s q))
+pub line_told : (m s q : ℕ) → Told (line_cases m s q) (refuse (line_number m s q))
 unfolding line_number or_else
 line_told m s q =
     let empty = when (is_empty s) 2 in
     let outside = when (not (in_rack m s)) 3 in
     let unplaced = when (eqb q 0) 15 in
-    subst (Told (plain EmptyLine (s ≡ 0) ∷ plain TipOutside (HasOutside m s) ∷ plain ZeroQuantity (q ≡ 0) ∷ [])) (grouped (is_empty s) (not (in_rack m s)) (eqb q 0))
+    subst (Told (line_cases m s q)) (grouped (is_empty s) (not (in_rack m s)) (eqb q 0))
     (told_or empty (or_else outside unplaced) _ _ (told_when EmptyLine (is_empty s) (equal_iff s 0)) (λ _.
     told_or outside unplaced _ _ (told_when TipOutside (not (in_rack m s)) (rack_iff m s)) (λ _.
     told_when ZeroQuantity (eqb q 0) (equal_iff q 0))))
@@ -84,7 +84,8 @@ module _ (earlier : Refusal) (cs : List Case) (before : Told cs earlier) where
       told_or earlier (when (ltb room n) 4) cs _ before (λ _. told_when ShortPlan (ltb room n) (less_iff room n))
 
   -- 11
-  pub write_told : (qs lines : List ℕ) (room : ℕ) → Told (cs ++ write_cases qs lines room) (write_refusal earlier (version_for qs) (length lines) room)
+  pub write_told : (qs lines : List ℕ) (room : ℕ)
+      → Told (cs ++ write_cases qs lines room) (write_refusal earlier (version_for qs) (length lines) room)
   unfolding write_refusal
   write_told qs lines room =
       let bytes = file_length (version_for qs) (length lines) in
@@ -152,7 +153,8 @@ module _ (earlier : Refusal) (cs : List Case) (before : Told cs earlier) where
         let unserved = when (not (is_served m (repeated qs lines))) 31 in
         subst (Told (cs ++ junior_cases m lines room)) (sym (or_assoc earlier (or_else long (or_else wide short)) unserved))
         (told_or earlier (or_else (or_else long (or_else wide short)) unserved) cs _ before (λ z.
-        told_or (or_else long (or_else wide short)) unserved (plain TooManyLines (junior_lines < n) ∷ plain RackSize (junior_tips < m) ∷ plain ShortPlan (room < n) ∷ []) _
+        told_or (or_else long (or_else wide short)) unserved
+        (plain TooManyLines (junior_lines < n) ∷ plain RackSize (junior_tips < m) ∷ plain ShortPlan (room < n) ∷ []) _
         (told_or long (or_else wide short) _ _ (told_when TooManyLines (ltb junior_lines n) (less_iff junior_lines n)) (λ _.
         told_or wide short _ _ (told_when RackSize (ltb junior_tips m) (less_iff junior_tips m)) (λ _.
         told_when ShortPlan (ltb room n) (less_iff room n))))

@@ -23,7 +23,7 @@ use Rattle.refusal.specs.declared.Reason.TheVariants.{RackSize, EmptyLine, TipOu
 use Rattle.refusal.specs.declared.Reason.TheVariants.{FileLength, ZeroQuantity, TooManyPlacements}
 use Rattle.cases.specs.Cases.{Case, Told, NoCase, Nowhere, First, plain, placed}
 use Rattle.cases.proofs.Laws.{told_or, told_when, told_at, told_none}
-use Rattle.call_cases.specs.State.{HasOutside}
+use Rattle.call_cases.specs.State.{HasOutside, line_cases}
 use Rattle.call_cases.specs.Reading.{BadLine, NoneBefore, start_cases, header_cases, bad_cases, read_cases}
 use Rattle.call_cases.proofs.Tests.{less_iff, unlike_iff, size_iff, over_first}
 use Rattle.call_cases.proofs.Calls.{line_told}
@@ -97,17 +97,17 @@ module _ (file : List ℕ) where
   abbrev number_of : ℕ → ℕ
   number_of i = line_number (rack_in file) (set_in file i) (quantity_in file i)
 
-  abbrev line_cases : ℕ → List Case
-  line_cases i = plain EmptyLine (set_in file i ≡ 0) ∷ plain TipOutside (HasOutside (rack_in file) (set_in file i)) ∷ plain ZeroQuantity (quantity_in file i ≡ 0) ∷ []
+  abbrev cases_of : ℕ → List Case
+  cases_of i = line_cases (rack_in file) (set_in file i) (quantity_in file i)
 
-  line_so : (i : ℕ) → Told (line_cases i) (refuse (number_of i))
+  line_so : (i : ℕ) → Told (cases_of i) (refuse (number_of i))
   line_so i = line_told (rack_in file) (set_in file i) (quantity_in file i)
 
   -- a line without a number is not bad
   unbad : (i : ℕ) → number_of i ≡ 0 → BadLine file i → ⊥
   unfolding NoCase
   unbad i z =
-      let (a, (b, (c, u))) = told_none (line_cases i) (refuse (number_of i)) (line_so i) z in
+      let (a, (b, (c, u))) = told_none (cases_of i) (refuse (number_of i)) (line_so i) z in
       ⊎_elim (λ e. a 0 (refl, e)) (⊎_elim (λ o. b 0 (refl, o)) (λ e. c 0 (refl, e)))
 
   before_bad : (j : ℕ) → j < bad_in file → BadLine file j → ⊥
@@ -160,12 +160,13 @@ module _ (file : List ℕ) where
   unplaced_bad : (i : ℕ) → Unplaced i → BadLine file i
   unplaced_bad i p = inr (inr p)
 
-  bad_here : bad_in file < count_in file → (number_of (bad_in file) ≡ 0 → ⊥) → Told (line_cases (bad_in file)) (refuse (number_of (bad_in file)))
+  bad_here : bad_in file < count_in file → (number_of (bad_in file) ≡ 0 → ⊥) → Told (cases_of (bad_in file)) (refuse (number_of (bad_in file)))
       → Told (bad_cases file) (record { number = number_of (bad_in file); place = bad_in file })
   unfolding Told
   bad_here l n (inl a) = inl (first_bad EmptyLine Empty empty_bad l a)
   bad_here l n (inr (x, inl a)) =
-      inr (nowhere EmptyLine Empty empty_bad (beyond_bad (bad_in file) a.here.1) (λ e. x 0 (refl, e)), inl (first_bad TipOutside Beyond beyond_bad l a))
+      let here = beyond_bad (bad_in file) a.here.1 in
+      inr (nowhere EmptyLine Empty empty_bad here (λ e. x 0 (refl, e)), inl (first_bad TipOutside Beyond beyond_bad l a))
   bad_here l n (inr (x, inr (y, inl a))) =
       let here = unplaced_bad (bad_in file) a.here.1 in
       inr (
@@ -177,7 +178,8 @@ module _ (file : List ℕ) where
   bad_none : count_in file ≤ bad_in file → Told (bad_cases file) none
   unfolding Told
   bad_none l =
-      inr (none_bad EmptyLine Empty empty_bad l, inr (none_bad TipOutside Beyond beyond_bad l, inr (none_bad ZeroQuantity Unplaced unplaced_bad l, refl)))
+      let unplaced = none_bad ZeroQuantity Unplaced unplaced_bad l in
+      inr (none_bad EmptyLine Empty empty_bad l, inr (none_bad TipOutside Beyond beyond_bad l, inr (unplaced, refl)))
 
   bad_told : Told (bad_cases file) (scan (λ n. eqb n 0) (λ i. get_or (line_numbers file) i 0) (line_numbers file))
   unfolding scan

@@ -72,7 +72,8 @@ foreign_iff (s ∷ lines) (t ∷ plan) e =
           at i l f (and_left (has s t) (is_valid lines plan) v) (λ w. T_not (is_valid lines plan) (back w) rest)),
     )
   where
-    at : (i : ℕ) → i < suc (length lines) → (T (has (get_or (s ∷ lines) i 0) (get_or (t ∷ plan) i 0)) → ⊥) → T (has s t) → (Foreign lines plan → ⊥) → ⊥
+    at : (i : ℕ) → i < suc (length lines) → (T (has (get_or (s ∷ lines) i 0) (get_or (t ∷ plan) i 0)) → ⊥)
+        → T (has s t) → (Foreign lines plan → ⊥) → ⊥
     at zero l f h k = f h
     at (suc i) l f h k = k (i, omega arith, f)
 

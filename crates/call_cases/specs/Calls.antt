@@ -1,11 +1,11 @@
 -- What each call asks after the board's state or after reading a file, as cases in the order of RULES 4.3.
-use Rattle.std.specs.Prelude.{ℕ, ◌+◌, ◌*◌, ◌≤◌, ◌<◌, ◌≡◌, ◌⊎◌, T, List, [], ◌∷◌, length, get_or}
+use Rattle.std.specs.Prelude.{ℕ, ◌+◌, ◌*◌, ◌≤◌, ◌<◌, ◌≡◌, ◌⊎◌, T, List, [], ◌∷◌, ◌++◌, length, get_or}
 use Rattle.model.specs.Plan.{has, pairs}
 use Rattle.model.specs.Choice.{Mounted, bare, tip}
 use Rattle.model.specs.Interval.{named, split, Misses}
 use Rattle.model.specs.Limits.{most_lines, most_placements}
 use Rattle.placements.specs.Repeated.{repeated}
-use Rattle.refusal.specs.declared.Reason.TheVariants.{RackSize, EmptyLine, TipOutside, ShortPlan, ShortTable, ShortOutput, ZeroQuantity}
+use Rattle.refusal.specs.declared.Reason.TheVariants.{RackSize, ShortPlan, ShortTable, ShortOutput}
 use Rattle.refusal.specs.declared.Reason.TheVariants.{MountedOutside, RacksDiffer, ForeignTip, WrongClaim, TooManyLines, NoRun, NoPlan}
 use Rattle.refusal.specs.declared.Reason.TheVariants.{TooManyPlacements, NoTwoTips, WrongTable, GoalMissed}
 use Rattle.goals.specs.Check.{entry}
@@ -15,7 +15,7 @@ use Rattle.cases.specs.Cases.{Case, plain, placed}
 use Rattle.call_refusals.specs.Junior.{junior_lines, junior_tips}
 use Rattle.line_calls.specs.Rules.{NoneWithin}
 use Rattle.line_calls.specs.Goal.{NoneMeets}
-use Rattle.call_cases.specs.State.{HasOutside}
+use Rattle.call_cases.specs.State.{line_cases}
 
 -- a tip is mounted that is outside a rack of m tips
 abbrev pub OffRack : ℕ → Mounted → Type 0
@@ -38,12 +38,7 @@ Less m qs lines tab =
 -- add to n lines that have t placements, of a line with set s and quantity q: 24, then 2, 3 or 15, then 30
 abbrev pub add_cases : ℕ → ℕ → ℕ → ℕ → ℕ → List Case
 add_cases m n t s q =
-    plain TooManyLines (n ≡ most_lines)
-    ∷ plain EmptyLine (s ≡ 0)
-    ∷ plain TipOutside (HasOutside m s)
-    ∷ plain ZeroQuantity (q ≡ 0)
-    ∷ plain TooManyPlacements (most_placements < t + q)
-    ∷ []
+    (plain TooManyLines (n ≡ most_lines) ∷ []) ++ line_cases m s q ++ (plain TooManyPlacements (most_placements < t + q) ∷ [])
 
 -- keep within k placements: 26, no valid plan is within k
 abbrev pub keep_cases : ℕ → List ℕ → List ℕ → ℕ → List Case

@@ -3,7 +3,7 @@ use Rattle.std.specs.Prelude.{ℕ, suc, ◌≤◌, ◌<◌, ◌≡◌, ◌⊎◌
 use Rattle.model.specs.Plan.{has}
 use Rattle.model.specs.Limits.{most_tips, most_lines, most_placements}
 use Rattle.placements.specs.Repeated.{total}
-use Rattle.refusal.specs.declared.Reason.TheVariants.{UnsoundBoard, UnsoundLine, HeldBehind, BoardClosed, BoardOpen}
+use Rattle.refusal.specs.declared.Reason.TheVariants.{EmptyLine, TipOutside, ZeroQuantity, UnsoundBoard, UnsoundLine, HeldBehind, BoardClosed, BoardOpen}
 use Rattle.cases.specs.Cases.{Case, plain, placed}
 use Rattle.call_refusals.specs.declared.Stage.{Stage}
 use Rattle.call_refusals.specs.declared.Stage.TheVariants.{Open, Closed}
@@ -19,6 +19,10 @@ OutOfRange m n = RackOut m ⊎ (most_lines < n)
 -- the set has a tip outside a rack of m tips
 abbrev pub HasOutside : ℕ → ℕ → Type 0
 HasOutside m s = (t : ℕ) × (m ≤ t) × T (has s t)
+
+-- 2, 3 or 15 of a line with set s and quantity q
+abbrev pub line_cases : ℕ → ℕ → ℕ → List Case
+line_cases m s q = plain EmptyLine (s ≡ 0) ∷ plain TipOutside (HasOutside m s) ∷ plain ZeroQuantity (q ≡ 0) ∷ []
 
 -- line i has an empty set, a tip outside a rack of m tips or quantity 0, or with it the placements pass the limit
 pub data Wrong (m : ℕ) (qs lines : List ℕ) (i : ℕ) : Type 0 where

@@ -103,24 +103,28 @@ module _ (reason : Reason) (b : Bool) {P : Type 0} (h : T b ↔ P) where
   unfolding Told
   told_when = by b h
     where
-      by : (t : Bool) → T t ↔ P → First (plain reason P) (when t (reason_number reason)) ⊎ (Nowhere (plain reason P) × (when t (reason_number reason) ≡ none))
+      by : (t : Bool) → T t ↔ P
+          → First (plain reason P) (when t (reason_number reason)) ⊎ (Nowhere (plain reason P) × (when t (reason_number reason) ≡ none))
       by true g = inl (record { number_is = refl; here = (refl, g.0 tt); first = λ i l. absurd (omega arith) })
       by false g = inr (λ i (e, p). g.1 p, refl)
 
 -- the least place of those below n of which the sentence holds: i, or none where i is past them
 module _ (reason : Reason) (i n : ℕ) {P : ℕ → Type 0} (here : i < n → P i) (least : (j : ℕ) → P j → (j < n) × (i ≤ j)) where
-  pub told_at : Told (placed reason P ∷ []) (refuse_at (reason_number reason) i n)
+  abbrev told : Refusal
+  told = refuse_at (reason_number reason) i n
+
+  pub told_at : Told (placed reason P ∷ []) told
   unfolding Told
   told_at = ⊎_elim past below (le_or_lt n i)
     where
-      below : i < n → First (placed reason P) (refuse_at (reason_number reason) i n) ⊎ (Nowhere (placed reason P) × (refuse_at (reason_number reason) i n ≡ none))
+      below : i < n → First (placed reason P) told ⊎ (Nowhere (placed reason P) × (told ≡ none))
       below l = rw (lt-ltb i n l) (inl (record {
         number_is = refl;
         here = here l;
         first = λ j k p. omega (arith, least j p);
       }))
 
-      past : n ≤ i → First (placed reason P) (refuse_at (reason_number reason) i n) ⊎ (Nowhere (placed reason P) × (refuse_at (reason_number reason) i n ≡ none))
+      past : n ≤ i → First (placed reason P) told ⊎ (Nowhere (placed reason P) × (told ≡ none))
       past l = rw (le-ltb i n l) (inr (λ j p. omega (arith, least j p), refl))
 
 -- a scan of a list whose test fails exactly where the sentence holds

@@ -128,7 +128,8 @@ module _ (parts : List Part) (rules : List Rule) (room : ℕ) where
       ∷ plain ShortOrder (room < n)
       ∷ []
       ) _
-      (told_or (or_else many bad) (or_else wrong short) (plain BadWindow (128 < n) ∷ placed BadWindow (λ i. (i < n) × WrongPart n (part_at parts i)) ∷ []) _
+      (told_or (or_else many bad) (or_else wrong short)
+      (plain BadWindow (128 < n) ∷ placed BadWindow (λ i. (i < n) × WrongPart n (part_at parts i)) ∷ []) _
       (told_or many bad _ _ (told_when BadWindow (ltb 128 n) (ltb→lt 128 n, lt→ltb 128 n))
       (λ _. told_scan (window_ok n) no_part BadWindow parts (part_iff n)))
       (λ _. told_or wrong short _ _ (told_scan (rule_ok n) no_rule BadRule rules (rule_iff n))

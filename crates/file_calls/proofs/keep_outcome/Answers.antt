@@ -90,4 +90,5 @@ returns c =
     let margin = ap (λ r. r.margin) kept.answer in
     let bits = subst (λ y. to_z w32 (of_z w32 y) ≡ y) (sym margin) (keep_bits none a.k (λ _. good) c.ranges.k.fits) in
     let told = keep_told a.file.now a.k _ outcome in
-    rw (c.twos_complement.ensures, bits) (record { outcome = outcome; out = out; rule = kept-ruled a.file.now a.k a.out.now bytes outcome out; cases = told })
+    let rule = kept-ruled a.file.now a.k a.out.now bytes outcome out in
+    rw (c.twos_complement.ensures, bits) (record { outcome = outcome; out = out; rule = rule; cases = told })

@@ -75,7 +75,8 @@ returns-in_err-lines-clause-cases c =
 
 pub returns-in_err-mounted_refusal-clause-cases : goal.returns-in_err-mounted_refusal-clause-cases
 returns-in_err-mounted_refusal-clause-cases c =
-    best_told c.args.self.now (full (goal.at.returns-in_err-mounted_refusal-clause-cases c).After-lines) _ _ _ _ (returns-in_err-mounted_refusal-clause-answer c)
+    let all = full (goal.at.returns-in_err-mounted_refusal-clause-cases c).After-lines in
+    best_told c.args.self.now all _ _ _ _ (returns-in_err-mounted_refusal-clause-answer c)
 
 pub returns-clause-cases : goal.returns-clause-cases
 returns-clause-cases c =
