@@ -2,6 +2,9 @@
 ghost use Rattle.std.specs.Prelude.{◌≡◌, length};
 ghost use Rattle.board.specs.Told.{alone_answered};
 ghost use Rattle.board.specs.Panel.{alone_of, alone_buffer, AloneRule};
+ghost use Rattle.refusal.specs.Reasons.{refusal_of};
+ghost use Rattle.cases.specs.Cases.{Told};
+ghost use Rattle.board.specs.Cases.{alone_cases};
 
 use crate::{AlonePairs, Board};
 use refusal::Refused;
@@ -13,6 +16,7 @@ impl Board {
             ≡ alone_of self.now other.now (length plan.old) }
         ensures plan { plan.new ≡ alone_buffer self.now other.now plan.old }
         ensures rule { AloneRule self.now other.now plan.new (alone_answered self.now other.now result) }
+        ensures cases { Told (alone_cases self.now other.now (length plan.old)) (refusal_of result) }
     {
         let lines = self.lines()?;
         let others = other.lines()?;

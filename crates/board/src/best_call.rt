@@ -3,6 +3,9 @@ ghost use Rattle.std.specs.Prelude.{◌≡◌, length};
 ghost use Rattle.head.specs.OnHead.{on_head};
 ghost use Rattle.board.specs.Told.{shared_answered};
 ghost use Rattle.board.specs.Sharing.{best_of, best_buffer, best_table, BestRule};
+ghost use Rattle.refusal.specs.Reasons.{refusal_of};
+ghost use Rattle.cases.specs.Cases.{Told};
+ghost use Rattle.board.specs.Cases.{best_cases};
 
 use crate::Board;
 use refusal::Refused;
@@ -20,6 +23,7 @@ impl Board {
         ensures plan { plan.new ≡ best_buffer self.now (on_head mounted) plan.old (length table.old) }
         ensures table { table.new ≡ best_table self.now (on_head mounted) (length plan.old) table.old }
         ensures rule { BestRule self.now plan.new (shared_answered self.now result) }
+        ensures cases { Told (best_cases self.now (on_head mounted) (length plan.old) (length table.old)) (refusal_of result) }
     {
         let lines = self.lines()?;
         call_refusals::mounted_refusal(self.rack, mounted)?;

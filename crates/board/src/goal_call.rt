@@ -2,6 +2,9 @@
 ghost use Rattle.std.specs.Prelude.{◌≡◌};
 ghost use Rattle.board.specs.Told.{answered};
 ghost use Rattle.board.specs.Goal.{goal_of, GoalRule};
+ghost use Rattle.refusal.specs.Reasons.{refusal_of};
+ghost use Rattle.cases.specs.Cases.{Told};
+ghost use Rattle.board.specs.Cases.{goal_cases};
 
 use crate::Board;
 use refusal::Refused;
@@ -11,6 +14,7 @@ impl Board {
     pub fn goal(&mut self, goal: u32) -> Result<(), Refused>
         ensures answer { answered self.new result ≡ goal_of self.old goal }
         ensures rule { GoalRule self.old goal (answered self.new result) }
+        ensures cases { Told (goal_cases self.old goal) (refusal_of result) }
     {
         let lines = self.lines()?;
         let count = self.count;

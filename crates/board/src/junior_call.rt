@@ -2,6 +2,9 @@
 ghost use Rattle.std.specs.Prelude.{◌≡◌, length};
 ghost use Rattle.board.specs.Told.{junior_answered};
 ghost use Rattle.board.specs.Junior.{junior_of, junior_buffer, JuniorRule};
+ghost use Rattle.refusal.specs.Reasons.{refusal_of};
+ghost use Rattle.cases.specs.Cases.{Told};
+ghost use Rattle.board.specs.Cases.{junior_cases};
 
 use crate::{Board, Found};
 use refusal::Refused;
@@ -12,6 +15,7 @@ impl Board {
         ensures answer { junior_answered self.now result ≡ junior_of self.now (length plan.old) }
         ensures buffer { plan.new ≡ junior_buffer self.now plan.old }
         ensures rule { JuniorRule self.now (length plan.old) plan.new (junior_answered self.now result) }
+        ensures cases { Told (junior_cases self.now (length plan.old)) (refusal_of result) }
     {
         let lines = self.lines()?;
         line_calls::junior(lines, plan)

@@ -2,6 +2,9 @@
 ghost use Rattle.std.specs.Prelude.{◌≡◌};
 ghost use Rattle.board.specs.Told.{merged_answered};
 ghost use Rattle.board.specs.Panel.{merge_of, MergeRule};
+ghost use Rattle.refusal.specs.Reasons.{refusal_of};
+ghost use Rattle.cases.specs.Cases.{Told};
+ghost use Rattle.board.specs.Cases.{merge_cases};
 
 use crate::{Board, Stage};
 use refusal::Refused;
@@ -11,6 +14,7 @@ impl Board {
     pub fn merge(&self, other: &Board) -> Result<Board, Refused>
         ensures answer { merged_answered self.now other.now result ≡ merge_of self.now other.now }
         ensures rule { MergeRule self.now other.now (merged_answered self.now other.now result) }
+        ensures cases { Told (merge_cases self.now other.now) (refusal_of result) }
     {
         let lines = self.lines()?;
         let others = other.lines()?;

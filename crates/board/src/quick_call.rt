@@ -3,6 +3,9 @@ ghost use Rattle.std.specs.Prelude.{◌≡◌, length};
 ghost use Rattle.head.specs.OnHead.{on_head};
 ghost use Rattle.board.specs.Told.{shared_answered};
 ghost use Rattle.board.specs.Sharing.{quick_of, quick_buffer, HalfRule};
+ghost use Rattle.refusal.specs.Reasons.{refusal_of};
+ghost use Rattle.cases.specs.Cases.{Told};
+ghost use Rattle.board.specs.Cases.{quick_cases};
 
 use crate::Board;
 use refusal::Refused;
@@ -13,6 +16,7 @@ impl Board {
         ensures answer { shared_answered self.now result ≡ quick_of self.now (on_head mounted) (length plan.old) }
         ensures buffer { plan.new ≡ quick_buffer self.now (on_head mounted) plan.old }
         ensures rule { HalfRule self.now plan.new (shared_answered self.now result) }
+        ensures cases { Told (quick_cases self.now (on_head mounted) (length plan.old)) (refusal_of result) }
     {
         let lines = self.lines()?;
         call_refusals::mounted_refusal(self.rack, mounted)?;

@@ -6,3 +6,4 @@ pub mod GoalFile
 pub mod TwoFiles
 pub mod JuniorIn
 pub mod Stopped
+pub mod CasesTold

@@ -2,6 +2,8 @@
 ghost use Rattle.std.specs.Prelude.{◌≡◌, length};
 ghost use Rattle.file_calls.specs.Outcomes.{outcome_of};
 ghost use Rattle.file_calls.specs.Goal.{goal_in, goal_file_in, GoalRuleOf};
+ghost use Rattle.cases.specs.Cases.{Told};
+ghost use Rattle.file_calls.specs.Cases.{goal_cases};
 
 use crate::Counts;
 use placements::Lines;
@@ -13,6 +15,7 @@ pub fn goal_outcome(file: &[u8], goal: u32, out: &mut [u8]) -> Result<Counts, Re
     ensures outcome { outcome_of result ≡ goal_in file.now goal (length out.old) }
     ensures out { out.new ≡ goal_file_in file.now goal out.old }
     ensures rule { GoalRuleOf file.now goal out.new (outcome_of result) }
+    ensures cases { Told (goal_cases file.now goal (length out.old)) (outcome_of result).refusal }
 {
     let mut room = Room::new();
     let lines = room.read(file)?;

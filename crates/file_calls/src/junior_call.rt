@@ -2,6 +2,8 @@
 ghost use Rattle.std.specs.Prelude.{◌≡◌, length};
 ghost use Rattle.file_calls.specs.Outcomes.{outcome_of};
 ghost use Rattle.file_calls.specs.Junior.{junior_in, junior_plan_in, JuniorRuleOf};
+ghost use Rattle.cases.specs.Cases.{Told};
+ghost use Rattle.file_calls.specs.Cases.{junior_cases};
 
 use crate::Counts;
 use reading::Room;
@@ -12,6 +14,7 @@ pub fn junior_outcome(file: &[u8], plan: &mut [u8]) -> Result<Counts, Refused>
     ensures outcome { outcome_of result ≡ junior_in file.now (length plan.old) }
     ensures plan { plan.new ≡ junior_plan_in file.now plan.old }
     ensures rule { JuniorRuleOf file.now (length plan.old) plan.new (outcome_of result) }
+    ensures cases { Told (junior_cases file.now (length plan.old)) (outcome_of result).refusal }
 {
     let mut room = Room::new();
     let lines = room.read(file)?;

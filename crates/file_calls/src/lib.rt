@@ -7,6 +7,8 @@ ghost use Rattle.file_calls.specs.Outcomes.{outcome_of, kept_outcome_of, twos_co
 ghost use Rattle.file_calls.specs.Calls.{read_in, common_in, keep_in, keep_file_in, quick_in, quick_plan_in, best_in, best_plan_in, best_table_in};
 ghost use Rattle.file_calls.specs.Calls.{check_in};
 ghost use Rattle.file_calls.specs.Rules.{CommonRuleOf, KeepRuleOf, HalfRuleOf, BestRuleOf, CheckRuleOf};
+ghost use Rattle.cases.specs.Cases.{Told};
+ghost use Rattle.file_calls.specs.Cases.{read_cases, keep_cases, quick_cases, best_cases, check_cases};
 
 use placements::Lines;
 use reading::Room;
@@ -49,7 +51,8 @@ pub fn twos_complement(x: i32) -> u64
 }
 
 pub fn read_outcome(file: &[u8]) -> Result<Counts, Refused>
-    ensures { outcome_of result ≡ read_in file.now }
+    ensures outcome { outcome_of result ≡ read_in file.now }
+    ensures cases { Told (read_cases file.now) (outcome_of result).refusal }
 {
     let opened = reading::open(file)?;
     Ok(Counts {
@@ -62,6 +65,7 @@ pub fn read_outcome(file: &[u8]) -> Result<Counts, Refused>
 pub fn common_outcome(file: &[u8]) -> Result<Counts, Refused>
     ensures outcome { outcome_of result ≡ common_in file.now }
     ensures rule { CommonRuleOf file.now (outcome_of result) }
+    ensures cases { Told (read_cases file.now) (outcome_of result).refusal }
 {
     let mut room = Room::new();
     let lines = room.read(file)?;
@@ -78,6 +82,7 @@ pub fn keep_outcome(file: &[u8], k: u16, out: &mut [u8]) -> Result<Counts, Unkep
     ensures outcome { kept_outcome_of result ≡ keep_in file.now k (length out.old) }
     ensures out { out.new ≡ keep_file_in file.now k out.old }
     ensures rule { KeepRuleOf file.now k out.new (kept_outcome_of result) }
+    ensures cases { Told (keep_cases file.now k (length out.old)) (kept_outcome_of result).refusal }
 {
     let mut sets = [0u64; model::MOST_LINES];
     let mut quantities = [0u8; model::MOST_LINES];
@@ -106,6 +111,7 @@ pub fn quick_outcome(
     ensures outcome { outcome_of result ≡ quick_in file.now (on_head mounted) (length plan.old) }
     ensures plan { plan.new ≡ quick_plan_in file.now (on_head mounted) plan.old }
     ensures rule { HalfRuleOf file.now plan.new (outcome_of result) }
+    ensures cases { Told (quick_cases file.now (on_head mounted) (length plan.old)) (outcome_of result).refusal }
 {
     let mut room = Room::new();
     let lines = room.read(file)?;
@@ -126,6 +132,7 @@ pub fn best_outcome(
     ensures table { table.new
         ≡ best_table_in file.now (on_head mounted) (length plan.old) table.old }
     ensures rule { BestRuleOf file.now plan.new (outcome_of result) }
+    ensures cases { Told (best_cases file.now (on_head mounted) (length plan.old) (length table.old)) (outcome_of result).refusal }
 {
     let mut room = Room::new();
     let lines = room.read(file)?;
@@ -138,6 +145,7 @@ pub fn best_outcome(
 pub fn check_outcome(file: &[u8], plan: &[u8], claim: u32, table: &[u32]) -> Result<Counts, Refused>
     ensures outcome { outcome_of result ≡ check_in file.now plan.now claim table.now }
     ensures rule { CheckRuleOf file.now plan.now claim table.now (outcome_of result) }
+    ensures cases { Told (check_cases file.now plan.now claim table.now) (outcome_of result).refusal }
 {
     let mut room = Room::new();
     let lines = room.read(file)?;

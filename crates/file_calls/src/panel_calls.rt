@@ -2,6 +2,8 @@
 ghost use Rattle.std.specs.Prelude.{◌≡◌, length};
 ghost use Rattle.file_calls.specs.Outcomes.{outcome_of};
 ghost use Rattle.file_calls.specs.Panel.{merge_of_files, merge_file_in, MergeRuleOf, alone_in, alone_plan_in, AloneRuleOf};
+ghost use Rattle.cases.specs.Cases.{Told};
+ghost use Rattle.file_calls.specs.Cases.{merge_cases, alone_cases};
 
 use crate::Counts;
 use placements::Lines;
@@ -12,6 +14,7 @@ pub fn merge_outcome(first: &[u8], second: &[u8], out: &mut [u8]) -> Result<Coun
     ensures outcome { outcome_of result ≡ merge_of_files first.now second.now (length out.old) }
     ensures out { out.new ≡ merge_file_in first.now second.now out.old }
     ensures rule { MergeRuleOf first.now second.now out.new (outcome_of result) }
+    ensures cases { Told (merge_cases first.now second.now (length out.old)) (outcome_of result).refusal }
 {
     let mut room = Room::new();
     let lines = room.read(first)?;
@@ -33,6 +36,7 @@ pub fn alone_outcome(first: &[u8], second: &[u8], plan: &mut [u8]) -> Result<Cou
     ensures outcome { outcome_of result ≡ alone_in first.now second.now (length plan.old) }
     ensures plan { plan.new ≡ alone_plan_in first.now second.now plan.old }
     ensures rule { AloneRuleOf first.now second.now plan.new (outcome_of result) }
+    ensures cases { Told (alone_cases first.now second.now (length plan.old)) (outcome_of result).refusal }
 {
     let mut room = Room::new();
     let lines = room.read(first)?;

@@ -1,7 +1,7 @@
 -- What a call gives: where it is refused, and where it is not.
 use Prim.Native.Nat.{ℕ, ◌≤◌, ◌<◌}
 use native.Mathlib.Omega.{arith}
-use mathlib.Core.Path.{◌≡◌, refl, sym, ap, ap₂, ◌∙◌}
+use mathlib.Core.Path.{◌≡◌, refl, sym, ap, ap₂, subst, ◌∙◌}
 use mathlib.Core.Logic.{◌⊎◌, inl, inr}
 use mathlib.Core.Bool.{or-true}
 use mathlib.Core.List.{List, ◌++◌}
@@ -17,6 +17,9 @@ use Rattle.mending.specs.Mending.{mended_file, mended_report, mend_refusal}
 use Rattle.mending.proofs.Files.{accepted_same}
 use Rattle.mending.proofs.Rule.{mend_rule}
 use Rattle.mend.specs.Answers.{Mended}
+use Rattle.cases.specs.Cases.{Told}
+use Rattle.mend.specs.Cases.{mend_cases}
+use Rattle.mend.proofs.CasesTold.{refusal_told}
 use Rattle.mend.specs.Call.{refused_by, mend_of, out_after, report_after, MendRuleOf}
 
 -- the contract of the call: its answer, both buffers, and the rule
@@ -27,6 +30,7 @@ Called file before space r after told =
       out : after ≡ out_after file before (length space);
       report : told ≡ report_after file (length before) space;
       rule : MendRuleOf file after told r.refusal.number r.bytes r.report_bytes;
+      cases : Told (mend_cases file (length before) (length space)) r.refusal;
     }
 
 module _ (file out report : List ℕ) where
@@ -48,6 +52,9 @@ module _ (file out report : List ℕ) where
   unfolding mend_refusal
   none-refused s g h = or_next {d = refuse (start_number file)} refl _ s (rw (le-ltb _ _ g, le-ltb _ _ h))
 
+  told_so : Told (mend_cases file (length out) (length report)) decided
+  told_so = refusal_told file (length out) (length report)
+
   -- a call that is refused by n
   pub call_refused : (r : Mended) (n : ℕ) → r ≡ refused_by n → refuse n ≡ decided → (n ≡ 0 → ⊥) → Called file out report r out report
   unfolding mend_of out_after report_after
@@ -56,6 +63,7 @@ module _ (file out report : List ℕ) where
     out = lent_refused d (length (mended_file file)) (mended_file file) out z;
     report = lent_refused d (length (mended_report file)) (mended_report file) report z;
     rule = rw e (λ h. absurd (z h));
+    cases = subst (Told (mend_cases file (length out) (length report))) (sym (ap (λ q. q.refusal) e ∙ d)) told_so;
   }
 
   -- a call that is not refused
@@ -75,6 +83,7 @@ module _ (file out report : List ℕ) where
         out = p ∙ lent_accepted d (length (mended_file file)) (mended_file file) out refl refl;
         report = q ∙ lent_accepted d (length (mended_report file)) (mended_report file) report refl refl;
         rule = λ _. rw (written, told) (mend_rule file b s);
+        cases = subst (Told (mend_cases file (length out) (length report))) (sym d) told_so;
       }
 
   -- a call on a file that reading accepts: it stays as it is, and nothing is told

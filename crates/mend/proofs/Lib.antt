@@ -5,3 +5,4 @@ pub mod Pass
 pub mod Room
 pub mod Answer
 pub mod Starred
+pub mod CasesTold

@@ -13,6 +13,8 @@ ghost use Rattle.std.specs.Prelude.{◌≡◌, length};
 ghost use Rattle.refusal.specs.Reasons.{refusal_of};
 ghost use Rattle.mend.specs.Answers.{mended_told};
 ghost use Rattle.mend.specs.Call.{mend_of, out_after, report_after, MendRuleOf};
+ghost use Rattle.cases.specs.Cases.{Told};
+ghost use Rattle.mend.specs.Cases.{mend_cases};
 
 use read::Started;
 use refusal::{Reason, Refused};
@@ -31,6 +33,7 @@ pub fn mend(file: &[u8], out: &mut [u8], report: &mut [u8]) -> Result<Sizes, Ref
     ensures report { report.new ≡ report_after file.now (length out.old) report.old }
     ensures rule { MendRuleOf file.now out.new report.new
         (refusal_of result).number (mended_told result).bytes (mended_told result).report_bytes }
+    ensures cases { Told (mend_cases file.now (length out.old) (length report.old)) (refusal_of result) }
 {
     let started = Started::open(file)?;
     if read::is_accepted(file) {

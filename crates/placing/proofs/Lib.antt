@@ -4,3 +4,4 @@ pub mod Marks
 pub mod Windows
 pub mod Numbered
 pub mod Answers
+pub mod CasesTold

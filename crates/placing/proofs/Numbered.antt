@@ -54,6 +54,10 @@ parts_all numbers parts room h =
     (λ k l. let m : k < n = omega (arith, a) in
     get_or-take n parts k no_part m ∙ h k m ∙ sym (listed_at (part_of_numbers numbers) n k no_part m))
 
+-- what is told where the numbers are not four a part and two a rule
+abbrev pub misfit_told : Refusal
+misfit_told = R.refuse 101
+
 -- the answer where the numbers are not four a part and two a rule, and where they are
 module _ (parts rules buffer : List ℕ) where
   pub record Answers (r : Refusal) (out : List ℕ) : Type 0 where
@@ -61,7 +65,7 @@ module _ (parts rules buffer : List ℕ) where
     pub order : out ≡ order_after_in parts rules buffer
     pub rule : PlacingRuleIn parts rules (length buffer) out r
 
-  misfit : R.refuse 101 ≡ numbers_refusal parts rules → Answers (R.refuse 101) buffer
+  misfit : misfit_told ≡ numbers_refusal parts rules → Answers misfit_told buffer
   unfolding order_in order_after_in
   misfit e = record {
     refusal = or_first e _ (λ z. omega (arith, z));
@@ -69,11 +73,11 @@ module _ (parts rules buffer : List ℕ) where
     rule = λ z. absurd (number_not e (λ y. omega (arith, y)) z);
   }
 
-  pub misfit_parts : (length parts % 4 ≡ 0 → ⊥) → Answers (R.refuse 101) buffer
+  pub misfit_parts : (length parts % 4 ≡ 0 → ⊥) → Answers misfit_told buffer
   unfolding numbers_refusal
   misfit_parts h = misfit (rw (ne_eqb (length parts % 4) 0 h))
 
-  pub misfit_rules : length parts % 4 ≡ 0 → (length rules % 2 ≡ 0 → ⊥) → Answers (R.refuse 101) buffer
+  pub misfit_rules : length parts % 4 ≡ 0 → (length rules % 2 ≡ 0 → ⊥) → Answers misfit_told buffer
   unfolding numbers_refusal
   misfit_rules e h = misfit (rw (eq-eqb (length parts % 4) 0 e, ne_eqb (length rules % 2) 0 h))
 

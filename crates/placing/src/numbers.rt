@@ -3,6 +3,8 @@ ghost use Rattle.std.specs.Prelude.{◌≡◌, ℕ, ◌≤◌, ◌<◌, [], leng
 ghost use Rattle.refusal.specs.Reasons.{refusal_of};
 ghost use Rattle.ordering.specs.Parts.{part_at};
 ghost use Rattle.placing.specs.Numbers.{part_of_numbers, rule_in, order_in, order_after_in, PlacingRuleIn};
+ghost use Rattle.cases.specs.Cases.{Told};
+ghost use Rattle.placing.specs.Cases.{numbers_cases};
 
 use crate::placement::place;
 use flat_order::MOST_PARTS;
@@ -57,6 +59,7 @@ pub fn order_numbers(parts: &[u32], rules: &[u32], order: &mut [u8]) -> Result<(
     ensures refusal { refusal_of result ≡ order_in parts.now rules.now (length order.old) }
     ensures order { order.new ≡ order_after_in parts.now rules.now order.old }
     ensures rule { PlacingRuleIn parts.now rules.now (length order.old) order.new (refusal_of result) }
+    ensures cases { Told (numbers_cases parts.now rules.now (length order.old)) (refusal_of result) }
 {
     let (records, more) = parts.as_chunks::<4>();
     let (pairs, one) = rules.as_chunks::<2>();

@@ -2,6 +2,8 @@
 ghost use Rattle.std.specs.Prelude.{◌≡◌, ◌≤◌, length};
 ghost use Rattle.file_calls.specs.Panel.{alone_in, alone_plan_in, AloneRuleOf};
 ghost use Rattle.tipshare_c.specs.Answer.{if_short, number_in, answer_in, seen};
+ghost use Rattle.cases.specs.Cases.{Told};
+ghost use Rattle.file_calls.specs.Cases.{alone_cases};
 
 use crate::answers::{PLACES, SHORT_ANSWER, put_answer};
 
@@ -21,6 +23,8 @@ pub extern "C" fn tipshare_alone(
         (alone_plan_in first.now second.now plan.old) }
     ensures rule { 4 ≤ length answer.old
         → AloneRuleOf first.now second.now plan.new (seen result answer.new) }
+    ensures cases { 4 ≤ length answer.old
+        → Told (alone_cases first.now second.now (length plan.old)) (seen result answer.new).refusal }
 {
     let Some(places) = answer.first_chunk_mut::<PLACES>() else {
         return SHORT_ANSWER;

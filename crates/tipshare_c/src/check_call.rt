@@ -3,6 +3,8 @@ ghost use Rattle.std.specs.Prelude.{◌≡◌, ◌≤◌, length};
 ghost use Rattle.file_calls.specs.Calls.{check_in};
 ghost use Rattle.file_calls.specs.Rules.{CheckRuleOf};
 ghost use Rattle.tipshare_c.specs.Answer.{number_in, answer_in, seen};
+ghost use Rattle.cases.specs.Cases.{Told};
+ghost use Rattle.file_calls.specs.Cases.{check_cases};
 
 use crate::answers::{PLACES, SHORT_ANSWER, put_answer};
 
@@ -21,6 +23,8 @@ pub extern "C" fn tipshare_check(
         (check_in file.now plan.now claim table.now) }
     ensures rule { 4 ≤ length answer.old
         → CheckRuleOf file.now plan.now claim table.now (seen result answer.new) }
+    ensures cases { 4 ≤ length answer.old
+        → Told (check_cases file.now plan.now claim table.now) (seen result answer.new).refusal }
 {
     let Some(places) = answer.first_chunk_mut::<PLACES>() else {
         return SHORT_ANSWER;

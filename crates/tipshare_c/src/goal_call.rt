@@ -2,6 +2,8 @@
 ghost use Rattle.std.specs.Prelude.{◌≡◌, ◌≤◌, length};
 ghost use Rattle.file_calls.specs.Goal.{goal_in, goal_file_in, GoalRuleOf};
 ghost use Rattle.tipshare_c.specs.Answer.{if_short, number_in, answer_in, seen};
+ghost use Rattle.cases.specs.Cases.{Told};
+ghost use Rattle.file_calls.specs.Cases.{goal_cases};
 
 use crate::answers::{PLACES, SHORT_ANSWER, put_answer};
 
@@ -15,6 +17,8 @@ pub extern "C" fn tipshare_goal(file: &[u8], goal: u32, out: &mut [u8], answer: 
         ≡ if_short answer.old out.old (goal_file_in file.now goal out.old) }
     ensures rule { 4 ≤ length answer.old
         → GoalRuleOf file.now goal out.new (seen result answer.new) }
+    ensures cases { 4 ≤ length answer.old
+        → Told (goal_cases file.now goal (length out.old)) (seen result answer.new).refusal }
 {
     let Some(places) = answer.first_chunk_mut::<PLACES>() else {
         return SHORT_ANSWER;

@@ -1,8 +1,10 @@
 // Mending of a job file.
-ghost use Rattle.std.specs.Prelude.{◌≡◌, length};
+ghost use Rattle.std.specs.Prelude.{◌≡◌, ◌≤◌, length};
 ghost use Rattle.file_calls.specs.Outcomes.{outcome_of};
 ghost use Rattle.mend.specs.Call.{out_after, report_after};
 ghost use Rattle.tipshare_c.specs.Answer.{if_short, number_in, answer_in, seen};
+ghost use Rattle.cases.specs.Cases.{Told};
+ghost use Rattle.mend.specs.Cases.{mend_cases};
 ghost use Rattle.tipshare_c.specs.Mend.{mend_in, MendRuleIn};
 
 use crate::answers::{PLACES, SHORT_ANSWER, put_answer};
@@ -15,6 +17,7 @@ fn mend_outcome(file: &[u8], out: &mut [u8], report: &mut [u8]) -> Result<Counts
     ensures out { out.new ≡ out_after file.now out.old (length report.old) }
     ensures report { report.new ≡ report_after file.now (length out.old) report.old }
     ensures rule { MendRuleIn file.now out.new report.new (outcome_of result) }
+    ensures cases { Told (mend_cases file.now (length out.old) (length report.old)) (outcome_of result).refusal }
 {
     let mended = mend::mend(file, out, report)?;
     Ok(Counts {
@@ -41,6 +44,8 @@ pub extern "C" fn tipshare_mend(
     ensures report { report.new ≡ if_short answer.old report.old
         (report_after file.now (length out.old) report.old) }
     ensures rule { MendRuleIn file.now out.new report.new (seen result answer.new) }
+    ensures cases { 4 ≤ length answer.old
+        → Told (mend_cases file.now (length out.old) (length report.old)) (seen result answer.new).refusal }
 {
     let Some(places) = answer.first_chunk_mut::<PLACES>() else {
         return SHORT_ANSWER;

@@ -3,6 +3,8 @@ ghost use Rattle.std.specs.Prelude.{◌≡◌, ◌≤◌, length};
 ghost use Rattle.file_calls.specs.Outcomes.{outcome_of};
 ghost use Rattle.placing.specs.Numbers.{order_after_in, PlacingRuleIn};
 ghost use Rattle.tipshare_c.specs.Answer.{if_short, number_in, answer_in, seen};
+ghost use Rattle.cases.specs.Cases.{Told};
+ghost use Rattle.placing.specs.Cases.{numbers_cases};
 ghost use Rattle.tipshare_c.specs.Order.{ordered_in};
 
 use crate::answers::{PLACES, SHORT_ANSWER, put_answer};
@@ -14,6 +16,7 @@ fn order_outcome(parts: &[u32], rules: &[u32], order: &mut [u8]) -> Result<Count
     ensures outcome { outcome_of result ≡ ordered_in parts.now rules.now (length order.old) }
     ensures order { order.new ≡ order_after_in parts.now rules.now order.old }
     ensures rule { PlacingRuleIn parts.now rules.now (length order.old) order.new (outcome_of result).refusal }
+    ensures cases { Told (numbers_cases parts.now rules.now (length order.old)) (outcome_of result).refusal }
 {
     placing::numbers::order_numbers(parts, rules, order)?;
     Ok(Counts::one((parts.len() / 4) as u64))
@@ -36,6 +39,8 @@ pub extern "C" fn tipshare_order(
     ensures rule { 4 ≤ length answer.old
         → PlacingRuleIn parts.now rules.now (length order.old) order.new
         (seen result answer.new).refusal }
+    ensures cases { 4 ≤ length answer.old
+        → Told (numbers_cases parts.now rules.now (length order.old)) (seen result answer.new).refusal }
 {
     let Some(places) = answer.first_chunk_mut::<PLACES>() else {
         return SHORT_ANSWER;

@@ -8,6 +8,7 @@ use Rattle.call_refusals.proofs.Calls.{best_first}
 use Rattle.line_calls.proofs.Plans.{best-refused}
 use Rattle.file_calls.proofs.Stopped.{best_read}
 use Rattle.file_calls.proofs.ReadLines.{best-in}
+use Rattle.file_calls.proofs.CasesTold.{best_told}
 use Rattle.file_calls.proofs.best_outcome.Goals as goal
 
 pub returns-in_err-lines : goal.returns-in_err-lines
@@ -16,7 +17,8 @@ returns-in_err-lines c =
     let e = c.in_err-lines.field-0.0 in
     let same : c.from_residual.result ≡ Err e = search rules in
     let (outcome, (plan, (table, rule))) = best_read a.file.now e c.in_err-lines.ensures.refusal (on_head a.mounted) a.plan.now a.table.now in
-    rw same (record { outcome = outcome; plan = plan; table = table; rule = rule })
+    let told = best_told a.file.now (on_head a.mounted) _ _ outcome in
+    rw same (record { outcome = outcome; plan = plan; table = table; rule = rule; cases = told })
 
 -- a mounted tip outside the rack refuses the call before the lines are looked at
 pub returns-in_err-mounted_refusal : goal.returns-in_err-mounted_refusal
@@ -35,7 +37,8 @@ returns-in_err-mounted_refusal c =
     let (outcome, (plan, (table, rule))) =
     best-in a.file.now read.refusal (λ _. (read.rack, read.quantities, read.sets)) (on_head a.mounted) c.in_err-mounted_refusal.ensures
     a.plan.now a.table.now p q t half in
-    rw same (record { outcome = outcome; plan = plan; table = table; rule = rule })
+    let told = best_told a.file.now (on_head a.mounted) _ _ outcome in
+    rw same (record { outcome = outcome; plan = plan; table = table; rule = rule; cases = told })
 
 pub returns-in_err-pairs : goal.returns-in_err-pairs
 returns-in_err-pairs c =
@@ -48,7 +51,8 @@ returns-in_err-pairs c =
     best-in a.file.now read.refusal (λ _. (read.rack, read.quantities, read.sets))
     (on_head a.mounted) c.in_ok-mounted_refusal.ensures a.plan.now a.table.now
     laid.answer laid.plan laid.table laid.rule in
-    rw same (record { outcome = outcome; plan = plan; table = table; rule = rule })
+    let told = best_told a.file.now (on_head a.mounted) _ _ outcome in
+    rw same (record { outcome = outcome; plan = plan; table = table; rule = rule; cases = told })
 
 pub returns : goal.returns
 returns c =
@@ -59,4 +63,5 @@ returns c =
     best-in a.file.now read.refusal (λ _. (read.rack, read.quantities, read.sets))
     (on_head a.mounted) c.in_ok-mounted_refusal.ensures a.plan.now a.table.now
     laid.answer laid.plan laid.table laid.rule in
-    rw (c.one.ensures, c.from.ensures) (record { outcome = outcome; plan = plan; table = table; rule = rule })
+    let told = best_told a.file.now (on_head a.mounted) _ _ outcome in
+    rw (c.one.ensures, c.from.ensures) (record { outcome = outcome; plan = plan; table = table; rule = rule; cases = told })

@@ -7,6 +7,7 @@ use Rattle.board.proofs.Sets.{Full}
 use Rattle.board.proofs.PanelRule.{alone_answer}
 use Rattle.board.proofs.Stopped.{alone_stopped, alone_same}
 use Rattle.board.proofs.Board.alone.Goals.{In_ok-lines, In_ok-others}
+use Rattle.board.proofs.CasesTold.{alone_told}
 use Rattle.board.proofs.Board.alone.Goals as goal
 
 full : (c : In_ok-lines) → Full c.args.self.now
@@ -57,3 +58,21 @@ returns-clause-plan c =
     (alone_answer _ _ all other c.in_ok-lines.ensures.refusal c.in_ok-others.ensures.refusal (or_ok none refl refl) _
     (rw (l.rack, l.quantities, l.sets, o.rack, o.quantities, o.sets) at c.alone.ensures.answer)
     (rw (l.rack, l.quantities, l.sets, o.rack, o.quantities, o.sets) at c.alone.ensures.plan)).1
+
+pub returns-in_err-lines-clause-cases : goal.returns-in_err-lines-clause-cases
+returns-in_err-lines-clause-cases c =
+    let first : Full c.args.self.now = record { sets_full = search rules; quantities_full = search rules } in
+    let second : Full c.args.other.now = record { sets_full = search rules; quantities_full = search rules } in
+    alone_told _ _ first second _ _ (returns-in_err-lines-clause-answer c)
+
+pub returns-in_err-others-clause-cases : goal.returns-in_err-others-clause-cases
+returns-in_err-others-clause-cases c =
+    let all = full (goal.at.returns-in_err-others-clause-cases c).In_ok-lines in
+    let other : Full c.args.other.now = record { sets_full = search rules; quantities_full = search rules } in
+    alone_told _ _ all other _ _ (returns-in_err-others-clause-answer c)
+
+pub returns-clause-cases : goal.returns-clause-cases
+returns-clause-cases c =
+    let all = full (goal.at.returns-clause-cases c).In_ok-lines in
+    let other = other-full (goal.at.returns-clause-cases c).In_ok-others in
+    alone_told _ _ all other _ _ (returns-clause-answer c)

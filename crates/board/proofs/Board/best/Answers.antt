@@ -3,6 +3,10 @@ use Rattle.board.specs.Told.{shared_answered}
 use Rattle.board.proofs.Answers.{by_state, best-answer}
 use Rattle.board.proofs.Stopped.{mounted_state, best_stopped, best_same, table_same}
 use Rattle.refusal.proofs.Laws.{err_of}
+use Rattle.std.proofs.Common.{rules}
+use Rattle.board.proofs.Sets.{Full}
+use Rattle.board.proofs.CasesTold.{best_told}
+use Rattle.board.proofs.Board.best.Goals.{After-lines}
 use Rattle.board.proofs.Board.best.Goals as goal
 
 pub returns-in_err-lines-clause-answer : goal.returns-in_err-lines-clause-answer
@@ -61,3 +65,19 @@ returns-clause-table c =
     (best-answer c.args.self.now _ c.in_ok-lines.ensures.refusal c.in_ok-mounted_refusal.ensures _ _
     (rw (l.rack, l.quantities, l.sets) at p.ensures.answer) (rw (l.rack, l.quantities, l.sets) at p.ensures.plan)
     (rw (l.rack, l.quantities, l.sets) at p.ensures.table)).1.1
+
+full : (c : After-lines) → Full c.args.self.now
+full c = record { sets_full = search rules; quantities_full = search rules }
+
+pub returns-in_err-lines-clause-cases : goal.returns-in_err-lines-clause-cases
+returns-in_err-lines-clause-cases c =
+    best_told c.args.self.now (full (goal.at.returns-in_err-lines-clause-cases c).After-lines) _ _ _ _ (returns-in_err-lines-clause-answer c)
+
+pub returns-in_err-mounted_refusal-clause-cases : goal.returns-in_err-mounted_refusal-clause-cases
+returns-in_err-mounted_refusal-clause-cases c =
+    let all = full (goal.at.returns-in_err-mounted_refusal-clause-cases c).After-lines in
+    best_told c.args.self.now all _ _ _ _ (returns-in_err-mounted_refusal-clause-answer c)
+
+pub returns-clause-cases : goal.returns-clause-cases
+returns-clause-cases c =
+    best_told c.args.self.now (full (goal.at.returns-clause-cases c).After-lines) _ _ _ _ (returns-clause-answer c)

@@ -1,3 +1,4 @@
+use Rattle.std.specs.Prelude.{Ok}
 use Rattle.std.proofs.Common.{rules}
 use mathlib.Core.Path.{refl, ap, ◌∙◌}
 use Rattle.refusal.proofs.Laws.{err_of, reason_not_0}
@@ -6,6 +7,7 @@ use Rattle.board.proofs.Sets.{Full}
 use Rattle.board.proofs.GoalRule.{goal_ruled, goal-answer, goal-refused}
 use Rattle.board.proofs.Stopped.{goal_stopped}
 use Rattle.board.proofs.Board.goal.Goals.{After-lines}
+use Rattle.board.proofs.CasesTold.{goal_told}
 use Rattle.board.proofs.Board.goal.Goals as goal
 
 full : (c : After-lines) → Full c.args.self.now
@@ -44,3 +46,15 @@ returns-clause-answer c =
 pub returns-clause-rule : goal.returns-clause-rule
 returns-clause-rule c =
     goal_ruled c.args.self.now c.args.goal (full (goal.at.returns-clause-rule c).After-lines) (returns-clause-answer c)
+
+pub returns-in_err-lines-clause-cases : goal.returns-in_err-lines-clause-cases
+returns-in_err-lines-clause-cases c =
+    goal_told c.args.self.now (full (goal.at.returns-in_err-lines-clause-cases c).After-lines) _ _ (returns-in_err-lines-clause-answer c)
+
+pub returns-in_err-goal-clause-cases : goal.returns-in_err-goal-clause-cases
+returns-in_err-goal-clause-cases c =
+    goal_told c.args.self.now (full (goal.at.returns-in_err-goal-clause-cases c).After-lines) _ _ (returns-in_err-goal-clause-answer c)
+
+pub returns-clause-cases : goal.returns-clause-cases
+returns-clause-cases c =
+    goal_told c.args.self.now (full (goal.at.returns-clause-cases c).After-lines) (Ok (tt {0})) _ (returns-clause-answer c)

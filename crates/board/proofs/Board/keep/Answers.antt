@@ -7,6 +7,7 @@ use Rattle.board.proofs.KeepRule.{keep_ruled, kept-answer}
 use Rattle.board.proofs.Stopped.{keep_stopped}
 use Rattle.board.proofs.Board.keep.Goals.{After-state}
 use Rattle.refusal.proofs.Laws.{err_of}
+use Rattle.board.proofs.CasesTold.{keep_told}
 use Rattle.board.proofs.Board.keep.Goals as goal
 
 full : (c : After-state) → Full c.args.self.now
@@ -30,3 +31,11 @@ returns-clause-answer c =
 pub returns-clause-rule : goal.returns-clause-rule
 returns-clause-rule c =
     keep_ruled c.args.self.now c.args.k (full (goal.at.returns-clause-rule c).After-state) (returns-clause-answer c)
+
+pub returns-in_err-state-clause-cases : goal.returns-in_err-state-clause-cases
+returns-in_err-state-clause-cases c =
+    keep_told c.args.self.now (full (goal.at.returns-in_err-state-clause-cases c).After-state) _ _ (returns-in_err-state-clause-answer c)
+
+pub returns-clause-cases : goal.returns-clause-cases
+returns-clause-cases c =
+    keep_told c.args.self.now (full (goal.at.returns-clause-cases c).After-state) _ _ (returns-clause-answer c)

@@ -1,3 +1,4 @@
+use Rattle.std.specs.Prelude.{Ok}
 use Rattle.std.proofs.Common.{rules}
 use mathlib.Core.Path.{refl, ap, ◌∙◌}
 use Rattle.refusal.specs.Refusal.{none}
@@ -7,6 +8,7 @@ use Rattle.board.proofs.Sets.{Full, no-sets, no-quantities}
 use Rattle.board.proofs.PanelRule.{merge_refused, merge_accepted}
 use Rattle.board.proofs.Stopped.{merge_stopped}
 use Rattle.board.proofs.Board.merge.Goals.{In_ok-lines, In_ok-others}
+use Rattle.board.proofs.CasesTold.{merge_told}
 use Rattle.board.proofs.Board.merge.Goals as goal
 
 full : (c : In_ok-lines) → Full c.args.self.now
@@ -64,3 +66,27 @@ returns-clause-rule c =
     (merge_accepted _ _ all other c.in_ok-lines.ensures.refusal c.in_ok-others.ensures.refusal (or_ok none refl refl)
     (rw (l.rack, l.quantities, l.sets, o.rack, o.quantities, o.sets) at c.in_ok-merge.ensures.answer) refl
     (rw (sets, l.sets, o.sets) at c.in_ok-merge.ensures.sets) (rw (quantities, l.quantities, o.quantities) at c.in_ok-merge.ensures.quantities)).1
+
+pub returns-in_err-lines-clause-cases : goal.returns-in_err-lines-clause-cases
+returns-in_err-lines-clause-cases c =
+    let first : Full c.args.self.now = record { sets_full = search rules; quantities_full = search rules } in
+    let second : Full c.args.other.now = record { sets_full = search rules; quantities_full = search rules } in
+    merge_told _ _ first second _ (returns-in_err-lines-clause-answer c)
+
+pub returns-in_err-others-clause-cases : goal.returns-in_err-others-clause-cases
+returns-in_err-others-clause-cases c =
+    let all = full (goal.at.returns-in_err-others-clause-cases c).In_ok-lines in
+    let other : Full c.args.other.now = record { sets_full = search rules; quantities_full = search rules } in
+    merge_told _ _ all other _ (returns-in_err-others-clause-answer c)
+
+pub returns-in_err-merge-clause-cases : goal.returns-in_err-merge-clause-cases
+returns-in_err-merge-clause-cases c =
+    let all = full (goal.at.returns-in_err-merge-clause-cases c).In_ok-lines in
+    let other = other-full (goal.at.returns-in_err-merge-clause-cases c).In_ok-others in
+    merge_told _ _ all other _ (returns-in_err-merge-clause-answer c)
+
+pub returns-clause-cases : goal.returns-clause-cases
+returns-clause-cases c =
+    let all = full (goal.at.returns-clause-cases c).In_ok-lines in
+    let other = other-full (goal.at.returns-clause-cases c).In_ok-others in
+    merge_told _ _ all other (Ok _) (returns-clause-answer c)

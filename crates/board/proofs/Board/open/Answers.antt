@@ -1,11 +1,21 @@
+use Rattle.std.specs.Prelude.{Ok, Err}
 use mathlib.Core.Path.{refl, sym, ◌∙◌}
 use Rattle.board.specs.Board.{open_of}
+use Rattle.board.proofs.CasesTold.{open_told}
 use Rattle.board.proofs.Board.open.Goals as goal
 
-pub returns-then-not-rack_ok : goal.returns-then-not-rack_ok
+pub returns-then-not-rack_ok-clause-answer : goal.returns-then-not-rack_ok-clause-answer
 unfolding open_of
-returns-then-not-rack_ok c = rw (c.at.ensures, sym c.rack_ok.ensures ∙ c.if-not-rack_ok.true) refl
+returns-then-not-rack_ok-clause-answer c = rw (c.at.ensures, sym c.rack_ok.ensures ∙ c.if-not-rack_ok.true) refl
 
-pub returns : goal.returns
+pub returns-clause-answer : goal.returns-clause-answer
 unfolding open_of
-returns c = rw (c.empty.ensures, sym c.rack_ok.ensures ∙ c.if-not-rack_ok.false) refl
+returns-clause-answer c = rw (c.empty.ensures, sym c.rack_ok.ensures ∙ c.if-not-rack_ok.false) refl
+
+pub returns-then-not-rack_ok-clause-cases : goal.returns-then-not-rack_ok-clause-cases
+returns-then-not-rack_ok-clause-cases c =
+    open_told c.args.rack (Err _) (returns-then-not-rack_ok-clause-answer c)
+
+pub returns-clause-cases : goal.returns-clause-cases
+returns-clause-cases c =
+    open_told c.args.rack (Ok _) (returns-clause-answer c)

@@ -1,3 +1,4 @@
+use Rattle.std.specs.Prelude.{Ok}
 use mathlib.Core.Path.{refl, ap, ◌∙◌}
 use Rattle.model.proofs.Lists.{all_get_d}
 use Rattle.refusal.proofs.Laws.{err_of, reason_not_0}
@@ -6,6 +7,7 @@ use Rattle.board.specs.Told.{given}
 use Rattle.board.proofs.Sets.{no-sets, no-quantities}
 use Rattle.board.proofs.JobFileRule.{read_rule, read_stopped, read_through}
 use Rattle.board.proofs.Board.read.Goals.{In_ok-read}
+use Rattle.board.proofs.CasesTold.{read_told}
 use Rattle.board.proofs.Board.read.Goals as goal
 
 bytes : (c : In_ok-read) → Bytes c.args.file.now
@@ -25,3 +27,11 @@ returns-clause-answer c =
 
 pub returns-clause-rule : goal.returns-clause-rule
 returns-clause-rule c = rw (returns-clause-answer c) (read_rule c.args.file.now (bytes (goal.at.returns-clause-rule c).In_ok-read))
+
+pub returns-in_err-read-clause-cases : goal.returns-in_err-read-clause-cases
+returns-in_err-read-clause-cases c =
+    read_told c.args.file.now _ (returns-in_err-read-clause-answer c)
+
+pub returns-clause-cases : goal.returns-clause-cases
+returns-clause-cases c =
+    read_told c.args.file.now (Ok _) (returns-clause-answer c)

@@ -6,6 +6,7 @@ use Rattle.board.proofs.JobFileRule.{write_clauses}
 use Rattle.board.proofs.Stopped.{write_stopped, write_same}
 use Rattle.board.proofs.Board.write.Goals.{After-lines}
 use Rattle.refusal.proofs.Laws.{err_of}
+use Rattle.board.proofs.CasesTold.{write_told}
 use Rattle.board.proofs.Board.write.Goals as goal
 
 full : (c : After-lines) → Full c.args.self.now
@@ -37,3 +38,11 @@ returns-clause-rule c =
     let l = c.in_ok-lines.ensures in
     (write_clauses c.args.self.now _ (full (goal.at.returns-clause-rule c).After-lines) (rw l.quantities at l.bytes) l.refusal
     (rw (l.quantities, l.sets) at c.write.ensures.answer) (rw (l.rack, l.quantities, l.sets) at c.write.ensures.buffer)).1.1
+
+pub returns-in_err-lines-clause-cases : goal.returns-in_err-lines-clause-cases
+returns-in_err-lines-clause-cases c =
+    write_told c.args.self.now (full (goal.at.returns-in_err-lines-clause-cases c).After-lines) _ _ (returns-in_err-lines-clause-answer c)
+
+pub returns-clause-cases : goal.returns-clause-cases
+returns-clause-cases c =
+    write_told c.args.self.now (full (goal.at.returns-clause-cases c).After-lines) _ _ (returns-clause-answer c)

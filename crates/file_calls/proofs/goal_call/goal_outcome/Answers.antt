@@ -5,6 +5,7 @@ use Rattle.model.proofs.Lists.{all_get_d}
 use Rattle.refusal.specs.Refusal.{none}
 use Rattle.file_calls.proofs.GoalFile.{goal-in, struck-all, good-struck, goal-ruled, goal-refused}
 use Rattle.file_calls.proofs.Stopped.{goal_read}
+use Rattle.file_calls.proofs.CasesTold.{goal_told}
 use Rattle.file_calls.proofs.goal_call.goal_outcome.Goals as goal
 
 pub returns-in_err-lines : goal.returns-in_err-lines
@@ -14,7 +15,8 @@ returns-in_err-lines c =
     let same : c.from_residual.result ≡ Err e = search rules in
     let (outcome, out) = goal_read a.file.now e c.in_err-lines.ensures.refusal a.goal a.out.now in
     let bytes = all_get_d 0 a.file.now (λ i l. (c.type_inv.file i).fits) in
-    rw same (record { outcome = outcome; out = out; rule = goal-ruled a.file.now a.goal a.out.now bytes outcome out })
+    let told = goal_told a.file.now a.goal _ outcome in
+    rw same (record { outcome = outcome; out = out; rule = goal-ruled a.file.now a.goal a.out.now bytes outcome out; cases = told })
 
 pub returns-in_err-goal : goal.returns-in_err-goal
 returns-in_err-goal c =
@@ -26,7 +28,8 @@ returns-in_err-goal c =
     goal-refused a.file.now read.refusal (λ _. c.in_ok-lines.lines.good) (λ _. (read.rack, read.quantities, read.sets)) a.goal a.out.now e
     c.in_err-goal.ensures.answer in
     let bytes = all_get_d 0 a.file.now (λ i l. (c.type_inv.file i).fits) in
-    rw same (record { outcome = outcome; out = out; rule = goal-ruled a.file.now a.goal a.out.now bytes outcome out })
+    let told = goal_told a.file.now a.goal _ outcome in
+    rw same (record { outcome = outcome; out = out; rule = goal-ruled a.file.now a.goal a.out.now bytes outcome out; cases = told })
 
 pub invariant_of-left : goal.invariant_of-left
 invariant_of-left c =
@@ -49,7 +52,8 @@ returns-in_err-bytes c =
     goal-in a.file.now read.refusal (λ _. good) (λ _. (read.rack, read.quantities, read.sets)) a.goal struck.answer (λ _. all) a.out.now
     written.answer written.buffer in
     let bytes = all_get_d 0 a.file.now (λ i l. (c.type_inv.file i).fits) in
-    rw same (record { outcome = outcome; out = out; rule = goal-ruled a.file.now a.goal a.out.now bytes outcome out })
+    let told = goal_told a.file.now a.goal _ outcome in
+    rw same (record { outcome = outcome; out = out; rule = goal-ruled a.file.now a.goal a.out.now bytes outcome out; cases = told })
 
 pub returns : goal.returns
 returns c =
@@ -63,4 +67,5 @@ returns c =
     goal-in a.file.now read.refusal (λ _. good) (λ _. (read.rack, read.quantities, read.sets)) a.goal struck.answer (λ _. all) a.out.now
     written.answer written.buffer in
     let bytes = all_get_d 0 a.file.now (λ i l. (c.type_inv.file i).fits) in
-    rw c.one.ensures (record { outcome = outcome; out = out; rule = goal-ruled a.file.now a.goal a.out.now bytes outcome out })
+    let told = goal_told a.file.now a.goal _ outcome in
+    rw c.one.ensures (record { outcome = outcome; out = out; rule = goal-ruled a.file.now a.goal a.out.now bytes outcome out; cases = told })

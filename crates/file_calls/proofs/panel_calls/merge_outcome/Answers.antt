@@ -5,6 +5,7 @@ use Rattle.refusal.specs.Refusal.{none}
 use Rattle.refusal.proofs.Laws.{or_err, or_ok}
 use Rattle.panel.proofs.Merged.{merged-lines, merged_quantities, good-merged}
 use Rattle.file_calls.proofs.TwoFiles.{told-in, merge_in, merge-refused, reads-refused, merge-ruled}
+use Rattle.file_calls.proofs.CasesTold.{merge_told}
 use Rattle.file_calls.proofs.panel_calls.merge_outcome.Goals as goal
 
 pub returns-in_err-lines : goal.returns-in_err-lines
@@ -16,7 +17,8 @@ returns-in_err-lines c =
     let bytes = all_get_d 0 a.first.now (λ i l. (c.type_inv.first i).fits) in
     let second-bytes = all_get_d 0 a.second.now (λ i l. (c.type_inv.second i).fits) in
     let (outcome, (out, rule)) = merge-refused a.first.now a.second.now e told a.out.now bytes second-bytes in
-    rw same (record { outcome = outcome; out = out; rule = rule })
+    let told = merge_told a.first.now a.second.now _ outcome in
+    rw same (record { outcome = outcome; out = out; rule = rule; cases = told })
 
 pub returns-in_err-others : goal.returns-in_err-others
 returns-in_err-others c =
@@ -27,7 +29,8 @@ returns-in_err-others c =
     let bytes = all_get_d 0 a.first.now (λ i l. (c.type_inv.first i).fits) in
     let second-bytes = all_get_d 0 a.second.now (λ i l. (c.type_inv.second i).fits) in
     let (outcome, (out, rule)) = merge-refused a.first.now a.second.now e told a.out.now bytes second-bytes in
-    rw same (record { outcome = outcome; out = out; rule = rule })
+    let told = merge_told a.first.now a.second.now _ outcome in
+    rw same (record { outcome = outcome; out = out; rule = rule; cases = told })
 
 pub returns-in_err-merge : goal.returns-in_err-merge
 returns-in_err-merge c =
@@ -42,7 +45,8 @@ returns-in_err-merge c =
     let bytes = all_get_d 0 a.first.now (λ i l. (c.type_inv.first i).fits) in
     let second-bytes = all_get_d 0 a.second.now (λ i l. (c.type_inv.second i).fits) in
     let (outcome, (out, rule)) = merge-refused a.first.now a.second.now e told a.out.now bytes second-bytes in
-    rw same (record { outcome = outcome; out = out; rule = rule })
+    let told = merge_told a.first.now a.second.now _ outcome in
+    rw same (record { outcome = outcome; out = out; rule = rule; cases = told })
 
 pub invariant_of-panel : goal.invariant_of-panel
 invariant_of-panel c =
@@ -74,7 +78,8 @@ returns-in_err-bytes c =
     let bytes = all_get_d 0 a.first.now (λ i l. (c.type_inv.first i).fits) in
     let second-bytes = all_get_d 0 a.second.now (λ i l. (c.type_inv.second i).fits) in
     let rule = merge-ruled a.first.now a.second.now a.out.now bytes second-bytes outcome out in
-    rw same (record { outcome = outcome; out = out; rule = rule })
+    let told = merge_told a.first.now a.second.now _ outcome in
+    rw same (record { outcome = outcome; out = out; rule = rule; cases = told })
 
 pub returns : goal.returns
 returns c =
@@ -96,4 +101,5 @@ returns c =
     let bytes = all_get_d 0 a.first.now (λ i l. (c.type_inv.first i).fits) in
     let second-bytes = all_get_d 0 a.second.now (λ i l. (c.type_inv.second i).fits) in
     let rule = merge-ruled a.first.now a.second.now a.out.now bytes second-bytes outcome out in
-    rw c.one.ensures (record { outcome = outcome; out = out; rule = rule })
+    let told = merge_told a.first.now a.second.now _ outcome in
+    rw c.one.ensures (record { outcome = outcome; out = out; rule = rule; cases = told })

@@ -1,0 +1,4 @@
+pub mod Tests
+pub mod State
+pub mod Calls
+pub mod Reading

@@ -1,0 +1,42 @@
+-- What the placing order refuses is what its cases tell.
+use Prim.Native.Nat.{ℕ, ◌%◌}
+use mathlib.Core.Path.{◌≡◌, sym, subst}
+use mathlib.Core.Logic.{◌↔◌, ◌⊎◌, inl, inr, ⊎_elim}
+use mathlib.Core.Bool.{not, ◌&&◌}
+use mathlib.Core.List.{List}
+use lib.Dec.{T, T_not, not_T, eqb, eqb→eq}
+use lib.ListN.{length}
+use Rattle.model.proofs.Tests.{not_and, and_left, and_right, eqb_T}
+use Rattle.refusal.specs.Told.{Refusal}
+use Rattle.refusal.specs.declared.Reason.TheVariants.{BrokenRecord}
+use Rattle.cases.specs.Cases.{Told}
+use Rattle.cases.proofs.Laws.{told_or, told_when}
+use Rattle.ordering.specs.declared.Part.{Part}
+use Rattle.ordering.specs.declared.Rule.{Rule}
+use Rattle.ordering.specs.Call.{order_refusal}
+use Rattle.order_cases.specs.Cases.{order_cases}
+use Rattle.order_cases.proofs.Told.{order_told}
+use Rattle.placing.specs.Numbers.{parts_in, rules_in, numbers_refusal, order_in}
+use Rattle.placing.specs.Cases.{numbers_cases}
+
+pub parts_told : (parts : List Part) (rules : List Rule) (room : ℕ) {r : Refusal} → r ≡ order_refusal parts rules room
+    → Told (order_cases parts rules room) r
+parts_told parts rules room e = subst (Told (order_cases parts rules room)) (sym e) (order_told parts rules room)
+
+-- one of two numbers is not 0 exactly where not both are
+broken_iff : (x y : ℕ) → T (not (eqb x 0 && eqb y 0)) ↔ ((x ≡ 0 → ⊥) ⊎ (y ≡ 0 → ⊥))
+broken_iff x y = (
+  λ t. ⊎_elim (λ n. inl (λ e. T_not (eqb x 0) n (eqb_T x 0 e))) (λ n. inr (λ e. T_not (eqb y 0) n (eqb_T y 0 e)))
+      (not_and (eqb x 0) (eqb y 0) t),
+  λ o. not_T (eqb x 0 && eqb y 0) (λ t.
+      ⊎_elim (λ n. n (eqb→eq x 0 (and_left (eqb x 0) (eqb y 0) t))) (λ n. n (eqb→eq y 0 (and_right (eqb x 0) (eqb y 0) t))) o),
+)
+
+pub numbers_told : (parts rules : List ℕ) (room : ℕ) {r : Refusal} → r ≡ order_in parts rules room → Told (numbers_cases parts rules room) r
+unfolding order_in numbers_refusal
+numbers_told parts rules room e =
+    let fit = eqb (length parts % 4) 0 && eqb (length rules % 2) 0 in
+    subst (Told (numbers_cases parts rules room)) (sym e)
+    (told_or (numbers_refusal parts rules) (order_refusal (parts_in parts) (rules_in rules) room) _ _
+    (told_when BrokenRecord (not fit) (broken_iff (length parts % 4) (length rules % 2)))
+    (λ _. order_told (parts_in parts) (rules_in rules) room))
