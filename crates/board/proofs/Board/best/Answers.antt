@@ -1,8 +1,12 @@
+use Rattle.std.proofs.Common.{rules}
 use mathlib.Core.Path.{ap, ◌∙◌}
 use Rattle.board.specs.Told.{shared_answered}
 use Rattle.board.proofs.Answers.{by_state, best-answer}
 use Rattle.board.proofs.Stopped.{mounted_state, best_stopped, best_same, table_same}
 use Rattle.refusal.proofs.Laws.{err_of}
+use Rattle.board.proofs.Sets.{Full}
+use Rattle.board.proofs.Left.{best_few, best_entries, best_checked}
+use Rattle.board.proofs.Board.best.Goals.{After-lines}
 use Rattle.board.proofs.Board.best.Goals as goal
 
 pub returns-in_err-lines-clause-answer : goal.returns-in_err-lines-clause-answer
@@ -61,3 +65,20 @@ returns-clause-table c =
     (best-answer c.args.self.now _ c.in_ok-lines.ensures.refusal c.in_ok-mounted_refusal.ensures _ _
     (rw (l.rack, l.quantities, l.sets) at p.ensures.answer) (rw (l.rack, l.quantities, l.sets) at p.ensures.plan)
     (rw (l.rack, l.quantities, l.sets) at p.ensures.table)).1.1
+
+full : (c : After-lines) → Full c.args.self.now
+full c = record { sets_full = search rules; quantities_full = search rules }
+
+pub returns-clause-few : goal.returns-clause-few
+returns-clause-few c =
+    best_few c.args.self.now (full (goal.at.returns-clause-few c).After-lines) _ c.args.plan.now c.args.table.now (returns-clause-answer c)
+
+pub returns-clause-entries : goal.returns-clause-entries
+returns-clause-entries c =
+    best_entries c.args.self.now (full (goal.at.returns-clause-entries c).After-lines) _ c.args.plan.now c.args.table.now (returns-clause-answer c)
+    (returns-clause-table c)
+
+pub returns-clause-checked : goal.returns-clause-checked
+returns-clause-checked c =
+    best_checked c.args.self.now (full (goal.at.returns-clause-checked c).After-lines) _ c.args.plan.now c.args.table.now (returns-clause-answer c)
+    (returns-clause-table c) (returns-clause-plan c)

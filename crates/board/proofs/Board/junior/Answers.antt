@@ -1,8 +1,12 @@
+use Rattle.std.proofs.Common.{rules}
 use mathlib.Core.Path.{ap, ◌∙◌}
 use Rattle.board.specs.Told.{junior_answered}
 use Rattle.board.proofs.JuniorCall.{junior_answer}
 use Rattle.board.proofs.Stopped.{junior_stopped, junior_same, junior_rule}
 use Rattle.refusal.proofs.Laws.{err_of}
+use Rattle.board.proofs.Sets.{Full}
+use Rattle.board.proofs.Left.{junior_few}
+use Rattle.board.proofs.Board.junior.Goals.{After-lines}
 use Rattle.board.proofs.Board.junior.Goals as goal
 
 pub returns-in_err-lines-clause-answer : goal.returns-in_err-lines-clause-answer
@@ -40,3 +44,9 @@ returns-clause-rule c =
     let l = c.in_ok-lines.ensures in
     (junior_answer c.args.self.now c.in_ok-lines.ensures.refusal _ j.result (rw (l.rack, l.quantities, l.sets) at j.ensures.answer)
     (rw (l.rack, l.quantities, l.sets) at j.ensures.plan) (rw (l.rack, l.quantities, l.sets) at j.ensures.rule)).1.1
+
+full : (c : After-lines) → Full c.args.self.now
+full c = record { sets_full = search rules; quantities_full = search rules }
+
+pub returns-clause-few : goal.returns-clause-few
+returns-clause-few c = junior_few c.args.self.now (full (goal.at.returns-clause-few c).After-lines) c.args.plan.now (returns-clause-answer c)

@@ -1,11 +1,16 @@
 use mathlib.Core.Path.{refl, sym, ◌∙◌}
 use Rattle.board.specs.Board.{open_of}
+use Rattle.model.proofs.Tests.{T_true}
+use Rattle.board.proofs.StaysSound.{empty_sound}
 use Rattle.board.proofs.Board.open.Goals as goal
 
-pub returns-then-not-rack_ok : goal.returns-then-not-rack_ok
+pub returns-then-not-rack_ok-clause-answer : goal.returns-then-not-rack_ok-clause-answer
 unfolding open_of
-returns-then-not-rack_ok c = rw (c.at.ensures, sym c.rack_ok.ensures ∙ c.if-not-rack_ok.true) refl
+returns-then-not-rack_ok-clause-answer c = rw (c.at.ensures, sym c.rack_ok.ensures ∙ c.if-not-rack_ok.true) refl
 
-pub returns : goal.returns
+pub returns-clause-answer : goal.returns-clause-answer
 unfolding open_of
-returns c = rw (c.empty.ensures, sym c.rack_ok.ensures ∙ c.if-not-rack_ok.false) refl
+returns-clause-answer c = rw (c.empty.ensures, sym c.rack_ok.ensures ∙ c.if-not-rack_ok.false) refl
+
+pub returns-clause-sound : goal.returns-clause-sound
+returns-clause-sound c = rw c.empty.ensures (empty_sound c.args.rack (T_true (sym c.rack_ok.ensures ∙ c.if-not-rack_ok.false)))

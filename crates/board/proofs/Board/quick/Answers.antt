@@ -1,8 +1,12 @@
+use Rattle.std.proofs.Common.{rules}
 use mathlib.Core.Path.{ap, ◌∙◌}
 use Rattle.board.specs.Told.{shared_answered}
 use Rattle.board.proofs.Answers.{by_state, quick_answer}
 use Rattle.board.proofs.Stopped.{mounted_state, quick_stopped, quick_same}
 use Rattle.refusal.proofs.Laws.{err_of}
+use Rattle.board.proofs.Sets.{Full}
+use Rattle.board.proofs.Left.{quick_few}
+use Rattle.board.proofs.Board.quick.Goals.{After-lines}
 use Rattle.board.proofs.Board.quick.Goals as goal
 
 pub returns-in_err-lines-clause-answer : goal.returns-in_err-lines-clause-answer
@@ -41,3 +45,9 @@ returns-clause-buffer c =
     let l = c.in_ok-lines.ensures in
     (quick_answer c.args.self.now _ c.in_ok-lines.ensures.refusal c.in_ok-mounted_refusal.ensures _
     (rw (l.rack, l.quantities, l.sets) at q.ensures.answer) (rw (l.rack, l.quantities, l.sets) at q.ensures.plan)).1
+
+full : (c : After-lines) → Full c.args.self.now
+full c = record { sets_full = search rules; quantities_full = search rules }
+
+pub returns-clause-few : goal.returns-clause-few
+returns-clause-few c = quick_few c.args.self.now (full (goal.at.returns-clause-few c).After-lines) _ _ (returns-clause-answer c)
