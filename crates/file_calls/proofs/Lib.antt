@@ -6,3 +6,5 @@ pub mod GoalFile
 pub mod TwoFiles
 pub mod JuniorIn
 pub mod Stopped
+pub mod Left
+pub mod ReadBoard
