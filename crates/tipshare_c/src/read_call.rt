@@ -1,7 +1,8 @@
 // Reading a job file.
 ghost use Rattle.std.specs.Prelude.{◌≡◌};
 ghost use Rattle.file_calls.specs.Calls.{read_in};
-ghost use Rattle.tipshare_c.specs.Answer.{number_in, answer_in};
+ghost use Rattle.file_calls.specs.Rules.{ReadRuleOf};
+ghost use Rattle.tipshare_c.specs.Answer.{number_in, answer_in, seen};
 
 use crate::answers::{PLACES, SHORT_ANSWER, put_answer};
 
@@ -10,6 +11,7 @@ use crate::answers::{PLACES, SHORT_ANSWER, put_answer};
 pub extern "C" fn tipshare_read(file: &[u8], answer: &mut [u64]) -> u32
     ensures number { result ≡ number_in answer.old (read_in file.now) }
     ensures answer { answer.new ≡ answer_in answer.old (read_in file.now) }
+    ensures rule { ReadRuleOf file.now (seen result answer.new) }
 {
     let Some(places) = answer.first_chunk_mut::<PLACES>() else {
         return SHORT_ANSWER;
