@@ -7,6 +7,7 @@ use Rattle.call_refusals.specs.Calls
 use Rattle.line_calls.specs.Answers.{PlanAnswer}
 use Rattle.line_calls.specs.Lines
 use Rattle.line_calls.specs.Rules
+use Rattle.line_calls.specs.Table
 use Rattle.board.specs.declared.Board.{Board}
 use Rattle.board.specs.Answers.{Shared}
 use Rattle.board.specs.Board.{lines_of, quantities_of, state_refusal}
@@ -42,3 +43,7 @@ HalfRule b buffer r = Rules.HalfRule (quantities_of b) (lines_of b) buffer r.num
 
 abbrev pub BestRule : Board → List ℕ → Shared → Type 0
 BestRule b buffer r = Rules.BestRule (quantities_of b) (lines_of b) buffer r.number r.pairs
+
+-- the table, of the numbers in the places lent
+abbrev pub TableRule : Board → List ℕ → Shared → Type 0
+TableRule b table r = Table.TableRule b.rack (quantities_of b) (lines_of b) table r.number

@@ -1,5 +1,6 @@
 // Quick sharing of two closed boards, each alone, whatever their racks.
-ghost use Rattle.std.specs.Prelude.{◌≡◌, length};
+ghost use Rattle.std.specs.Prelude.{◌≡◌, ◌≤◌, length};
+ghost use Rattle.model.specs.Limits.{most_pairs};
 ghost use Rattle.board.specs.Told.{alone_answered};
 ghost use Rattle.board.specs.Panel.{alone_of, alone_buffer, AloneRule};
 ghost use Rattle.refusal.specs.Reasons.{refusal_of};
@@ -17,6 +18,8 @@ impl Board {
         ensures plan { plan.new ≡ alone_buffer self.now other.now plan.old }
         ensures rule { AloneRule self.now other.now plan.new (alone_answered self.now other.now result) }
         ensures cases { Told (alone_cases self.now other.now (length plan.old)) (refusal_of result) }
+        ensures first_few { (alone_answered self.now other.now result).first_pairs ≤ most_pairs }
+        ensures second_few { (alone_answered self.now other.now result).second_pairs ≤ most_pairs }
     {
         let lines = self.lines()?;
         let others = other.lines()?;

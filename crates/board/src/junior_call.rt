@@ -1,5 +1,6 @@
 // The Junior with two holders on a closed board.
-ghost use Rattle.std.specs.Prelude.{◌≡◌, length};
+ghost use Rattle.std.specs.Prelude.{◌≡◌, ◌≤◌, length};
+ghost use Rattle.model.specs.Limits.{most_pairs};
 ghost use Rattle.board.specs.Told.{junior_answered};
 ghost use Rattle.board.specs.Junior.{junior_of, junior_buffer, JuniorRule};
 ghost use Rattle.refusal.specs.Reasons.{refusal_of};
@@ -16,6 +17,7 @@ impl Board {
         ensures buffer { plan.new ≡ junior_buffer self.now plan.old }
         ensures rule { JuniorRule self.now (length plan.old) plan.new (junior_answered self.now result) }
         ensures cases { Told (junior_cases self.now (length plan.old)) (refusal_of result) }
+        ensures few { (junior_answered self.now result).pairs ≤ most_pairs }
     {
         let lines = self.lines()?;
         line_calls::junior(lines, plan)

@@ -1,5 +1,6 @@
 // Quick sharing of a closed board.
-ghost use Rattle.std.specs.Prelude.{◌≡◌, length};
+ghost use Rattle.std.specs.Prelude.{◌≡◌, ◌≤◌, length};
+ghost use Rattle.model.specs.Limits.{most_pairs};
 ghost use Rattle.head.specs.OnHead.{on_head};
 ghost use Rattle.board.specs.Told.{shared_answered};
 ghost use Rattle.board.specs.Sharing.{quick_of, quick_buffer, HalfRule};
@@ -17,6 +18,7 @@ impl Board {
         ensures buffer { plan.new ≡ quick_buffer self.now (on_head mounted) plan.old }
         ensures rule { HalfRule self.now plan.new (shared_answered self.now result) }
         ensures cases { Told (quick_cases self.now (on_head mounted) (length plan.old)) (refusal_of result) }
+        ensures few { (shared_answered self.now result).pairs ≤ most_pairs }
     {
         let lines = self.lines()?;
         call_refusals::mounted_refusal(self.rack, mounted)?;

@@ -14,7 +14,7 @@ use Rattle.call_refusals.specs.declared.Stage.TheVariants.{Closed}
 use Rattle.call_refusals.specs.Calls.{best_refusal}
 use Rattle.call_refusals.proofs.Calls.{mounted_none, best_none}
 use Rattle.line_calls.specs.Lines
-use Rattle.panel.specs.Rules.{MostPairs}
+use Rattle.line_calls.specs.Table.{MostPairs}
 use Rattle.board.specs.declared.Board.{Board}
 use Rattle.board.specs.Board.{lines_of, quantities_of, state_refusal}
 use Rattle.board.specs.Common.{common_of}

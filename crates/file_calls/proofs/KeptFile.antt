@@ -127,7 +127,7 @@ module _ (file : List ℕ) (k : ℕ) (out : List ℕ) where
 
   -- what is written reads as the pruned lines
   module _ (bytes : Bytes file) where
-    as_pruned : (z : o.refusal.number ≡ 0) → ReadsAs m qs pruned (take o.second (keep_file_in file k out))
+    pub as_pruned : (z : o.refusal.number ≡ 0) → ReadsAs m qs pruned (take o.second (keep_file_in file k out))
     unfolding keep_in keep_file_in keep_of
     as_pruned z = reads file kept_refusal pruned good_kept out (decided-by z) bytes
 

@@ -7,3 +7,5 @@ pub mod TwoFiles
 pub mod JuniorIn
 pub mod Stopped
 pub mod CasesTold
+pub mod Left
+pub mod ReadBoard

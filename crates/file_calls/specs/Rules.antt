@@ -1,11 +1,19 @@
 -- The demands, of the number, the counts and the buffers that a caller with a job file sees.
-use Rattle.std.specs.Prelude.{ℕ, ◌≡◌, ◌↔◌, List, length, take}
+use Rattle.std.specs.Prelude.{ℕ, ◌≡◌, ◌↔◌, List, T, length, take}
 use Rattle.placements.specs.Keep.{ExactQ}
 use Rattle.refusal.specs.Refusal.{none}
+use Rattle.sound.specs.Sound.{sound_board}
 use Rattle.call_refusals.specs.Calls.{best_refusal}
 use Rattle.job.specs.Job.{rack_in, sets_in, quantities_in, read_refusal, InShorterForm}
 use Rattle.line_calls.specs.Rules.{CommonRule, NoneWithin, HalfRule, BestRule, CheckRule}
+use Rattle.line_calls.specs.Table.{TableRule}
 use Rattle.file_calls.specs.Outcomes.{Outcome}
+use Rattle.file_calls.specs.Calls.{check_outcome, check_in}
+
+-- the numbers of an accepted read are those of a sound board, whose lines are those of the file
+pub record ReadRuleOf (file : List ℕ) (o : Outcome) : Type 0 where
+  pub sound : o.refusal.number ≡ 0 → T (sound_board o.first o.second (quantities_in file) (sets_in file))
+  pub count : o.refusal.number ≡ 0 → length (sets_in file) ≡ o.second
 
 -- off is the least over all valid plans, and the set has the tips that as many placements allow as top
 abbrev pub CommonRuleOf : List ℕ → Outcome → Type 0
@@ -18,6 +26,14 @@ HalfRuleOf file plan o = HalfRule (quantities_in file) (sets_in file) plan o.ref
 -- the best rule, of the bytes in the plan buffer
 abbrev pub BestRuleOf : List ℕ → List ℕ → Outcome → Type 0
 BestRuleOf file plan o = BestRule (quantities_in file) (sets_in file) plan o.refusal.number o.first
+
+-- the table, of the numbers in the places lent
+abbrev pub TableRuleOf : List ℕ → List ℕ → Outcome → Type 0
+TableRuleOf file table o = TableRule (rack_in file) (quantities_in file) (sets_in file) table o.refusal.number
+
+-- the check accepts a plan that best sharing hands out, with its pairs as the claim and its table
+abbrev pub CheckAcceptsOf : List ℕ → List ℕ → List ℕ → Outcome → Type 0
+CheckAcceptsOf file plan tab o = o.refusal.number ≡ 0 → check_in file plan o.first tab ≡ check_outcome none
 
 -- accepted exactly where the plan, the claim and the table are what they say, and then the plan is best
 abbrev pub CheckRuleOf : List ℕ → List ℕ → ℕ → List ℕ → Outcome → Type 0

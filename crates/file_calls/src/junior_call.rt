@@ -1,5 +1,6 @@
 // The Junior with two holders on a job file.
-ghost use Rattle.std.specs.Prelude.{◌≡◌, length};
+ghost use Rattle.std.specs.Prelude.{◌≡◌, ◌≤◌, length};
+ghost use Rattle.model.specs.Limits.{most_pairs};
 ghost use Rattle.file_calls.specs.Outcomes.{outcome_of};
 ghost use Rattle.file_calls.specs.Junior.{junior_in, junior_plan_in, JuniorRuleOf};
 ghost use Rattle.cases.specs.Cases.{Told};
@@ -15,6 +16,7 @@ pub fn junior_outcome(file: &[u8], plan: &mut [u8]) -> Result<Counts, Refused>
     ensures plan { plan.new ≡ junior_plan_in file.now plan.old }
     ensures rule { JuniorRuleOf file.now (length plan.old) plan.new (outcome_of result) }
     ensures cases { Told (junior_cases file.now (length plan.old)) (outcome_of result).refusal }
+    ensures few { (outcome_of result).first ≤ most_pairs }
 {
     let mut room = Room::new();
     let lines = room.read(file)?;

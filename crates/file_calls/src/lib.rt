@@ -1,12 +1,13 @@
 // What each call gives for a job file in memory: the lines are read once, and the calls work on them where reading accepts the file.
 #![tactic(auto)]
 
-ghost use Rattle.std.specs.Prelude.{◌≡◌, length};
+ghost use Rattle.std.specs.Prelude.{◌≡◌, ◌≤◌, length};
+ghost use Rattle.model.specs.Limits.{most_pairs};
 ghost use Rattle.head.specs.OnHead.{on_head};
 ghost use Rattle.file_calls.specs.Outcomes.{outcome_of, kept_outcome_of, twos_complement};
 ghost use Rattle.file_calls.specs.Calls.{read_in, common_in, keep_in, keep_file_in, quick_in, quick_plan_in, best_in, best_plan_in, best_table_in};
 ghost use Rattle.file_calls.specs.Calls.{check_in};
-ghost use Rattle.file_calls.specs.Rules.{CommonRuleOf, KeepRuleOf, HalfRuleOf, BestRuleOf, CheckRuleOf};
+ghost use Rattle.file_calls.specs.Rules.{CommonRuleOf, KeepRuleOf, HalfRuleOf, BestRuleOf, CheckRuleOf, ReadRuleOf, TableRuleOf, CheckAcceptsOf};
 ghost use Rattle.cases.specs.Cases.{Told};
 ghost use Rattle.file_calls.specs.Cases.{read_cases, keep_cases, quick_cases, best_cases, check_cases};
 
@@ -53,6 +54,7 @@ pub fn twos_complement(x: i32) -> u64
 pub fn read_outcome(file: &[u8]) -> Result<Counts, Refused>
     ensures outcome { outcome_of result ≡ read_in file.now }
     ensures cases { Told (read_cases file.now) (outcome_of result).refusal }
+    ensures rule { ReadRuleOf file.now (outcome_of result) }
 {
     let opened = reading::open(file)?;
     Ok(Counts {
@@ -112,6 +114,7 @@ pub fn quick_outcome(
     ensures plan { plan.new ≡ quick_plan_in file.now (on_head mounted) plan.old }
     ensures rule { HalfRuleOf file.now plan.new (outcome_of result) }
     ensures cases { Told (quick_cases file.now (on_head mounted) (length plan.old)) (outcome_of result).refusal }
+    ensures few { (outcome_of result).first ≤ most_pairs }
 {
     let mut room = Room::new();
     let lines = room.read(file)?;
@@ -133,6 +136,9 @@ pub fn best_outcome(
         ≡ best_table_in file.now (on_head mounted) (length plan.old) table.old }
     ensures rule { BestRuleOf file.now plan.new (outcome_of result) }
     ensures cases { Told (best_cases file.now (on_head mounted) (length plan.old) (length table.old)) (outcome_of result).refusal }
+    ensures few { (outcome_of result).first ≤ most_pairs }
+    ensures entries { TableRuleOf file.now table.new (outcome_of result) }
+    ensures checked { CheckAcceptsOf file.now plan.new table.new (outcome_of result) }
 {
     let mut room = Room::new();
     let lines = room.read(file)?;

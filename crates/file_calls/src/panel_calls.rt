@@ -1,5 +1,6 @@
 // What merging two job files in memory and planning each alone give.
-ghost use Rattle.std.specs.Prelude.{◌≡◌, length};
+ghost use Rattle.std.specs.Prelude.{◌≡◌, ◌≤◌, length};
+ghost use Rattle.model.specs.Limits.{most_pairs};
 ghost use Rattle.file_calls.specs.Outcomes.{outcome_of};
 ghost use Rattle.file_calls.specs.Panel.{merge_of_files, merge_file_in, MergeRuleOf, alone_in, alone_plan_in, AloneRuleOf};
 ghost use Rattle.cases.specs.Cases.{Told};
@@ -37,6 +38,8 @@ pub fn alone_outcome(first: &[u8], second: &[u8], plan: &mut [u8]) -> Result<Cou
     ensures plan { plan.new ≡ alone_plan_in first.now second.now plan.old }
     ensures rule { AloneRuleOf first.now second.now plan.new (outcome_of result) }
     ensures cases { Told (alone_cases first.now second.now (length plan.old)) (outcome_of result).refusal }
+    ensures first_few { (outcome_of result).first ≤ most_pairs }
+    ensures second_few { (outcome_of result).second ≤ most_pairs }
 {
     let mut room = Room::new();
     let lines = room.read(first)?;

@@ -4,7 +4,7 @@
 ghost use Rattle.std.specs.Prelude.{◌≡◌, ◌≤◌, length, is_some, unwrap_or};
 ghost use Rattle.report.specs.Report.{report_of};
 ghost use Rattle.text.specs.Buffer.{Printed};
-ghost use Rattle.file_report.specs.Summary.{facts_of, BestTold, text_of, text_room, summary_of};
+ghost use Rattle.file_report.specs.Summary.{facts_of, BestTold, text_of, text_room, summary_of, ReportRule};
 
 use placements::Lines;
 use reading::Room;
@@ -69,7 +69,8 @@ fn write_file(file: &[u8], out: &mut [u8]) -> usize
 // Writes the text for a file, and returns how many bytes that are. Into a buffer shorter than the longest text it writes none, and returns 0:
 // no text is empty.
 pub fn summarize(file: &[u8], out: &mut [u8]) -> usize
-    ensures { Printed (summary_of file.now (length out.old)) out.old result out.new }
+    ensures text { Printed (summary_of file.now (length out.old)) out.old result out.new }
+    ensures rule { ReportRule file.now (length out.old) result out.new }
 {
     if out.len() < ROOM {
         return 0;

@@ -6,3 +6,5 @@ pub mod Refused
 pub mod Checked
 pub mod PairGoal
 pub mod JuniorPlan
+pub mod Within
+pub mod Left

@@ -1,5 +1,6 @@
 pub mod Answers
 pub mod Lines
 pub mod Rules
+pub mod Table
 pub mod Goal
 pub mod Junior

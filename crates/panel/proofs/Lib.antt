@@ -2,3 +2,4 @@ pub mod Panel
 pub mod Merged
 pub mod BothPlans
 pub mod Refused
+pub mod Few

@@ -20,7 +20,8 @@ use Rattle.placements.proofs.Repeated.{length-repeated, repeated-append}
 use Rattle.placements.proofs.Totals.{total-append}
 use Rattle.placements.proofs.CommonTip.{least_off-placements}
 use Rattle.goals.proofs.Append.{mix_append, all_append, valid_append}
-use Rattle.panel.specs.Rules.{MostPairs, PanelRule}
+use Rattle.line_calls.specs.Table.{MostPairs}
+use Rattle.panel.specs.Rules.{PanelRule}
 
 -- ---- placements, one list after the other
 

@@ -1,15 +1,11 @@
 -- What the answers mean for all valid plans by lines, counted in placements.
 use Rattle.std.specs.Prelude.{ℕ, ◌+◌, ◌≤◌, ◌≡◌, List, ◌++◌, length, drop}
-use Rattle.model.specs.Plan.{occ, Valid, pairs}
+use Rattle.model.specs.Plan.{occ}
 use Rattle.placements.specs.Repeated.{repeated}
 use Rattle.placements.specs.Good.{GoodLines}
 use Rattle.placements.specs.Keep.{LeastOffQ}
 use Rattle.line_calls.specs.Rules.{HalfRule}
-
--- some valid plan has x placement pairs, and no valid plan has more
-pub record MostPairs (qs lines : List ℕ) (x : ℕ) : Type 0 where
-  pub reached : (plan : List ℕ) × Valid lines plan × (pairs (repeated qs plan) ≡ x)
-  pub most : (plan : List ℕ) → Valid lines plan → pairs (repeated qs plan) ≤ x
+use Rattle.line_calls.specs.Table.{MostPairs}
 
 -- the lines of a panel are those of the first board and then those of the second, and good: occurrences add, the least off count is at least the sum
 -- of the two, and so are the pairs of the best plans

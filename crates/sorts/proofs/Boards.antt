@@ -162,6 +162,11 @@ module _ (b₁ b₂ : Board) (r : Reordered b₁ b₂) where
         ∙ rw (same_keep, e, f, same (λ m x. kept_q m x k q s) (λ m. (order_hidden m k bare).kept q s)) refl
         ∙ sym (kept_at b₂ r.own₂ k keep₂ j h)
 
+  -- its number and its margin, whatever the buffers of other calls are
+  pub kept_alike : (k : ℕ) → ((keep_of b₁ k).number ≡ (keep_of b₂ k).number) × ((keep_of b₁ k).margin ≡ (keep_of b₂ k).margin)
+  unfolding keep_of Lines.keep_of
+  kept_alike k = (ap (λ d. d.number) (same_keep k), ap₂ (λ d z. cond (accepts d) z (pos 0)) same_state (same_margin k))
+
   -- ---- the plans
 
   module _ (mounted : Mounted) (plan₁ plan₂ cells₁ cells₂ : List ℕ) (long₁ : LongEnough b₁ plan₁ cells₁) (long₂ : LongEnough b₂ plan₂ cells₂) where

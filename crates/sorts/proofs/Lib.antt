@@ -3,3 +3,4 @@ pub mod HiddenOrder
 pub mod Refusals
 pub mod Boards
 pub mod Example
+pub mod Files

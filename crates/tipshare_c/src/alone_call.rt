@@ -1,5 +1,6 @@
 // Quick sharing of two job files, each alone.
 ghost use Rattle.std.specs.Prelude.{◌≡◌, ◌≤◌, length};
+ghost use Rattle.model.specs.Limits.{most_pairs};
 ghost use Rattle.file_calls.specs.Panel.{alone_in, alone_plan_in, AloneRuleOf};
 ghost use Rattle.tipshare_c.specs.Answer.{if_short, number_in, answer_in, seen};
 ghost use Rattle.cases.specs.Cases.{Told};
@@ -25,6 +26,8 @@ pub extern "C" fn tipshare_alone(
         → AloneRuleOf first.now second.now plan.new (seen result answer.new) }
     ensures cases { 4 ≤ length answer.old
         → Told (alone_cases first.now second.now (length plan.old)) (seen result answer.new).refusal }
+    ensures first_few { 4 ≤ length answer.old → (seen result answer.new).first ≤ most_pairs }
+    ensures second_few { 4 ≤ length answer.old → (seen result answer.new).second ≤ most_pairs }
 {
     let Some(places) = answer.first_chunk_mut::<PLACES>() else {
         return SHORT_ANSWER;

@@ -1,5 +1,6 @@
 // The Junior with two holders on a job file.
 ghost use Rattle.std.specs.Prelude.{◌≡◌, ◌≤◌, length};
+ghost use Rattle.model.specs.Limits.{most_pairs};
 ghost use Rattle.file_calls.specs.Junior.{junior_in, junior_plan_in, JuniorRuleOf};
 ghost use Rattle.tipshare_c.specs.Answer.{if_short, number_in, answer_in, seen};
 ghost use Rattle.cases.specs.Cases.{Told};
@@ -18,6 +19,7 @@ pub extern "C" fn tipshare_junior(file: &[u8], plan: &mut [u8], answer: &mut [u6
         → JuniorRuleOf file.now (length plan.old) plan.new (seen result answer.new) }
     ensures cases { 4 ≤ length answer.old
         → Told (junior_cases file.now (length plan.old)) (seen result answer.new).refusal }
+    ensures few { 4 ≤ length answer.old → (seen result answer.new).first ≤ most_pairs }
 {
     let Some(places) = answer.first_chunk_mut::<PLACES>() else {
         return SHORT_ANSWER;

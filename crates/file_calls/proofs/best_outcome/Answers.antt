@@ -6,6 +6,7 @@ use Rattle.head.specs.OnHead.{on_head}
 use Rattle.refusal.specs.Reasons.{told_of}
 use Rattle.call_refusals.proofs.Calls.{best_first}
 use Rattle.line_calls.proofs.Plans.{best-refused}
+use Rattle.file_calls.proofs.Left.{best_few, best_entries, best_checked}
 use Rattle.file_calls.proofs.Stopped.{best_read}
 use Rattle.file_calls.proofs.ReadLines.{best-in}
 use Rattle.file_calls.proofs.CasesTold.{best_told}
@@ -18,7 +19,16 @@ returns-in_err-lines c =
     let same : c.from_residual.result ≡ Err e = search rules in
     let (outcome, (plan, (table, rule))) = best_read a.file.now e c.in_err-lines.ensures.refusal (on_head a.mounted) a.plan.now a.table.now in
     let told = best_told a.file.now (on_head a.mounted) _ _ outcome in
-    rw same (record { outcome = outcome; plan = plan; table = table; rule = rule; cases = told })
+    rw same (record {
+      outcome = outcome;
+      plan = plan;
+      table = table;
+      rule = rule;
+      few = best_few a.file.now (on_head a.mounted) a.plan.now a.table.now outcome;
+      entries = best_entries a.file.now (on_head a.mounted) a.plan.now a.table.now outcome table;
+      checked = best_checked a.file.now (on_head a.mounted) a.plan.now a.table.now outcome table plan;
+      cases = told;
+    })
 
 -- a mounted tip outside the rack refuses the call before the lines are looked at
 pub returns-in_err-mounted_refusal : goal.returns-in_err-mounted_refusal
@@ -38,7 +48,16 @@ returns-in_err-mounted_refusal c =
     best-in a.file.now read.refusal (λ _. (read.rack, read.quantities, read.sets)) (on_head a.mounted) c.in_err-mounted_refusal.ensures
     a.plan.now a.table.now p q t half in
     let told = best_told a.file.now (on_head a.mounted) _ _ outcome in
-    rw same (record { outcome = outcome; plan = plan; table = table; rule = rule; cases = told })
+    rw same (record {
+      outcome = outcome;
+      plan = plan;
+      table = table;
+      rule = rule;
+      few = best_few a.file.now (on_head a.mounted) a.plan.now a.table.now outcome;
+      entries = best_entries a.file.now (on_head a.mounted) a.plan.now a.table.now outcome table;
+      checked = best_checked a.file.now (on_head a.mounted) a.plan.now a.table.now outcome table plan;
+      cases = told;
+    })
 
 pub returns-in_err-pairs : goal.returns-in_err-pairs
 returns-in_err-pairs c =
@@ -52,7 +71,16 @@ returns-in_err-pairs c =
     (on_head a.mounted) c.in_ok-mounted_refusal.ensures a.plan.now a.table.now
     laid.answer laid.plan laid.table laid.rule in
     let told = best_told a.file.now (on_head a.mounted) _ _ outcome in
-    rw same (record { outcome = outcome; plan = plan; table = table; rule = rule; cases = told })
+    rw same (record {
+      outcome = outcome;
+      plan = plan;
+      table = table;
+      rule = rule;
+      few = best_few a.file.now (on_head a.mounted) a.plan.now a.table.now outcome;
+      entries = best_entries a.file.now (on_head a.mounted) a.plan.now a.table.now outcome table;
+      checked = best_checked a.file.now (on_head a.mounted) a.plan.now a.table.now outcome table plan;
+      cases = told;
+    })
 
 pub returns : goal.returns
 returns c =
@@ -64,4 +92,13 @@ returns c =
     (on_head a.mounted) c.in_ok-mounted_refusal.ensures a.plan.now a.table.now
     laid.answer laid.plan laid.table laid.rule in
     let told = best_told a.file.now (on_head a.mounted) _ _ outcome in
-    rw (c.one.ensures, c.from.ensures) (record { outcome = outcome; plan = plan; table = table; rule = rule; cases = told })
+    rw (c.one.ensures, c.from.ensures) (record {
+      outcome = outcome;
+      plan = plan;
+      table = table;
+      rule = rule;
+      few = best_few a.file.now (on_head a.mounted) a.plan.now a.table.now outcome;
+      entries = best_entries a.file.now (on_head a.mounted) a.plan.now a.table.now outcome table;
+      checked = best_checked a.file.now (on_head a.mounted) a.plan.now a.table.now outcome table plan;
+      cases = told;
+    })

@@ -6,6 +6,7 @@ use Rattle.head.specs.OnHead.{on_head}
 use Rattle.refusal.specs.Reasons.{told_of}
 use Rattle.call_refusals.proofs.Calls.{plan_first}
 use Rattle.line_calls.proofs.Plans.{quick_refused}
+use Rattle.file_calls.proofs.Left.{quick_few}
 use Rattle.file_calls.proofs.Stopped.{quick_read}
 use Rattle.file_calls.proofs.ReadLines.{quick-in}
 use Rattle.file_calls.proofs.CasesTold.{quick_told}
@@ -18,7 +19,7 @@ returns-in_err-lines c =
     let same : c.from_residual.result ≡ Err e = search rules in
     let (outcome, (plan, rule)) = quick_read a.file.now e c.in_err-lines.ensures.refusal (on_head a.mounted) a.plan.now in
     let told = quick_told a.file.now (on_head a.mounted) _ outcome in
-    rw same (record { outcome = outcome; plan = plan; rule = rule; cases = told })
+    rw same (record { outcome = outcome; plan = plan; rule = rule; few = quick_few a.file.now (on_head a.mounted) _ outcome; cases = told })
 
 -- a mounted tip outside the rack refuses the call before the lines are looked at
 pub returns-in_err-mounted_refusal : goal.returns-in_err-mounted_refusal
@@ -38,7 +39,7 @@ returns-in_err-mounted_refusal c =
     quick-in a.file.now read.refusal (λ _. (read.rack, read.quantities, read.sets))
     (on_head a.mounted) c.in_err-mounted_refusal.ensures a.plan.now p q half in
     let told = quick_told a.file.now (on_head a.mounted) _ outcome in
-    rw same (record { outcome = outcome; plan = plan; rule = rule; cases = told })
+    rw same (record { outcome = outcome; plan = plan; rule = rule; few = quick_few a.file.now (on_head a.mounted) _ outcome; cases = told })
 
 pub returns-in_err-pairs : goal.returns-in_err-pairs
 returns-in_err-pairs c =
@@ -51,7 +52,7 @@ returns-in_err-pairs c =
     quick-in a.file.now read.refusal (λ _. (read.rack, read.quantities, read.sets)) (on_head a.mounted) c.in_ok-mounted_refusal.ensures a.plan.now
     laid.answer laid.plan laid.rule in
     let told = quick_told a.file.now (on_head a.mounted) _ outcome in
-    rw same (record { outcome = outcome; plan = plan; rule = rule; cases = told })
+    rw same (record { outcome = outcome; plan = plan; rule = rule; few = quick_few a.file.now (on_head a.mounted) _ outcome; cases = told })
 
 pub returns : goal.returns
 returns c =
@@ -62,4 +63,5 @@ returns c =
     quick-in a.file.now read.refusal (λ _. (read.rack, read.quantities, read.sets)) (on_head a.mounted) c.in_ok-mounted_refusal.ensures a.plan.now
     laid.answer laid.plan laid.rule in
     let told = quick_told a.file.now (on_head a.mounted) _ outcome in
-    rw (c.one.ensures, c.from.ensures) (record { outcome = outcome; plan = plan; rule = rule; cases = told })
+    let few = quick_few a.file.now (on_head a.mounted) _ outcome in
+    rw (c.one.ensures, c.from.ensures) (record { outcome = outcome; plan = plan; rule = rule; few = few; cases = told })

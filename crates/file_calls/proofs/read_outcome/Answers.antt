@@ -4,6 +4,7 @@ use Rattle.refusal.proofs.Laws.{reason_not_0, refused}
 use Rattle.job.specs.Job.{rack_in, count_in}
 use Rattle.file_calls.specs.Calls.{read_in}
 use Rattle.file_calls.proofs.CasesTold.{header_told}
+use Rattle.file_calls.proofs.ReadBoard.{read_rule}
 use Rattle.file_calls.proofs.read_outcome.Goals as goal
 
 pub returns-in_err-opened-clause-outcome : goal.returns-in_err-opened-clause-outcome
@@ -15,6 +16,9 @@ returns-in_err-opened-clause-outcome c =
     let told = c.in_err-opened.ensures.refusal in
     let n = reason_not_0 e.reason in
     rw (same, refused (rack_in file) 0 told n, refused (count_in file) 0 told n, told) refl
+
+pub returns-in_err-opened-clause-rule : goal.returns-in_err-opened-clause-rule
+returns-in_err-opened-clause-rule c = read_rule c.args.file.now (returns-in_err-opened-clause-outcome c)
 
 pub returns-clause-outcome : goal.returns-clause-outcome
 unfolding read_in
@@ -28,3 +32,6 @@ returns-in_err-opened-clause-cases c = header_told c.args.file.now (returns-in_e
 
 pub returns-clause-cases : goal.returns-clause-cases
 returns-clause-cases c = header_told c.args.file.now (returns-clause-outcome c)
+
+pub returns-clause-rule : goal.returns-clause-rule
+returns-clause-rule c = read_rule c.args.file.now (returns-clause-outcome c)

@@ -8,6 +8,7 @@ use Rattle.board.proofs.Answers.{add_refused, add_accepted, add_place}
 use Rattle.board.proofs.Stopped.{add_stopped}
 use Rattle.board.proofs.Board.add.Goals.{After-state}
 use Rattle.board.proofs.CasesTold.{add_told}
+use Rattle.board.proofs.StaysSound.{add_stays}
 use Rattle.board.proofs.Board.add.Goals as goal
 
 full : (c : After-state) → Full c.args.self.now
@@ -53,3 +54,7 @@ returns-in_err-add_refusal-clause-cases c =
 pub returns-clause-cases : goal.returns-clause-cases
 returns-clause-cases c =
     add_told c.args.self.now (full (goal.at.returns-clause-cases c).After-state) (Ok (tt {0})) _ _ (returns-clause-answer c)
+
+pub returns-clause-sound : goal.returns-clause-sound
+returns-clause-sound c =
+    add_stays c.args.self.now (full (goal.at.returns-clause-sound c).After-state) c.args.set c.args.quantity (returns-clause-answer c)

@@ -4,6 +4,7 @@ use Rattle.refusal.specs.Refusal.{none}
 use Rattle.refusal.proofs.Laws.{err_of, or_err, or_ok}
 use Rattle.board.specs.Told.{alone_answered}
 use Rattle.board.proofs.Sets.{Full}
+use Rattle.board.proofs.Left.{alone_few}
 use Rattle.board.proofs.PanelRule.{alone_answer}
 use Rattle.board.proofs.Stopped.{alone_stopped, alone_same}
 use Rattle.board.proofs.Board.alone.Goals.{In_ok-lines, In_ok-others}
@@ -76,3 +77,15 @@ returns-clause-cases c =
     let all = full (goal.at.returns-clause-cases c).In_ok-lines in
     let other = other-full (goal.at.returns-clause-cases c).In_ok-others in
     alone_told _ _ all other _ _ (returns-clause-answer c)
+
+pub returns-clause-first_few : goal.returns-clause-first_few
+returns-clause-first_few c =
+    let all = full (goal.at.returns-clause-first_few c).In_ok-lines in
+    let other = other-full (goal.at.returns-clause-first_few c).In_ok-others in
+    (alone_few c.args.self.now c.args.other.now all other _ (returns-clause-answer c)).0
+
+pub returns-clause-second_few : goal.returns-clause-second_few
+returns-clause-second_few c =
+    let all = full (goal.at.returns-clause-second_few c).In_ok-lines in
+    let other = other-full (goal.at.returns-clause-second_few c).In_ok-others in
+    (alone_few c.args.self.now c.args.other.now all other _ (returns-clause-answer c)).1

@@ -1,11 +1,12 @@
+use Rattle.std.proofs.Common.{rules}
 use mathlib.Core.Path.{ap, ◌∙◌}
 use Rattle.board.specs.Told.{shared_answered}
 use Rattle.board.proofs.Answers.{by_state, best-answer}
 use Rattle.board.proofs.Stopped.{mounted_state, best_stopped, best_same, table_same}
 use Rattle.refusal.proofs.Laws.{err_of}
-use Rattle.std.proofs.Common.{rules}
 use Rattle.board.proofs.Sets.{Full}
 use Rattle.board.proofs.CasesTold.{best_told}
+use Rattle.board.proofs.Left.{best_few, best_entries, best_checked}
 use Rattle.board.proofs.Board.best.Goals.{After-lines}
 use Rattle.board.proofs.Board.best.Goals as goal
 
@@ -81,3 +82,17 @@ returns-in_err-mounted_refusal-clause-cases c =
 pub returns-clause-cases : goal.returns-clause-cases
 returns-clause-cases c =
     best_told c.args.self.now (full (goal.at.returns-clause-cases c).After-lines) _ _ _ _ (returns-clause-answer c)
+
+pub returns-clause-few : goal.returns-clause-few
+returns-clause-few c =
+    best_few c.args.self.now (full (goal.at.returns-clause-few c).After-lines) _ c.args.plan.now c.args.table.now (returns-clause-answer c)
+
+pub returns-clause-entries : goal.returns-clause-entries
+returns-clause-entries c =
+    best_entries c.args.self.now (full (goal.at.returns-clause-entries c).After-lines) _ c.args.plan.now c.args.table.now (returns-clause-answer c)
+    (returns-clause-table c)
+
+pub returns-clause-checked : goal.returns-clause-checked
+returns-clause-checked c =
+    best_checked c.args.self.now (full (goal.at.returns-clause-checked c).After-lines) _ c.args.plan.now c.args.table.now (returns-clause-answer c)
+    (returns-clause-table c) (returns-clause-plan c)

@@ -1,12 +1,13 @@
+use Rattle.std.proofs.Common.{rules}
 use mathlib.Core.Path.{ap, ◌∙◌}
 use Rattle.board.specs.Told.{junior_answered}
 use Rattle.board.proofs.JuniorCall.{junior_answer}
 use Rattle.board.proofs.Stopped.{junior_stopped, junior_same, junior_rule}
 use Rattle.refusal.proofs.Laws.{err_of}
-use Rattle.std.proofs.Common.{rules}
 use Rattle.board.proofs.Sets.{Full}
 use Rattle.board.proofs.Board.junior.Goals.{After-lines}
 use Rattle.board.proofs.CasesTold.{junior_told}
+use Rattle.board.proofs.Left.{junior_few}
 use Rattle.board.proofs.Board.junior.Goals as goal
 
 pub returns-in_err-lines-clause-answer : goal.returns-in_err-lines-clause-answer
@@ -55,3 +56,6 @@ returns-in_err-lines-clause-cases c =
 pub returns-clause-cases : goal.returns-clause-cases
 returns-clause-cases c =
     junior_told c.args.self.now (full (goal.at.returns-clause-cases c).After-lines) _ _ (returns-clause-answer c)
+
+pub returns-clause-few : goal.returns-clause-few
+returns-clause-few c = junior_few c.args.self.now (full (goal.at.returns-clause-few c).After-lines) c.args.plan.now (returns-clause-answer c)

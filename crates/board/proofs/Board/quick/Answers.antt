@@ -1,11 +1,12 @@
+use Rattle.std.proofs.Common.{rules}
 use mathlib.Core.Path.{ap, ◌∙◌}
 use Rattle.board.specs.Told.{shared_answered}
 use Rattle.board.proofs.Answers.{by_state, quick_answer}
 use Rattle.board.proofs.Stopped.{mounted_state, quick_stopped, quick_same}
 use Rattle.refusal.proofs.Laws.{err_of}
-use Rattle.std.proofs.Common.{rules}
 use Rattle.board.proofs.Sets.{Full}
 use Rattle.board.proofs.CasesTold.{quick_told}
+use Rattle.board.proofs.Left.{quick_few}
 use Rattle.board.proofs.Board.quick.Goals.{After-lines}
 use Rattle.board.proofs.Board.quick.Goals as goal
 
@@ -61,3 +62,6 @@ returns-in_err-mounted_refusal-clause-cases c =
 pub returns-clause-cases : goal.returns-clause-cases
 returns-clause-cases c =
     quick_told c.args.self.now (full (goal.at.returns-clause-cases c).After-lines) _ _ _ (returns-clause-answer c)
+
+pub returns-clause-few : goal.returns-clause-few
+returns-clause-few c = quick_few c.args.self.now (full (goal.at.returns-clause-few c).After-lines) _ _ (returns-clause-answer c)
