@@ -12,6 +12,7 @@ use borrow.Author.Tests.{ne_eqb, eqb-true, leb-true, le-leb, le-ltb}
 use Rattle.model.specs.Count.{All, each, first_fail}
 use Rattle.model.specs.Plan.{Domain, rack_ok, in_rack}
 use Rattle.model.specs.Limits.{most_tips, most_lines, most_placements}
+use Rattle.model.specs.Choice.{bare}
 use Rattle.model.specs.Interval.{is_run, named, is_run_of}
 use Rattle.model.specs.Before.{is_run_before}
 use Rattle.model.proofs.Tests.{le_or_lt, true_T, T_true, false_T, test, and_left, and_right, and_in}
@@ -30,7 +31,7 @@ use Rattle.sound.proofs.Laws.{Sound, sound_iff, sound_none, sound_holds}
 use Rattle.call_refusals.specs.declared.Stage.{Stage}
 use Rattle.call_refusals.specs.declared.Stage.TheVariants.{Open, Closed}
 use Rattle.call_refusals.specs.State.{stage_refusal, state_refusal}
-use Rattle.call_refusals.specs.Calls.{add_refusal, keep_refusal, plan_refusal, run_refusal, best_refusal, write_refusal}
+use Rattle.call_refusals.specs.Calls.{add_refusal, keep_refusal, mounted_refusal, plan_refusal, run_refusal, best_refusal, write_refusal}
 use Rattle.call_refusals.specs.Before.{sound_before, stage_before, state_before, below_zero, set_before, told_before, Plain}
 use Rattle.call_refusals.specs.Before.{add_refusal_before, keep_refusal_before, quick_refusal_before, best_refusal_before, write_refusal_before}
 use Rattle.call_refusals.proofs.Calls.{plan_none}
@@ -229,6 +230,11 @@ module _ (earlier : Refusal) where
   pub quick-told : (n room : ℕ) → told_before (quick_refusal_before earlier n room) ≡ quick_refusal_before (told_before earlier) n room
   unfolding quick_refusal_before
   quick-told n room = told_or earlier (when (ltb room n) 4) (known (ltb room n) 4 refl)
+
+  -- without a mounted tip nothing is asked
+  pub bare-same : (m : ℕ) → mounted_refusal earlier m bare ≡ earlier
+  unfolding mounted_refusal
+  bare-same m = refl
 
   pub write-same : (n room : ℕ) → write_refusal earlier 1 n room ≡ write_refusal_before earlier n room
   unfolding write_refusal write_refusal_before line_length
