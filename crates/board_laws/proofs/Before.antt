@@ -29,7 +29,7 @@ use Rattle.placements.proofs.Repeated.{length-repeated, repeated_ones}
 use Rattle.refusal.specs.Told.{Refusal}
 use Rattle.refusal.specs.Refusal.{none, accepts, scan, told, lent_by}
 use Rattle.refusal.proofs.Laws.{scan_passes}
-use Rattle.job.specs.Before.{plain_file_of}
+use Rattle.board_laws.specs.Format.{file_before}
 use Rattle.call_refusals.specs.declared.Stage.{Stage}
 use Rattle.call_refusals.specs.declared.Stage.TheVariants.{Open, Closed}
 use Rattle.call_refusals.specs.Calls.{add_refusal, mounted_refusal, run_refusal}
@@ -195,8 +195,8 @@ module _ (b : Board) (full : Full b) (plain : Plain b.count b.quantities) where
         write-file = λ out.
             let n = 8 + 8 * length lines in
             written-lines today m plain.ones lines same out
-            ∙ lent_told (write_refusal_before today (length lines) (length out)) n (plain_file_of m lines) out
-            ∙ ap (λ d. lent_by d n (plain_file_of m lines) out) (written (length out));
+            ∙ lent_told (write_refusal_before today (length lines) (length out)) n (file_before m lines) out
+            ∙ ap (λ d. lent_by d n (file_before m lines) out) (written (length out));
       }
 
   -- ---- best sharing

@@ -14,20 +14,22 @@ use Rattle.placements.specs.Repeated.{repeated}
 use Rattle.placements.specs.Keep.{prune_q}
 use Rattle.placements.proofs.Repeated.{repeated_ones}
 use Rattle.refusal.specs.Told.{Refusal}
-use Rattle.refusal.specs.Refusal.{accepts, or_else, when}
+use Rattle.refusal.specs.Refusal.{accepts, or_else, when, told}
 use Rattle.refusal.proofs.Laws.{or_first}
-use Rattle.job.specs.Job.{file_length, version_for, counted, version_in, rack_in, sets_in, quantities_in, read_refusal}
-use Rattle.job.specs.Before.{plain_sets_in, plain_refusal}
+use Rattle.job.specs.Job.{file_length, version_for, counted, version_in, rack_in, count_in, sets_in, quantities_in, read_refusal}
 use Rattle.job.proofs.Reading.{length-sets_in, length-quantities_in, plain_quantities, read_good}
 use Rattle.job.proofs.Before.{sets_before, read_before}
 use Rattle.call_refusals.specs.Calls.{mounted_refusal, write_refusal}
 use Rattle.call_refusals.specs.Before.{keep_refusal_before, write_refusal_before}
 use Rattle.line_calls.specs.Lines
+use Rattle.file_calls.specs.Outcomes.{Outcome}
 use Rattle.file_calls.specs.Calls.{common_outcome, plan_outcome, keep_outcome, read_in, common_in, keep_in, keep_file_in, quick_in, quick_plan_in}
 use Rattle.file_calls.specs.Calls.{best_in, best_plan_in, best_table_in}
 use Rattle.board_laws.specs.Before.{common_lines, keep_lines, quick_lines, quick_plan_lines, best_lines, best_plan_lines, best_table_lines}
 use Rattle.board_laws.specs.Before.{write_lines, written_lines, read_file, common_file, keep_file, kept_file, quick_file, quick_plan_file}
 use Rattle.board_laws.specs.Before.{best_file, best_plan_file, best_table_file}
+use Rattle.board_laws.specs.Format.{rack_found, count_found, sets_found, file_refusal_before}
+use Rattle.board_laws.proofs.Format.{found_is, sets-found, file-refusal}
 use Rattle.board_laws.proofs.LinesBefore.{common-lines, keep-lines, kept-lines, quick-lines, quick-plan-lines, write-lines, written-lines}
 use Rattle.board_laws.proofs.LinesBefore.{best-lines, best-plan-lines, best-table-lines}
 
@@ -93,11 +95,18 @@ module _ (file : List ℕ) (plain : counted (version_in file) ≡ false) where
   abbrev lines : List ℕ
   lines = sets_in file
 
-  read_is : r ≡ plain_refusal file
-  read_is = read_before file plain
+  read_is : r ≡ file_refusal_before file
+  read_is = read_before file plain ∙ file-refusal file
 
-  sets_are : lines ≡ plain_sets_in file
-  sets_are = sets_before file plain
+  sets_are : lines ≡ sets_found file
+  sets_are = sets_before file plain ∙ sets-found file
+
+  rack_is : m ≡ rack_found file
+  rack_is = found_is 1 file 5
+
+  -- what is asked of the file is what the base asked
+  in_base : {A : Type 0} (f : Refusal → ℕ → List ℕ → A) → f r m lines ≡ f (file_refusal_before file) (rack_found file) (sets_found file)
+  in_base f = ap₂ (λ d l. f d m l) read_is sets_are ∙ ap (λ x. f (file_refusal_before file) x (sets_found file)) rack_is
 
   ones : All (λ q. q ≡ 1) qs
   ones = plain_quantities file plain
@@ -117,31 +126,37 @@ module _ (file : List ℕ) (plain : counted (version_in file) ≡ false) where
   keep_base k room =
       ap (λ a. keep_outcome a (Lines.write_of a.refusal qs (prune_q m qs lines k) room)) (keep-lines r m ones lines same k)
       ∙ ap (keep_outcome (keep_lines r m lines k)) (write_kept (kept k) m ones (kept_size k) (kept-lines r m ones lines same k) room)
-      ∙ ap₂ (λ d l. keep_outcome (keep_lines d m l k) (write_lines (keep_refusal_before d (margin_before m l k)) (prune_before m l k) room))
-      read_is sets_are
+      ∙ in_base (λ d x l. keep_outcome (keep_lines d x l k) (write_lines (keep_refusal_before d (margin_before x l k)) (prune_before x l k) room))
 
   keep_file_base : (k : ℕ) (out : List ℕ) → keep_file_in file k out ≡ kept_file file k out
   unfolding keep_file_in
   keep_file_base k out =
       ap (λ a. Lines.write_buffer a.refusal m qs (prune_q m qs lines k) out) (keep-lines r m ones lines same k)
       ∙ written_kept (kept k) m ones (kept_size k) (kept-lines r m ones lines same k) out
-      ∙ ap₂ (λ d l. written_lines (keep_refusal_before d (margin_before m l k)) m (prune_before m l k) out) read_is sets_are
+      ∙ in_base (λ d x l. written_lines (keep_refusal_before d (margin_before x l k)) x (prune_before x l k) out)
 
   -- NO QUANTITIES AND NO MOUNTED TIP: AS IN THE BASE
   pub file_as_in_base : FileAsInBase file
   unfolding read_in common_in quick_in quick_plan_in mounted_refusal
   file_as_in_base = record {
-    read = rw read_is refl;
+    read =
+        in_base (λ d x l. record { refusal = d; first = told d x; second = told d (count_in file); third = 0 })
+        ∙ ap (λ n. record {
+          refusal = file_refusal_before file;
+          first = told (file_refusal_before file) (rack_found file);
+          second = told (file_refusal_before file) n;
+          third = 0;
+        }) (found_is 2 file 6);
     common-tip =
         ap common_outcome (common-lines r m ones lines same)
-        ∙ ap₂ (λ d l. common_outcome (common_lines d m l)) read_is sets_are;
+        ∙ in_base (λ d x l. common_outcome (common_lines d x l));
     keep = keep_base;
     keep-file = keep_file_base;
     quick = λ room.
         ap plan_outcome (quick-lines r m ones lines same room)
-        ∙ ap₂ (λ d l. plan_outcome (quick_lines d m l room)) read_is sets_are;
+        ∙ in_base (λ d x l. plan_outcome (quick_lines d x l room));
     quick-plan = λ plan.
-        quick-plan-lines r m ones lines same plan ∙ ap₂ (λ d l. quick_plan_lines d m l plan) read_is sets_are;
+        quick-plan-lines r m ones lines same plan ∙ in_base (λ d x l. quick_plan_lines d x l plan);
   }
 
   module _ (unbroken : All (λ s. T (is_run_before s)) lines) where
@@ -155,13 +170,13 @@ module _ (file : List ℕ) (plain : counted (version_in file) ≡ false) where
       best = λ room places.
           ap plan_outcome (best-lines r (read_good file) unbroken room places)
           ∙ ap (λ p. plan_outcome (best_lines r m p lines room places)) placements
-          ∙ ap₂ (λ d l. plan_outcome (best_lines d m l l room places)) read_is sets_are;
+          ∙ in_base (λ d x l. plan_outcome (best_lines d x l l room places));
       best-plan = λ plan places.
           best-plan-lines r (read_good file) unbroken plan places
           ∙ ap (λ p. best_plan_lines r m p lines plan places) placements
-          ∙ ap₂ (λ d l. best_plan_lines d m l l plan places) read_is sets_are;
+          ∙ in_base (λ d x l. best_plan_lines d x l l plan places);
       best-table = λ room cells.
           best-table-lines r (read_good file) unbroken room cells
           ∙ ap (λ p. best_table_lines r m p lines room cells) placements
-          ∙ ap₂ (λ d l. best_table_lines d m l l room cells) read_is sets_are;
+          ∙ in_base (λ d x l. best_table_lines d x l l room cells);
     }

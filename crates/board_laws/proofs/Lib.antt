@@ -1,4 +1,5 @@
 pub mod Ones
+pub mod Format
 pub mod LinesBefore
 pub mod Unbroken
 pub mod Unmounted

@@ -38,6 +38,7 @@ use Rattle.line_calls.proofs.KeepWithin.{not_negative}
 use Rattle.board_laws.specs.Before.{common_lines, keep_lines, sets_lines, quick_lines, quick_plan_lines, best_lines, best_plan_lines, best_table_lines}
 use Rattle.board_laws.specs.Before.{write_lines, written_lines}
 use Rattle.board_laws.proofs.Ones.{lent_same, told_same}
+use Rattle.board_laws.proofs.Format.{file-before}
 
 -- ---- lines of quantity 1
 
@@ -97,7 +98,7 @@ module _ (r : Refusal) (m : ℕ) {qs : List ℕ} (ones : All (λ q. q ≡ 1) qs)
 
   pub written-lines : (out : List ℕ) → Lines.write_buffer r m qs lines out ≡ written_lines r m lines out
   unfolding Lines.write_buffer write_refusal write_refusal_before line_length
-  written-lines out = rw (written-before m ones lines same, version_one ones) refl
+  written-lines out = rw (written-before m ones lines same, file-before m lines, version_one ones) refl
 
 -- ---- lines that are unbroken runs
 

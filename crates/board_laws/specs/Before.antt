@@ -5,8 +5,6 @@ use Rattle.model.specs.Plan.{pairs}
 use Rattle.model.specs.Before.{top_before, off_before, W_before, margin_before, prune_before, quick_before, C_before, best_tip_before, table_before}
 use Rattle.refusal.specs.Told.{Refusal}
 use Rattle.refusal.specs.Refusal.{none, accepts, told, lent_by}
-use Rattle.job.specs.Job.{rack_in, count_in}
-use Rattle.job.specs.Before.{plain_file_of, plain_sets_in, plain_refusal}
 use Rattle.call_refusals.specs.declared.Stage.{Stage}
 use Rattle.call_refusals.specs.declared.Stage.TheVariants.{Open, Closed}
 use Rattle.call_refusals.specs.Before.{state_before, add_refusal_before, keep_refusal_before, quick_refusal_before, best_refusal_before}
@@ -18,6 +16,7 @@ use Rattle.board.specs.Board.{lines_of, answer}
 use Rattle.board.specs.Sharing.{shared}
 use Rattle.file_calls.specs.Outcomes.{Outcome}
 use Rattle.file_calls.specs.Calls.{common_outcome, plan_outcome, keep_outcome}
+use Rattle.board_laws.specs.Format.{rack_found, count_found, sets_found, file_refusal_before, file_before}
 
 -- ---- lines, after an earlier refusal
 
@@ -63,7 +62,7 @@ write_lines r lines room =
     record { refusal = d; bytes = told d (8 + 8 * length lines) }
 
 abbrev pub written_lines : Refusal → ℕ → List ℕ → List ℕ → List ℕ
-written_lines r m lines out = lent_by (write_refusal_before r (length lines) (length out)) (8 + 8 * length lines) (plain_file_of m lines) out
+written_lines r m lines out = lent_by (write_refusal_before r (length lines) (length out)) (8 + 8 * length lines) (file_before m lines) out
 
 -- ---- a board
 
@@ -151,38 +150,38 @@ written_told r =
 
 abbrev pub read_file : List ℕ → Outcome
 read_file file =
-    let r = plain_refusal file in
-    record { refusal = r; first = told r (rack_in file); second = told r (count_in file); third = 0 }
+    let r = file_refusal_before file in
+    record { refusal = r; first = told r (rack_found file); second = told r (count_found file); third = 0 }
 
 abbrev pub common_file : List ℕ → Outcome
-common_file file = common_outcome (common_lines (plain_refusal file) (rack_in file) (plain_sets_in file))
+common_file file = common_outcome (common_lines (file_refusal_before file) (rack_found file) (sets_found file))
 
 -- keep, and the pruned lines written
 abbrev pub keep_file : List ℕ → ℕ → ℕ → Outcome
 keep_file file k room =
-    let kept = keep_lines (plain_refusal file) (rack_in file) (plain_sets_in file) k in
-    keep_outcome kept (write_lines kept.refusal (prune_before (rack_in file) (plain_sets_in file) k) room)
+    let kept = keep_lines (file_refusal_before file) (rack_found file) (sets_found file) k in
+    keep_outcome kept (write_lines kept.refusal (prune_before (rack_found file) (sets_found file) k) room)
 
 abbrev pub kept_file : List ℕ → ℕ → List ℕ → List ℕ
 kept_file file k out =
-    let m = rack_in file in
-    let lines = plain_sets_in file in
-    written_lines (keep_lines (plain_refusal file) m lines k).refusal m (prune_before m lines k) out
+    let m = rack_found file in
+    let lines = sets_found file in
+    written_lines (keep_lines (file_refusal_before file) m lines k).refusal m (prune_before m lines k) out
 
 abbrev pub quick_file : List ℕ → ℕ → Outcome
-quick_file file room = plan_outcome (quick_lines (plain_refusal file) (rack_in file) (plain_sets_in file) room)
+quick_file file room = plan_outcome (quick_lines (file_refusal_before file) (rack_found file) (sets_found file) room)
 
 abbrev pub quick_plan_file : List ℕ → List ℕ → List ℕ
-quick_plan_file file plan = quick_plan_lines (plain_refusal file) (rack_in file) (plain_sets_in file) plan
+quick_plan_file file plan = quick_plan_lines (file_refusal_before file) (rack_found file) (sets_found file) plan
 
 abbrev pub best_file : List ℕ → ℕ → ℕ → Outcome
 best_file file room places =
-    plan_outcome (best_lines (plain_refusal file) (rack_in file) (plain_sets_in file) (plain_sets_in file) room places)
+    plan_outcome (best_lines (file_refusal_before file) (rack_found file) (sets_found file) (sets_found file) room places)
 
 abbrev pub best_plan_file : List ℕ → List ℕ → ℕ → List ℕ
 best_plan_file file plan places =
-    best_plan_lines (plain_refusal file) (rack_in file) (plain_sets_in file) (plain_sets_in file) plan places
+    best_plan_lines (file_refusal_before file) (rack_found file) (sets_found file) (sets_found file) plan places
 
 abbrev pub best_table_file : List ℕ → ℕ → List ℕ → List ℕ
 best_table_file file room cells =
-    best_table_lines (plain_refusal file) (rack_in file) (plain_sets_in file) (plain_sets_in file) room cells
+    best_table_lines (file_refusal_before file) (rack_found file) (sets_found file) (sets_found file) room cells
