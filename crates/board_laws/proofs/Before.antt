@@ -17,7 +17,8 @@ use Rattle.model.specs.Plan.{has, occ, Domain, pairs}
 use Rattle.model.specs.Limits.{most_tips, most_lines, most_placements}
 use Rattle.model.specs.Choice.{bare}
 use Rattle.model.specs.Interval.{low, high, named, fills, is_run, is_run_of}
-use Rattle.model.specs.Before.{lowest_of, highest_of, margin_before, prune_before, quick_before, low_before, high_before, is_run_before, C_before, best_tip_before, table_before}
+use Rattle.model.specs.Before.{lowest_of, highest_of, margin_before, prune_before, quick_before, low_before, high_before, is_run_before}
+use Rattle.model.specs.Before.{C_before, best_tip_before, table_before}
 use Rattle.model.proofs.Tests.{le_or_lt, cond_case}
 use Rattle.model.proofs.Lists.{all-at}
 use Rattle.model.proofs.Fails.{none_fails, fails_at, fails_first}
@@ -138,7 +139,8 @@ module _ (b : Board) (full : Full b) (plain : Plain b.count b.quantities) where
       omega (arith, all, lines-count Open b full known, known.sound.count_most) in
       rw (add-same r m b.count (total qs) s few)
       (answered d b (added b s)
-      ∙ ap (λ e. cond (accepts e) (answer (added b s) none) (answer b e)) (add-told r m b.count s ∙ ap (λ e. add_refusal_before e m b.count s) (state_told Open)))
+      ∙ ap (λ e. cond (accepts e) (answer (added b s) none) (answer b e))
+      (add-told r m b.count s ∙ ap (λ e. add_refusal_before e m b.count s) (state_told Open)))
 
   close_base : answer_told (close_of b) ≡ closed_before b
   unfolding close_of
@@ -166,14 +168,17 @@ module _ (b : Board) (full : Full b) (plain : Plain b.count b.quantities) where
       ∙ kept_answered today b m lines k (sets_lines base m lines k b.sets)
       ∙ ap (λ r. kept_answer b (sets_lines base m lines k b.sets) (keep_lines r m lines k)) (state_told Closed)
 
+  plan_refused : (room : ℕ) → told_before (quick_refusal_before today (length lines) room) ≡ quick_refusal_before (state Closed b) (length lines) room
+  plan_refused room = quick-told today (length lines) room ∙ ap (λ r. quick_refusal_before r (length lines) room) (state_told Closed)
+
+  write_refused : (room : ℕ)
+      → told_before (write_refusal_before today (length lines) room) ≡ write_refusal_before (state Closed b) (length lines) room
+  write_refused room = write-told today (length lines) room ∙ ap (λ r. write_refusal_before r (length lines) room) (state_told Closed)
+
   -- QUANTITY 1 AND NO MOUNTED TIP: AS IN THE BASE
   pub as_in_base : AsInBase b
   unfolding quick_of quick_buffer write_of write_buffer mounted_refusal
   as_in_base =
-      let planned : (room : ℕ) → told_before (quick_refusal_before today (length lines) room) ≡ quick_refusal_before (state Closed b) (length lines) room =
-      λ room. quick-told today (length lines) room ∙ ap (λ r. quick_refusal_before r (length lines) room) (state_told Closed) in
-      let written : (room : ℕ) → told_before (write_refusal_before today (length lines) room) ≡ write_refusal_before (state Closed b) (length lines) room =
-      λ room. write-told today (length lines) room ∙ ap (λ r. write_refusal_before r (length lines) room) (state_told Closed) in
       record {
         add = add_base;
         close = close_base;
@@ -183,11 +188,11 @@ module _ (b : Board) (full : Full b) (plain : Plain b.count b.quantities) where
             let p = pairs (quick_before m lines) in
             ap (λ a. shared_told (shared b a)) (quick-lines today m plain.ones lines same room)
             ∙ shared_answered (quick_refusal_before today (length lines) room) b p
-            ∙ ap (λ d. shared b (pairs_lines d p)) (planned room);
+            ∙ ap (λ d. shared b (pairs_lines d p)) (plan_refused room);
         quick-plan = λ plan.
             quick-plan-lines today m plain.ones lines same plan
             ∙ lent_told (quick_refusal_before today (length lines) (length plan)) (length lines) (quick_before m lines) plan
-            ∙ ap (λ d. lent_by d (length lines) (quick_before m lines) plan) (planned (length plan));
+            ∙ ap (λ d. lent_by d (length lines) (quick_before m lines) plan) (plan_refused (length plan));
         write = λ room.
             ap (λ a. written_told (written_answer b a)) (write-lines today m plain.ones lines same room)
             ∙ written_answered today b lines room
@@ -196,7 +201,7 @@ module _ (b : Board) (full : Full b) (plain : Plain b.count b.quantities) where
             let n = 8 + 8 * length lines in
             written-lines today m plain.ones lines same out
             ∙ lent_told (write_refusal_before today (length lines) (length out)) n (file_before m lines) out
-            ∙ ap (λ d. lent_by d n (file_before m lines) out) (written (length out));
+            ∙ ap (λ d. lent_by d n (file_before m lines) out) (write_refused (length out));
       }
 
   -- ---- best sharing

@@ -1,5 +1,5 @@
--- FILES AS IN THE BASE: a file without quantities, as those of version 1 are, is read as in the base, and gets the base's answers from common tip, keep
--- and quick sharing without a mounted tip; from best sharing too where its lines are unbroken runs.
+-- FILES AS IN THE BASE: a file without quantities, as those of version 1 are, is read as in the base, and gets the base's answers from common tip,
+-- keep and quick sharing without a mounted tip; from best sharing too where its lines are unbroken runs.
 use Prim.Native.Nat.{ℕ, ◌+◌, ◌*◌}
 use mathlib.Core.Path.{◌≡◌, refl, sym, ap, ap₂, ◌∙◌}
 use mathlib.Core.Bool.{Bool, true, false}

@@ -1,5 +1,5 @@
--- TODAY'S CALLS ON LINES GIVE THE BASE'S ANSWERS, after the same earlier refusal: for lines of quantity 1 all of them, and best sharing for lines that
--- are unbroken runs, whatever their quantities.
+-- TODAY'S CALLS ON LINES GIVE THE BASE'S ANSWERS, after the same earlier refusal: for lines of quantity 1 all of them, and best sharing for lines
+-- that are unbroken runs, whatever their quantities.
 use Prim.Native.Nat.{ℕ, ◌-◌, ◌*◌}
 use mathlib.Core.Path.{◌≡◌, refl, sym, ap, ◌∙◌}
 use mathlib.Core.Bool.{Bool, true, false, cond}
@@ -35,8 +35,8 @@ use Rattle.call_refusals.proofs.Calls.{keep-none, best_none}
 use Rattle.call_refusals.proofs.Before.{keep-same, quick-same, write-same, best-same}
 use Rattle.line_calls.specs.Lines
 use Rattle.line_calls.proofs.KeepWithin.{not_negative}
-use Rattle.board_laws.specs.Before.{common_lines, keep_lines, sets_lines, quick_lines, quick_plan_lines, best_lines, best_plan_lines, best_table_lines}
-use Rattle.board_laws.specs.Before.{write_lines, written_lines}
+use Rattle.board_laws.specs.Before.{common_lines, keep_lines, sets_lines, quick_lines, quick_plan_lines, best_lines, best_plan_lines}
+use Rattle.board_laws.specs.Before.{best_table_lines, write_lines, written_lines}
 use Rattle.board_laws.proofs.Ones.{lent_same, told_same}
 use Rattle.board_laws.proofs.Format.{file-before}
 

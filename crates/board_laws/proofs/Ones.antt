@@ -32,6 +32,7 @@ use Rattle.job.proofs.Before.{written-before}
 use Rattle.call_refusals.specs.declared.Stage.TheVariants.{Open, Closed}
 use Rattle.call_refusals.specs.Calls.{add_refusal, keep_refusal, mounted_refusal, plan_refusal, best_refusal, write_refusal}
 use Rattle.call_refusals.proofs.Calls.{keep-none}
+use Rattle.call_refusals.proofs.Before.{or_last}
 use Rattle.line_calls.specs.Lines
 use Rattle.line_calls.specs.Lines.{plan_answer}
 use Rattle.line_calls.proofs.KeepWithin.{not_negative}
@@ -104,15 +105,6 @@ told_same d {x} {y} h = by (accepts d) refl
   where
     by : (t : Bool) → accepts d ≡ t → cond t x 0 ≡ cond t y 0
     by true e = h (eqb-true d.number 0 e)
-    by false e = refl
-
--- nothing follows the last refusal
-or_last : (n : ℕ) → or_else (refuse n) none ≡ refuse n
-unfolding or_else
-or_last n = by (eqb n 0) refl
-  where
-    by : (t : Bool) → eqb n 0 ≡ t → cond t none (refuse n) ≡ refuse n
-    by true e = ap refuse (sym (eqb-true n 0 e))
     by false e = refl
 
 module _ (b : Board) (full : Full b) (ones : All (λ q. q ≡ 1) (quantities_of b)) where

@@ -78,7 +78,8 @@ run_unmounted {m} lines {s} narrow d = same_test (is_run_of (named lines) s) (eq
         absurd (omega (
           arith,
           eqb→eq (count lacks (numbers 64)) 0 e,
-          count_pos lacks 0 (numbers 64) c (omega (arith, length-list_of (λ k. k) 64)) (subst (λ k. T (lacks k)) (sym (list_of-at (λ k. k) 64 c b)) t),
+          count_pos lacks 0 (numbers 64) c (omega (arith, length-list_of (λ k. k) 64))
+              (subst (λ k. T (lacks k)) (sym (list_of-at (λ k. k) 64 c b)) t),
         )))
         (test (has s c)))
 

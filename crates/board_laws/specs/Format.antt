@@ -1,5 +1,5 @@
--- The job file of the base: the mark "TIP", the version 1, the rack and the number of lines, in 3, 2, 1 and 2 bytes, then a set a line in 8. Numbers are
--- big-endian. It is written for itself, so that a change of today's format shows. For laws that say 'as before': no call's contract speaks of this.
+-- The job file of the base: the mark "TIP", the version 1, the rack and the number of lines, in 3, 2, 1 and 2 bytes, then a set a line in 8. Numbers
+-- are big-endian. It is written for itself, so that a change of today's format shows. For laws that say 'as before': no call's contract speaks of it.
 use Rattle.std.specs.Prelude.{ℕ, ◌+◌, ◌*◌, ◌/◌, ◌%◌, ◌^◌, not, cond, ◌&&◌, List, [], ◌∷◌, ltb, leb, eqb, length, take, drop, get_or}
 use Rattle.model.specs.Count.{list_of}
 use Rattle.refusal.specs.Told.{Refusal}

@@ -135,7 +135,8 @@ module _ (m n : ℕ) (qs sets : List ℕ) (same : length qs ≡ length sets) (pl
 
   abbrev Same : Stage → Stage → Type 0
   Same asked stage =
-      told_before (or_else (sound_refusal m n qs sets) (stage_refusal asked stage)) ≡ refuse (cond (sound_before m n sets) (stage_before asked stage) 21)
+      told_before (or_else (sound_refusal m n qs sets) (stage_refusal asked stage))
+      ≡ refuse (cond (sound_before m n sets) (stage_before asked stage) 21)
 
   unsound : (asked stage : Stage) → T (not (sound_before m n sets)) → Same asked stage
   unfolding sound_refusal
@@ -181,7 +182,7 @@ add_known false false true = refl
 add_known false false false = refl
 
 -- nothing follows the last refusal
-or_last : (n : ℕ) → or_else (refuse n) none ≡ refuse n
+pub or_last : (n : ℕ) → or_else (refuse n) none ≡ refuse n
 unfolding or_else
 or_last n = by (eqb n 0) refl
   where

@@ -1,5 +1,5 @@
 -- The rules of the base: each line is one placement, no tip is mounted, a run is unbroken, and any tip of a stretch may be chosen. They are written
--- for themselves, so that a change of today's rules shows: both share the tips of a set, counts, pairs, plans and functions of lists, and nothing else.
+-- for themselves, so that a change of today's rules shows: both share the tips of a set, counts, pairs, plans and functions of lists, and no rule.
 -- For laws that say 'as before': no call's contract speaks of these.
 use Rattle.std.specs.Prelude.{ℕ, zero, suc, ◌+◌, ◌*◌, ◌-◌, ◌/◌, ◌%◌, ◌≤◌, ◌<◌, ◌≡◌, ◌↔◌, max, Bool, false, not, cond, ◌&&◌, ◌||◌}
 use Rattle.std.specs.Prelude.{List, [], ◌∷◌, map, T, ltb, leb, eqb, ℤ, pos, negsuc, ◌+ℤ◌, ◌-ℤ◌, length, get_or}

@@ -47,6 +47,6 @@ four_before = (refl, refl)
 
 six_before : (best_before 3 (1 ∷ 4 ∷ 3 ∷ 6 ∷ []) ≡ 0 ∷ 2 ∷ 0 ∷ 2 ∷ [])
     × (table_before 3 (1 ∷ 4 ∷ 3 ∷ 6 ∷ []) ≡ 0 ∷ 1 ∷ 2 ∷ 0 ∷ 0 ∷ 1 ∷ 0 ∷ 0 ∷ 0 ∷ [])
-unfolding best_before best_tip_before pick_before table_before C_before most_before taken_by low_before high_before lowest_of highest_of greatest choose2
-    has count list_of
+unfolding best_before best_tip_before pick_before table_before C_before most_before taken_by low_before high_before lowest_of highest_of greatest
+    choose2 has count list_of
 six_before = (refl, refl)
