@@ -16,7 +16,11 @@
  * For a caller who knows version 1 alone: the longest good file had 4104 bytes
  * and has 4616; keep may write another version than it was handed; top, off, k,
  * margin and pairs counted lines and count placements, pairs up to 2096128; 15
- * and 30 are new. A file of version 1 gets the answers that it got before.
+ * and 30 are new. A file of version 1 gets the answers that it got before, with
+ * one exception: 25 was given at the first line with a gap between its lowest
+ * and its highest tip, and is given now at the first line with a gap in which
+ * another line has a tip. If there is none, tipshare_best and tipshare_report
+ * plan the file.
  *
  * For a caller who knows no mounted tip: tipshare_quick and tipshare_best take
  * one more argument, mounted, directly after the file, and refuse with 16. Put

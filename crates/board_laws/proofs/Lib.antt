@@ -1,6 +1,11 @@
 pub mod Ones
+pub mod Format
+pub mod LinesBefore
 pub mod Unbroken
+pub mod Unmounted
 pub mod Mounted
+pub mod Before
+pub mod FilesBefore
 pub mod Checked
 pub mod GoalOfNone
 pub mod PanelCalls

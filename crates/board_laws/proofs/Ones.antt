@@ -1,4 +1,4 @@
--- Boards whose lines all have quantity 1 keep every answer of the base: each is given by the definitions over the lines alone.
+-- Boards whose lines all have quantity 1: each answer is given by today's definitions over the lines alone. Before has the base's own rules.
 use Prim.Native.Nat.{ℕ, ◌+◌, ◌*◌, ◌-◌}
 use mathlib.Core.Path.{◌≡◌, refl, sym, ap, ◌∙◌}
 use mathlib.Core.Bool.{Bool, true, false, not, cond}
@@ -12,7 +12,8 @@ use Rattle.model.specs.Count.{All}
 use Rattle.model.specs.Plan.{is_empty, in_rack, pairs}
 use Rattle.model.specs.Limits.{most_lines, most_placements}
 use Rattle.model.specs.Choice.{bare}
-use Rattle.model.specs.CommonTip.{top, W, margin, prune}
+use Rattle.model.specs.CommonTip.{top, W, margin}
+use Rattle.model.specs.Before.{prune_before}
 use Rattle.model.specs.Greedy.{quick_plan}
 use Rattle.model.specs.Interval.{C, best_plan, table}
 use Rattle.placements.specs.Repeated.{total, repeated}
@@ -31,6 +32,7 @@ use Rattle.job.proofs.Before.{written-before}
 use Rattle.call_refusals.specs.declared.Stage.TheVariants.{Open, Closed}
 use Rattle.call_refusals.specs.Calls.{add_refusal, keep_refusal, mounted_refusal, plan_refusal, best_refusal, write_refusal}
 use Rattle.call_refusals.proofs.Calls.{keep-none}
+use Rattle.call_refusals.proofs.Before.{or_last}
 use Rattle.line_calls.specs.Lines
 use Rattle.line_calls.specs.Lines.{plan_answer}
 use Rattle.line_calls.proofs.KeepWithin.{not_negative}
@@ -45,7 +47,7 @@ use Rattle.board.specs.Sharing.{shared, quick_of, quick_buffer, best_of, best_bu
 use Rattle.board.specs.JobFile.{write_of, write_buffer}
 use Rattle.board.proofs.Sets.{Full, same_size, ready, lines-count}
 
--- ---- the answers of the base for the sets of the lines, after the state's refusal
+-- ---- the answers for the sets of the lines alone, after the state's refusal
 
 -- a full board, then an empty set, then a tip outside the rack
 abbrev pub added_before : Board → Refusal → ℕ → Answer
@@ -63,7 +65,7 @@ abbrev pub kept_before : Board → Refusal → ℕ → List ℕ → ℕ → Kept
 kept_before b r m lines k =
     let z = margin m lines k in
     let d = keep_refusal r z in
-    let sets = lent_by d (length lines) (prune m lines k) b.sets in
+    let sets = lent_by d (length lines) (prune_before m lines k) b.sets in
     let board : Board = record { rack = b.rack; stage = b.stage; count = b.count; sets = sets; quantities = b.quantities } in
     record { board = board; number = d.number; place = d.place; margin = cond (accepts r) z (pos 0) }
 
@@ -97,13 +99,12 @@ lent_same d n {new} {new'} old h = by (accepts d) refl
     by true e = ap (λ l. l ++ drop n old) (h (eqb-true d.number 0 e))
     by false e = refl
 
--- nothing follows the last refusal
-or_last : (n : ℕ) → or_else (refuse n) none ≡ refuse n
-unfolding or_else
-or_last n = by (eqb n 0) refl
+-- and so does what is told
+pub told_same : (d : Refusal) {x y : ℕ} → (d.number ≡ 0 → x ≡ y) → told d x ≡ told d y
+told_same d {x} {y} h = by (accepts d) refl
   where
-    by : (t : Bool) → eqb n 0 ≡ t → cond t none (refuse n) ≡ refuse n
-    by true e = ap refuse (sym (eqb-true n 0 e))
+    by : (t : Bool) → accepts d ≡ t → cond t x 0 ≡ cond t y 0
+    by true e = h (eqb-true d.number 0 e)
     by false e = refl
 
 module _ (b : Board) (full : Full b) (ones : All (λ q. q ≡ 1) (quantities_of b)) where
@@ -144,7 +145,7 @@ module _ (b : Board) (full : Full b) (ones : All (λ q. q ≡ 1) (quantities_of 
   best_same = best_ones bare m ones lines same
 
   -- where keep is accepted the margin is not below zero
-  kept_same : (r : Refusal) (k : ℕ) → (keep_refusal r (margin m lines k)).number ≡ 0 → prune_q m qs lines k ≡ prune m lines k
+  kept_same : (r : Refusal) (k : ℕ) → (keep_refusal r (margin m lines k)).number ≡ 0 → prune_q m qs lines k ≡ prune_before m lines k
   kept_same r k z = prune_ones m ones lines same k (not_negative m lines k (keep-none r (margin m lines k) z).1)
 
   keep-before : (k : ℕ) → keep_of b k ≡ kept_before b (state_refusal Closed b) m lines k

@@ -13,7 +13,8 @@ use Rattle.model.specs.Count.{All, lowest_at}
 use Rattle.model.specs.Plan.{has, occ, uses, Domain, Valid, prefer}
 use Rattle.model.specs.Choice.{bare}
 use Rattle.model.specs.Greedy.{busiest}
-use Rattle.model.specs.CommonTip.{top, W, margin, most_used, Within, LeastOff}
+use Rattle.model.specs.CommonTip.{top, W, margin, most_used, Within}
+use Rattle.model.specs.Before.{LeastOff}
 use Rattle.model.proofs.Tests.{eqb_T, and_left, and_right, and_in, one_le, one_T}
 use Rattle.model.proofs.Lists.{all-select}
 use Rattle.model.proofs.Mix.{count_mix}

@@ -1,7 +1,7 @@
--- Keep within k: pruning keeps exactly the consistent tips, Theorem 1 of source 000.
+-- Keep within k for lines of one placement, as in the base: pruning keeps exactly the consistent tips, Theorem 1 of source 000.
 use Prim.Native.Nat.{ℕ, ◌+◌, ◌^◌, ◌≤◌, ◌<◌}
 use native.Mathlib.Omega.{arith}
-use mathlib.Core.Path.{◌≡◌, refl}
+use mathlib.Core.Path.{◌≡◌, refl, subst}
 use mathlib.Core.Logic.{◌↔◌, ◌≢◌, ⊎_elim}
 use mathlib.Core.Bool.{Bool, true, false, not, cond}
 use mathlib.Core.List.{List, map}
@@ -14,14 +14,20 @@ use Rattle.model.specs.Count.{All, lowest_at}
 use Rattle.model.specs.Plan.{has, occ, uses, Domain}
 use Rattle.model.specs.Choice.{bare}
 use Rattle.model.specs.Greedy.{busiest}
-use Rattle.model.specs.CommonTip.{top, W, covers, narrowed, kept, prune, most_used, off, Supported, Exact}
+use Rattle.model.specs.CommonTip.{top, W, covers, narrowed, most_used, off}
+use Rattle.model.specs.Before.{prune_before, Supported, Exact}
 use Rattle.model.proofs.Tests.{test, true_T, false_T, eqb_T, cond_case, one_le, one_T}
-use Rattle.model.proofs.Lists.{all-mapped, all-at, all_get_d, get_d_map, count_pos, count_set}
+use Rattle.model.proofs.Lists.{all, all-mapped, all-at, all_get_d, get_d_map, map_cong, count_pos, count_set}
 use Rattle.model.proofs.Largest.{largest_ge, lowest_lt, lowest_attains}
 use Rattle.model.proofs.Sets.{has_some, covers_or, covers_iff, covers_and}
 use Rattle.model.proofs.Occ.{occ_le, top_le, busiest_lt}
 use Rattle.model.proofs.Valid.{valid_at, valid_length, valid_set, uses_le_at}
 use Rattle.model.proofs.CommonTip.{W_iff, W_lt, gather, gather_valid, gather-uses, within_iff}
+use Rattle.model.proofs.Before.{kept-before}
+
+-- keep in today's words: at margin zero, n = top + k, a line that has all of W keeps only W
+unfoldable kept : ℕ → List ℕ → ℕ → ℕ → ℕ
+kept m lines k s = cond (eqb (length lines) (top m lines + k)) (narrowed m (W m lines) s) s
 
 module _ {m : ℕ} {lines : List ℕ} (k : ℕ) (some : 0 < m) (ds : All (Domain m) lines) where
   module _ (i t : ℕ) (l : i < length lines) where
@@ -133,10 +139,8 @@ module _ {m : ℕ} {lines : List ℕ} (k : ℕ) (some : 0 < m) (ds : All (Domain
               cond_case (λ x. x < 2 ^ m) (eqb (length lines) (top m lines + k)) (λ _. small) (λ _. own);
         }
 
-    -- EXACTNESS: the pruned sets hold the consistent tips and no other
-    pub prune_exact : Exact m lines k (prune m lines k)
-    unfolding prune
-    prune_exact = record {
+    exact_mapped : Exact m lines k (map (kept m lines k) lines)
+    exact_mapped = record {
       same_length = length-map lines f;
       domains = all-mapped f (all_get_d 0 lines kept_domain);
       own = λ i t l h. (consistent i t l ((exact_at i t l b).0 (rw (at i l) at h))).0;
@@ -148,3 +152,8 @@ module _ {m : ℕ} {lines : List ℕ} (k : ℕ) (some : 0 < m) (ds : All (Domain
 
         at : (i : ℕ) → i < length lines → get_or (map f lines) i 0 ≡ f (get_or lines i 0)
         at = get_d_map f 0 0 lines
+
+    -- EXACTNESS: the pruned sets hold the consistent tips and no other
+    pub prune_exact : Exact m lines k (prune_before m lines k)
+    unfolding prune_before kept
+    prune_exact = subst (Exact m lines k) (map_cong (all (kept-before m lines k) lines)) exact_mapped

@@ -12,7 +12,6 @@ pub mod Occ
 pub mod Valid
 pub mod Greedy
 pub mod CommonTip
-pub mod Exact
 pub mod Run
 pub mod Interval
 pub mod Dominate
@@ -29,5 +28,7 @@ pub mod RenumberPlan
 pub mod RenumberBoard
 pub mod RenumberFull
 pub mod Unbroken
+pub mod Before
+pub mod Exact
 pub mod Table
 pub mod Limits

@@ -98,7 +98,7 @@ digit m true =
     (e, le_refl _)
 digit m false = (refl, zero-le)
 
-set_of-low : (f : ℕ → Bool) (m : ℕ) → set_of f (suc m) ≡ cond (f 0) 1 0 + 2 * set_of (λ t. f (suc t)) m
+pub set_of-low : (f : ℕ → Bool) (m : ℕ) → set_of f (suc m) ≡ cond (f 0) 1 0 + 2 * set_of (λ t. f (suc t)) m
 unfolding set_of
 set_of-low f zero = omega arith
 set_of-low f (suc m) = omega (arith, set_of-low f m, digit m (f (suc m)))

@@ -1,5 +1,5 @@
 -- BOARDS KEEP THEIR PLANS: without a mounted tip the plan is the one that may choose any tip, as RULES 3.7 has it for unbroken runs.
-use Prim.Native.Nat.{ℕ, zero, suc, ◌+◌, ◌-◌, ◌/◌, ◌%◌, ◌*◌, ◌≤◌, ◌<◌, zero-le}
+use Prim.Native.Nat.{ℕ, zero, suc, ◌+◌, ◌-◌, ◌≤◌, ◌<◌, zero-le}
 use native.Mathlib.Omega.{arith}
 use native.Mathlib.Nat.{le_refl}
 use mathlib.Core.Path.{◌≡◌, refl, ap, sym, ◌∙◌}
@@ -8,22 +8,21 @@ use mathlib.Core.Bool.{Bool, not}
 use mathlib.Core.List.{List}
 use lib.Dec.{T, T_not, not_T}
 use borrow.Author.Tests.{le-ltb}
-use Rattle.model.specs.Count.{All, list_of, lowest_at}
+use Rattle.model.specs.Count.{All, lowest_at}
 use Rattle.model.specs.Plan.{has, choose2, Domain}
 use Rattle.model.specs.Choice.{bare, choice, from}
-use Rattle.model.specs.Interval.{any, low, high, named, is_run_of, is_run, lies, inside, split, most_of}
-use Rattle.model.specs.Interval.{C, worth, pick_of, plan_of, tip_by, best_tip, best_plan, table, Line, Idle}
+use Rattle.model.specs.Interval.{any, low, high, named, is_run_of, is_run, lies, inside, split}
+use Rattle.model.specs.Interval.{C, worth, pick_of, plan_of, tip_by, best_tip, best_plan, Line, Idle}
 use Rattle.model.specs.Renumber.{rank, width}
 use Rattle.model.proofs.Tests.{le_or_lt, test, false_T, cond_case}
 use Rattle.model.proofs.Lists.{all_map, all_both, map_cong}
 use Rattle.model.proofs.Pairs.{choose2_square}
-use Rattle.model.proofs.ListOf.{list_of_cong}
 use Rattle.model.proofs.Largest.{largest_ge, lowest_lt, lowest_attains, lowest-first, lowest-only}
 use Rattle.model.proofs.Run.{low_le, low-high, low-tip, high-below, run_of_run, named-lines}
 use Rattle.model.proofs.Interval.{span, in_span, by_sides}
 use Rattle.model.proofs.Most.{worth_ok, pick_attains}
 use Rattle.model.proofs.AllTips.{inside-none, unnamed_none, most-left}
-use Rattle.model.proofs.Best.{C-any, pick-any}
+use Rattle.model.proofs.Best.{pick-any}
 use Rattle.model.proofs.Rank.{rank_idle, width_end}
 use Rattle.model.proofs.RenumberPlan.{tip-ranks}
 
@@ -161,8 +160,3 @@ module _ {m : ℕ} {lines : List ℕ} (narrow : m ≤ 64) where
     -- and keep their plan
     pub unbroken_plan : best_plan bare m lines ≡ plan_of bare any m lines
     unbroken_plan = plan_any (named-lines narrow ds unbroken_runs)
-
--- every board keeps its table, and with it its pairs
-pub table-any : (m : ℕ) (lines : List ℕ) → table m lines ≡ list_of (λ k. most_of any lines (k / m) (k % m + 1 - k / m)) (m * m)
-unfolding table
-table-any m lines = list_of_cong _ _ (m * m) (λ k _. C-any lines (k / m) (k % m + 1 - k / m))

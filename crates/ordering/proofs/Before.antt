@@ -1,6 +1,6 @@
 -- Height decides: what changes for a tall fine part, and that nothing changes where no part is tall and fine.
 use Prim.Native.Nat.{ℕ, ◌<◌}
-use mathlib.Core.Path.{◌≡◌, refl, ap, sym}
+use mathlib.Core.Path.{◌≡◌, refl, ap, sym, subst}
 use mathlib.Core.Bool.{Bool, true, false, not, cond, ◌&&◌, ◌||◌, and-false}
 use mathlib.Core.List.{List, ◌++◌}
 use lib.Dec.{T}
@@ -13,7 +13,7 @@ use Rattle.refusal.specs.Refusal as R
 use Rattle.refusal.proofs.Laws.{or_same, or_none}
 use Rattle.ordering.specs.declared.Part.{Part}
 use Rattle.ordering.specs.declared.Rule.{Rule}
-use Rattle.ordering.specs.Order.{Obeys}
+use Rattle.ordering.specs.Order.{Obeys, Least}
 use Rattle.ordering.specs.Parts.{part_at, ruled, by_flags, before, window_ok, task_of, placing_order}
 use Rattle.ordering.specs.Call.{absent, ordered, given_refusal, order_refusal, order_after}
 use Rattle.ordering.specs.Before.{by_each_flag, task_before, placing_before, refusal_before, buffer_before}
@@ -102,6 +102,12 @@ module _ (parts : List Part) (rules : List Rule) (apart : All (λ x. T (not (x.f
         before = λ i j l k. ap (λ b. ruled rules i j || b)
             (sym (flags_apart (part_at parts i) (part_at parts j) (all-at _ apart i l) (all-at _ apart j k)));
       }
+
+  -- so it is the least of the orders that obeyed, and none where none obeyed
+  pub least-before : T (each (window_ok (length parts)) parts) → Least (task_before parts rules) (placing_order parts rules)
+  unfolding placing_before
+  least-before w =
+      subst (Least (task_before parts rules)) (sym (placing-before w)) (least-order (task_before parts rules) (last-below parts w))
 
   passed_before : (room : ℕ) → (given_refusal parts rules room).number ≡ 0 → placing_order parts rules ≡ placing_before parts rules
   passed_before room z = placing-before (windows_passed parts rules room z)

@@ -5,7 +5,6 @@ pub mod Good
 pub mod Named
 pub mod Plans
 pub mod Renumbered
-pub mod Unbroken
 pub mod CommonTip
 pub mod Scarce
 pub mod Exact
