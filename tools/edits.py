@@ -3,7 +3,8 @@
 A file crates/CRATE/must-fail/NAME.edit or crates/CRATE/mutants/NAME.edit is one edit, called NAME: after a line
 `file: PATH` each pair of lines `old: TEXT` and `new: TEXT` replaces a text that stands in the file exactly once. A file
 may hold several edits, each begun by the two lines `wrong: LABEL` and `refused: FUNCTION`. Each is of another function,
-and no proof of one function looks into another, so that one check of the crate tells for each whether it is refused.
+and no proof of one function looks into another, so that one check of the crate tells for each whether it is refused: the
+function has an error of its own.
 """
 
 import contextlib
@@ -13,6 +14,8 @@ import shutil
 import tempfile
 
 FOLDERS = ("must-fail", "mutants")
+# A line for each edit: CRATE/LABEL, a space, the fact that fails first, and after a colon what it means.
+FIRST_ERRORS = "docs/first-errors.txt"
 # What a check of a crate reads and writes; what is proved already is copied too.
 COPIED = ("crates.txt", "crates")
 # What only follows from an error elsewhere.
@@ -82,6 +85,12 @@ def edits_of(crate_folder, folder):
 def all_edits(root=pathlib.Path(".")):
     crates = sorted(path for path in (root / "crates").iterdir() if path.is_dir())
     return [edit for folder in FOLDERS for crate in crates for edit in edits_of(crate, folder)]
+
+
+def read_first_errors():
+    """The fact that fails first under each edit, by CRATE/LABEL."""
+    with open(FIRST_ERRORS, encoding="utf-8") as facts:
+        return dict(line.rstrip("\n").split(" ", 1) for line in facts)
 
 
 @contextlib.contextmanager
