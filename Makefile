@@ -26,8 +26,10 @@ example := target/example
 parts := target-rust/release/parts
 archive := target/lib/libtipshare.a
 shared := target/lib/libtipshare.so.$(version)
-# The folders too, so that a file taken away counts. The test programs are no part of the library.
-sources := crates.txt $(shell find $(filter-out crates/try_%,$(wildcard crates/*/src crates/*/specs crates/*/proofs)))
+# The folders too, so that a file taken away counts. The test programs are no part of the library, nor is the program tipshare.
+proved = crates.txt $(shell find $(filter-out $(1),$(wildcard crates/*/src crates/*/specs crates/*/proofs)))
+sources := $(call proved,crates/try_% crates/tipshare/% crates/tipshare_run/%)
+program_sources := $(call proved,crates/try_%)
 
 all: $(library) $(archive) $(shared) $(tipshare) parts pages
 
@@ -58,9 +60,12 @@ $(shared): $(archive) packaging/exports.map
 $(example): examples/c/example.c include/tipshare.h $(archive)
 	$(CC) $(CFLAGS) -Iinclude examples/c/example.c $(archive) -o $@
 
-$(tipshare): program/tipshare.c include/tipshare.h $(library) Cargo.toml
+# The program is proved too. rt run proves and links it, and then runs it. After the library: both are over the same crates.
+$(tipshare): $(program_sources) | $(library)
 	mkdir -p $(@D)
-	$(CC) $(CFLAGS) -DVERSION='"$(version)"' -Iinclude program/tipshare.c $(library) -o $@
+	cd crates/tipshare && rt run --cpu=x86-64 -- --version > ../../$@.report 2>&1 || { cat ../../$@.report; exit 1; }
+	@if grep '^logic=.* cpu=' $@.report; then echo "the program must run on every x86-64 processor"; exit 1; fi
+	cp crates/tipshare/out/$(@F) $@
 
 # Cargo itself knows what is up to date. Where it is not in the path, as under sudo make install, what it has built is taken.
 parts: $(library)

@@ -10,10 +10,10 @@ use placements::Lines;
 use reading::Room;
 
 // The bytes of a file that are taken: one more than the longest good file has, by which a longer one is seen.
-const TAKEN: usize = 4617;
+pub const TAKEN: usize = 4617;
 
 // The bytes that the longest text may need.
-const ROOM: usize = 16384;
+pub const ROOM: usize = 16384;
 
 // The pairs of best sharing of the lines; nothing where some line is no run of the named tips, and then the plan stays as it was.
 fn best_lines(lines: Lines<'_>, plan: &mut [u8]) -> Option<u32>

@@ -28,7 +28,7 @@ impl PartSet {
     }
 
     // The lowest part of the set.
-    pub fn lowest(self) -> Option<usize>
+    pub(crate) fn lowest(self) -> Option<usize>
         ensures some { IfSome result (λ x. (x < 128) × IsLowest self x) }
         ensures none { IfNone result ((x : ℕ) → T (has_part self x) → ⊥) }
     {

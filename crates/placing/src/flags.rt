@@ -10,9 +10,9 @@ use ordering::Part;
 
 // The fine-pitch parts, and those that are not tall.
 #[derive(Clone, Copy)]
-pub struct Kinds {
-    pub fine: PartSet,
-    pub short: PartSet,
+struct Kinds {
+    fine: PartSet,
+    short: PartSet,
 }
 
 fn when(test: bool, s: PartSet) -> PartSet
