@@ -1,12 +1,14 @@
 //! Parts lists as text, job files as bytes, and what the proved library says of them.
 
 pub mod checking;
+#[cfg(unix)]
 pub mod files;
 pub mod goal;
 pub mod handed;
 pub mod import;
 pub mod job;
 pub mod junior;
+pub mod letters;
 pub mod list;
 pub mod mending;
 pub mod no_order;

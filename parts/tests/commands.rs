@@ -1,7 +1,9 @@
 //! The program as it is typed: output, messages and exit status.
 
+use std::ffi::OsStr;
 use std::fs::{self, File, OpenOptions};
 use std::io::Write;
+use std::os::unix::ffi::OsStrExt;
 use std::os::unix::fs::{symlink, PermissionsExt};
 use std::path::{Path, PathBuf};
 use std::process::{Command, Stdio};
@@ -247,17 +249,29 @@ fn wrong_arguments_print_the_usage_of_their_command() {
         (&["show", "--all"], "parts show has no option --all", "show JOB"),
         (&["sort", "height"], "LIST is missing", "sort COLUMN LIST"),
         (&["sort", "height", "a", "b"], "`b` is a word too many", "sort COLUMN LIST"),
-        (&["keep", "1"], "FILE is missing", "keep K FILE [JOB] [--list LIST]"),
-        (&["keep", "1", "a", "b", "c"], "`c` is a word too many", "keep K FILE [JOB] [--list LIST]"),
-        (&["keep", "1", "a", "--list"], "--list needs LIST behind it", "keep K FILE [JOB] [--list LIST]"),
+        (&["keep", "1"], "FILE is missing", "keep K FILE [--job JOB] [--list LIST]"),
+        (
+            &["keep", "1", "a", "b"],
+            "`b` is a word too many; write the job file with --job b",
+            "keep K FILE [--job JOB] [--list LIST]",
+        ),
+        (&["keep", "1", "a", "--list"], "--list needs LIST behind it", "keep K FILE [--job JOB] [--list LIST]"),
         (
             &["keep", "1", "a", "--list", "b", "--list", "c"],
             "--list stands twice; name it once",
-            "keep K FILE [JOB] [--list LIST]",
+            "keep K FILE [--job JOB] [--list LIST]",
         ),
-        (&["keep", "1", "a", "--job", "b"], "parts keep has no option --job", "keep K FILE [JOB] [--list LIST]"),
-        (&["goal", "1"], "FILE is missing", "goal K FILE [JOB] [--list LIST]"),
-        (&["goal", "1", "a", "b", "c"], "`c` is a word too many", "goal K FILE [JOB] [--list LIST]"),
+        (
+            &["keep", "1", "a", "--jobs", "b"],
+            "parts keep has no option --jobs",
+            "keep K FILE [--job JOB] [--list LIST]",
+        ),
+        (&["goal", "1"], "FILE is missing", "goal K FILE [--job JOB] [--list LIST]"),
+        (
+            &["goal", "1", "a", "b"],
+            "`b` is a word too many; write the job file with --job b",
+            "goal K FILE [--job JOB] [--list LIST]",
+        ),
         (&["junior"], "FILE is missing", "junior FILE"),
         (&["junior", "a", "b"], "`b` is a word too many", "junior FILE"),
         (&["plan"], "FILE is missing", "plan FILE [--mounted T]"),
@@ -390,9 +404,9 @@ fn keep_writes_the_job_file_and_the_list() {
     fs::write(&list, BOARD).unwrap();
     let kept_list = "rack 2\nA h=2 : 0   # a\nB : 0\nC : 1\nD : 0\n";
     for arguments in [
-        &["keep", "1", &list, &job][..],
+        &["keep", "1", &list, "--job", &job][..],
         &["keep", "1", &list, "--list", &kept],
-        &["keep", "--list", &kept, "1", &list, &job],
+        &["keep", "--list", &kept, "1", &list, "-o", &job],
     ] {
         assert_eq!(run(arguments, b""), given(KEPT.as_bytes()));
         if arguments.contains(&job.as_str()) {
@@ -410,16 +424,92 @@ fn keep_writes_the_job_file_and_the_list() {
         assert_eq!(fs::read_to_string(&list).unwrap(), BOARD);
     }
     // Quantities stay in both forms, and a longer output of an earlier run is replaced whole.
-    fs::write(&job, [1; 5000]).unwrap();
+    fs::write(&job, [&EXAMPLE[..], &[1; 5000]].concat()).unwrap();
     let twice = BOARD.replace("A h=2", "A x2 h=2");
     let printed = KEPT.replace("A keeps", "A x2 keeps");
-    let arguments = ["keep", "1", "-", &job, "--list", &kept];
+    let arguments = ["keep", "1", "-", "--job", &job, "--list", &kept, "--force"];
     assert_eq!(run(&arguments, twice.as_bytes()), given(printed.as_bytes()));
     assert_eq!(run(&["show", &job], b""), given(b"rack 2\n0 x2 : 0\n1 : 0\n2 : 1\n3 : 0\n"));
     assert_eq!(fs::read_to_string(&kept).unwrap(), kept_list.replace("A h=2", "A x2 h=2"));
     // From a job file the list has line numbers.
-    assert_eq!(run(&["keep", "1", "-", "--list", &kept], &EXAMPLE).2, 0);
+    assert_eq!(run(&["keep", "1", "-", "--list", &kept, "--force"], &EXAMPLE).2, 0);
     assert_eq!(fs::read_to_string(&kept).unwrap(), "rack 3\n0 : 0\n1 : 1-2\n");
+}
+
+#[test]
+fn outputs_replace_only_job_files() {
+    let folder = folder("kept-files");
+    let (left, right) = (typed(&folder, "left.txt"), typed(&folder, "right.txt"));
+    let (third, job) = (typed(&folder, "third.txt"), typed(&folder, "panel.job"));
+    for list in [&left, &right, &third] {
+        fs::write(list, BOARD).unwrap();
+    }
+    fs::write(&job, "TIP old").unwrap();
+    let why = format!(
+        "{third}: this file is there already, and is no job file; name another one, or add --force to replace it"
+    );
+    for option in ["--job", "-o"] {
+        assert_eq!(run(&["panel", &left, &right, option, &third], b""), refused(&why));
+        assert_eq!(run(&["keep", "1", &left, option, &third], b""), refused(&why));
+        assert_eq!(run(&["goal", "1", &left, option, &third], b""), refused(&why));
+    }
+    assert_eq!(run(&["mend", "-", &third], &EXAMPLE), refused(&why));
+    assert_eq!(run(&["mend", "-", "-o", &third], &EXAMPLE), refused(&why));
+    assert_eq!(run(&["make", "-o", &third, &left], b""), refused(&why));
+    let why = format!("{third}: this file is there already; name another one, or add --force to replace it");
+    assert_eq!(run(&["keep", "1", &left, "--list", &third], b""), refused(&why));
+    assert_eq!(run(&["plan", &left, "-o", &third], b""), refused(&why));
+    let why = format!("{job}: this file is there already; name another one, or add --force to replace it");
+
+    assert_eq!(run(&["picture", &left, "-o", &job], b""), refused(&why));
+    assert_eq!((fs::read_to_string(&third).unwrap(), fs::read(&job).unwrap()), (BOARD.into(), b"TIP old".to_vec()));
+    // A job file replaces a job file; with --force every file is replaced but one that was read.
+    assert_eq!(run(&["panel", &left, &right, "--job", &job], b"").2, 0);
+    assert_eq!(run(&["show", &job], b"").0.split(|&byte| byte == b'\n').count(), 10);
+    assert_eq!(run(&["make", &left, &format!("-o={third}"), "--force"], b""), given(b""));
+    assert_eq!(run(&["show", &third], b""), given(b"rack 2\n0 : 0-1\n1 : 0\n2 : 1\n3 : 0\n"));
+    let why = format!("{left}: this is the file that was read; name another one to write");
+    assert_eq!(run(&["plan", &left, "-o", &left, "--force"], b""), refused(&why));
+    let why = wrong_argument("--job and -o name one file; take one of them out");
+    assert_eq!(run(&["keep", "1", &left, "-o", &job, "--job", &job], b""), why);
+    assert_eq!(names_in(&folder), ["left.txt", "panel.job", "right.txt", "third.txt"]);
+}
+
+#[test]
+fn options_take_their_value_behind_a_space_or_a_sign() {
+    for words in [&["plan", "-", "--mounted=1"][..], &["plan", "--mounted", "1", "-"]] {
+        assert!(run(words, LIST.as_bytes()).0.ends_with(b"tip 1 mounted\n"), "{words:?}");
+    }
+    let usage = "usage: parts plan FILE [--mounted T]\n`parts plan --help` says more";
+    for (words, what) in [
+        (&["plan", "-", "--force=1"][..], "--force takes nothing behind it"),
+        (&["plan", "-", "--mounted=1", "--mounted=2"], "--mounted stands twice; name it once"),
+        (&["plan", "-", "-o"], "-o needs OUT behind it"),
+        (&["plan", "-", "--unknown=1"], "parts plan has no option --unknown"),
+    ] {
+        assert_eq!(run(words, LIST.as_bytes()), wrong_argument(&format!("{what}\n{usage}")), "{words:?}");
+    }
+}
+
+#[test]
+fn file_names_need_not_be_text() {
+    let folder = folder("names");
+    let name = |bytes: &[u8]| folder.join(OsStr::from_bytes(bytes));
+    let (list, job) = (name(b"Gr\xfc\xdfe.txt"), name(b"Gr\xfc\xdfe.job"));
+    fs::write(&list, LIST).unwrap();
+    let typed = |words: &[&OsStr]| run_with(program(&[]).args(words), b"");
+    let made = typed(&["make".as_ref(), list.as_os_str(), "-o".as_ref(), job.as_os_str()]);
+    assert_eq!((made, fs::read(&job).unwrap()), (given(b""), EXAMPLE.to_vec()));
+    // What a name has of control characters is never printed.
+    let escaping = name(b"a\x1b[31m\n\xe2\x80\xae.txt");
+    let (_, why, status) = typed(&["plan".as_ref(), escaping.as_os_str()]);
+    assert_eq!(status, 1);
+    assert!(
+        why.ends_with("a\\u{1b}[31m\\u{a}\\u{202e}.txt: there is no such file or folder; correct the name\n"),
+        "{why}"
+    );
+    let why = typed(&["\u{1b}".as_ref()]).1;
+    assert_eq!(why, "parts has no command \\u{1b}; `parts --help` names its commands\n");
 }
 
 fn names_in(folder: &Path) -> Vec<String> {
@@ -432,10 +522,10 @@ fn names_in(folder: &Path) -> Vec<String> {
 #[test]
 fn refused_keep_leaves_the_file_as_it_is() {
     let job = typed(&folder("refused"), "out.job");
-    fs::write(&job, "old").unwrap();
+    fs::write(&job, "TIP old").unwrap();
     let why = "-: refused 26: margin -1, no plan is within k 0; the least k is 1";
-    assert_eq!(run(&["keep", "0", "-", &job], &EXAMPLE), refused(why));
-    assert_eq!(fs::read(&job).unwrap(), b"old");
+    assert_eq!(run(&["keep", "0", "-", "--job", &job], &EXAMPLE), refused(why));
+    assert_eq!(fs::read(&job).unwrap(), b"TIP old");
 }
 
 #[test]
@@ -449,11 +539,11 @@ fn list_that_was_read_is_never_written() {
     for name in ["list.txt", "./list.txt", "inner/../list.txt", "inner/link", "hard"] {
         let out = typed(&folder, name);
         let why = refused(&format!("{out}: this is the file that was read; name another one to write"));
-        assert_eq!(run(&["keep", "1", &list, &out], b""), why);
+        assert_eq!(run(&["keep", "1", &list, "--job", &out], b""), why);
         assert_eq!(run(&["keep", "1", &list, "--list", &out], b""), why);
         // The input by its other names, and as standard input.
-        assert_eq!(run(&["keep", "1", &out, &out], b""), why);
-        let stream = run_with(program(&["keep", "1", "-", &out]).stdin(File::open(&list).unwrap()), b"");
+        assert_eq!(run(&["keep", "1", &out, "--job", &out], b""), why);
+        let stream = run_with(program(&["keep", "1", "-", "--job", &out]).stdin(File::open(&list).unwrap()), b"");
         assert_eq!(stream, why);
     }
     assert_eq!(fs::read_to_string(&list).unwrap(), BOARD);
@@ -466,11 +556,11 @@ fn one_file_is_not_job_and_list() {
     for (job, list) in [("out", "out"), ("out", "./out")] {
         let (job, list) = (typed(&folder, job), typed(&folder, list));
         let why = wrong_argument(&format!("{list}: this is JOB and LIST; name two files"));
-        assert_eq!(run(&["keep", "1", "-", &job, "--list", &list], &EXAMPLE), why);
+        assert_eq!(run(&["keep", "1", "-", "--job", &job, "--list", &list], &EXAMPLE), why);
     }
     assert!(names_in(&folder).is_empty());
     let why = wrong_argument("-: this is standard input; name a file to write");
-    assert_eq!(run(&["keep", "1", "-", "-"], &EXAMPLE), why);
+    assert_eq!(run(&["keep", "1", "-", "--job", "-"], &EXAMPLE), why);
     assert_eq!(run(&["keep", "1", "-", "--list", "-"], &EXAMPLE), why);
 }
 
@@ -478,10 +568,10 @@ fn one_file_is_not_job_and_list() {
 fn written_file_keeps_its_link_and_its_permissions() {
     let folder = folder("links");
     let (job, link) = (typed(&folder, "out.job"), typed(&folder, "link"));
-    fs::write(&job, "old").unwrap();
+    fs::write(&job, "TIP old").unwrap();
     fs::set_permissions(&job, fs::Permissions::from_mode(0o640)).unwrap();
     symlink("out.job", &link).unwrap();
-    assert_eq!(run(&["keep", "1", "-", &link], &EXAMPLE).2, 0);
+    assert_eq!(run(&["keep", "1", "-", "--job", &link], &EXAMPLE).2, 0);
     assert_eq!(fs::read(&job).unwrap(), EXAMPLE);
     assert_eq!(fs::metadata(&job).unwrap().permissions().mode() & 0o777, 0o640);
     assert_eq!(fs::read_link(&link).unwrap().to_str(), Some("out.job"));
@@ -492,7 +582,7 @@ fn written_file_keeps_its_link_and_its_permissions() {
 fn file_that_cannot_be_written_is_named_and_nothing_is_left() {
     let folder = folder("failing");
     let (job, list) = (typed(&folder, "out.job"), typed(&folder, "kept.txt"));
-    fs::write(&job, "old").unwrap();
+    fs::write(&job, "TIP old").unwrap();
     let missing = typed(&folder, "no-such-folder/kept.txt");
     symlink("nowhere", folder.join("dangling")).unwrap();
     let dangling = typed(&folder, "dangling");
@@ -503,26 +593,26 @@ fn file_that_cannot_be_written_is_named_and_nothing_is_left() {
         ("/dev/full", "the disk is full; make room on it"),
     ] {
         let why = refused(&format!("{out}: {why}"));
-        assert_eq!(run(&["keep", "1", "-", out], &EXAMPLE), why);
+        assert_eq!(run(&["keep", "1", "-", "--job", out], &EXAMPLE), why);
         // The job file could be written, and is not, because the list cannot.
-        assert_eq!(run(&["keep", "1", "-", &job, "--list", out], &EXAMPLE), why);
-        assert_eq!(fs::read(&job).unwrap(), b"old");
+        assert_eq!(run(&["keep", "1", "-", "--job", &job, "--list", out], &EXAMPLE), why);
+        assert_eq!(fs::read(&job).unwrap(), b"TIP old");
         assert_eq!(names_in(&folder), ["dangling", "out.job"]);
     }
     // A limit of no bytes at all stands for a full disk; its signal is ignored, so that writing fails instead.
     let limited = "trap '' XFSZ; ulimit -f 0; exec \"$0\" \"$@\"";
     let mut program = Command::new("sh");
-    program.args(["-c", limited, env!("CARGO_BIN_EXE_parts"), "keep", "1", "-", &job, "--list", &list]);
+    program.args(["-c", limited, env!("CARGO_BIN_EXE_parts"), "keep", "1", "-", "--job", &job, "--list", &list]);
     program.stdin(Stdio::piped()).stdout(Stdio::piped()).stderr(Stdio::piped());
     let why = refused(&format!("{job}: File too large (os error 27)"));
     assert_eq!(run_with(&mut program, &EXAMPLE), why);
-    assert_eq!(fs::read(&job).unwrap(), b"old");
+    assert_eq!(fs::read(&job).unwrap(), b"TIP old");
     assert_eq!(names_in(&folder), ["dangling", "out.job"]);
 }
 
 #[test]
 fn pipe_is_written_to_as_it_is() {
-    let pipe = "parts=$1; printf 'rack 1\\nA : 0\\n' | $parts keep 0 - /dev/fd/3 3>&1 >/dev/null | $parts show -";
+    let pipe = "parts=$1; printf 'rack 1\\nA : 0\\n' | $parts keep 0 - --job /dev/fd/3 3>&1 >/dev/null | $parts show -";
     let mut program = Command::new("sh");
     program.args(["-c", pipe, "sh", env!("CARGO_BIN_EXE_parts")]);
     program.stdin(Stdio::null()).stdout(Stdio::piped()).stderr(Stdio::piped());
@@ -553,11 +643,11 @@ fn goal_writes_the_job_file_and_the_list() {
     let (job, kept) = (typed(&folder, "goal.job"), typed(&folder, "goal.txt"));
     let list = b"# board\nrack 2\nA x2 : 0\nB : 0-1 # either\n";
     let text = b"best 3 goal 3\nB keeps 0 struck 1\nno tip struck from 1 part\n";
-    assert_eq!(run(&["goal", "3", "-", &job, "--list", &kept], list), given(text));
+    assert_eq!(run(&["goal", "3", "-", "--job", &job, "--list", &kept], list), given(text));
     assert_eq!(fs::read(&kept).unwrap(), b"# board\nrack 2\nA x2 : 0\nB : 0   # either\n");
     assert_eq!(run(&["show", &job], b""), given(b"rack 2\n0 x2 : 0\n1 : 0\n"));
     let why = "-: refused 34: no plan has 4 pairs; the most is 3, name a goal from 0 to 3";
-    assert_eq!(run(&["goal", "4", "-", &job], list), refused(why));
+    assert_eq!(run(&["goal", "4", "-", "--job", &job], list), refused(why));
     assert_eq!(run(&["show", &job], b""), given(b"rack 2\n0 x2 : 0\n1 : 0\n"));
     for goal in ["", "-1", "4294967296", "1.5", "+1"] {
         let why = format!("a goal is a number from 0 to 4294967295, and not {goal}");
@@ -641,7 +731,7 @@ fn bash_completes_commands_and_options() {
     assert_eq!(completed(&["import", ""]), ["kicad", "openpnp", "csv"]);
     assert_eq!(completed(&["help", "import", "o"]), ["openpnp"]);
     assert_eq!(completed(&["completion", ""]), ["bash"]);
-    assert_eq!(completed(&["plan", "a", "--"]), ["--mounted", "--help"]);
+    assert_eq!(completed(&["plan", "a", "--"]), ["--mounted", "--force", "--help"]);
     assert_eq!(completed(&["import", "csv", "a", "--c"]), ["--columns"]);
     assert_eq!(completed(&["import", "csv", "a", "--side", "b"]), ["bottom", "both"]);
     // Files are completed by bash itself.

@@ -227,7 +227,7 @@ fn summary_without_parts_has_no_tip_change() {
 fn damaged_files_are_refused_in_words() {
     let damaged = Named { file: b"TIP\x00\x01\x03\x00\x02\x00".to_vec(), list: None };
     let why =
-        "refused 10: the file names 2 lines, which take 24 bytes, and has 9; hand over the whole file and no more";
+        "refused 10: the file names 2 lines, which take 24 bytes, and has 9; hand over the whole file and no more, or mend it: parts mend";
     assert_eq!(damaged.keep(1).err(), Some(why.into()));
     assert_eq!(damaged.plan(None), Err(why.into()));
     assert_eq!(damaged.picture(), Err(why.into()));

@@ -29,8 +29,23 @@ pub fn placements_of(bytes: &[u8]) -> Result<Vec<Placement>, Faults> {
             return Err(vec![fault(1, what + ", and `parts import csv` takes other files")]);
         }
     }
-    csv::placements_of(bytes, &COLUMNS)
+    csv::placements_apart(bytes, &COLUMNS, fields_apart)
 }
+
+/// The fields of a row whose value has quotation marks and commas that KiCad 6 leaves as they are: the three fields in front
+/// have marks around them, and the four behind have none.
+fn fields_apart(row: &str) -> Option<Vec<String>> {
+    let mut behind = row.trim().rsplitn(5, ',');
+    let mut numbers: Vec<&str> = behind.by_ref().take(4).collect();
+    numbers.reverse();
+    let words = behind.next()?.trim().strip_prefix('"')?.strip_suffix('"')?;
+    let (reference, rest) = words.split_once(BETWEEN)?;
+    let (value, package) = rest.rsplit_once(BETWEEN)?;
+    Some([reference, value, package].into_iter().chain(numbers).map(|field| field.trim().into()).collect())
+}
+
+/// What is between two fields with marks around them.
+const BETWEEN: &str = "\",\"";
 
 /// The placements of the text with aligned columns, which has a line of names above them and `## End` below.
 fn aligned(bytes: &[u8]) -> Result<Vec<Placement>, Faults> {

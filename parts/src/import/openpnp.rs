@@ -53,7 +53,8 @@ impl Packages {
 
     /// The text of the parts list of a board, on these sides.
     pub fn list(&self, board: Board, parts: Option<&Parts>, sides: Sides) -> Result<String, Faults> {
-        let mut placements = sides.of_placements(board.placements)?;
+        let mut placements = sides
+            .of_placements(board.placements, |side| board.left_out.iter().any(|other| other.side == Some(side)))?;
         for placement in &mut placements {
             let part = &placement.value;
             let package = match parts {
