@@ -28,6 +28,9 @@ use crate::completion;
 /// The most faults of a list that are printed.
 const MOST_FAULTS: usize = 20;
 
+/// The bytes of the mark that a job file begins with.
+const MARK: usize = 3;
+
 /// What a bound of keep is.
 const K: &str = "k is a number from 0 to 65535";
 
@@ -156,8 +159,16 @@ fn import_by_table(
     let sides = sides_of(arguments)?;
     one_standard_input(&[path, tips], "this is standard input for two files")?;
     let mut files = Files::of(arguments);
-    let table = Table::read(&files.read(tips)?).map_err(|faults| faulty(tips, &faults))?;
-    let placements = placements_of(&files.read(path)?).map_err(|faults| faulty(path, &faults))?;
+    let bytes = files.read(tips)?;
+    let table = Table::read(&bytes).map_err(|faults| match is_foreign(&bytes) {
+        true => about(tips, "this is no table of tips; name the table behind --tips, and this file before it"),
+        false => faulty(tips, &faults),
+    })?;
+    let bytes = files.read(path)?;
+    let placements = placements_of(&bytes).map_err(|faults| match Table::read(&bytes) {
+        Ok(_) => about(path, "this is a table of tips; name the file to import here, and the table behind --tips"),
+        Err(_) => faulty(path, &faults),
+    })?;
     files.give_text(&table.list(placements, sides).map_err(|faults| without_tips(path, &faults))?)
 }
 
@@ -366,9 +377,15 @@ fn tip_of(word: &OsStr) -> Result<usize, Failure> {
     tip.ok_or_else(is_none)
 }
 
+/// Whether these are the bytes of a job file, or what is left of one that was cut before the end of its mark.
+fn is_job(path: &OsStr, bytes: &[u8]) -> bool {
+    let is_called_job = Path::new(path).extension().is_some_and(|extension| extension.eq_ignore_ascii_case("job"));
+    has_mark(bytes) || is_called_job && bytes.len() < MARK
+}
+
 /// The board of these bytes, with names where they are a parts list.
 fn named(path: &OsStr, bytes: Vec<u8>) -> Result<Named, Failure> {
-    if has_mark(&bytes) {
+    if is_job(path, &bytes) {
         return Ok(Named { file: bytes, list: None });
     }
     Ok(Named::of_list(list_of(path, &bytes)?))
@@ -398,6 +415,9 @@ fn failed(path: &OsStr, error: io::Error) -> Failure {
 fn list_of(path: &OsStr, bytes: &[u8]) -> Result<List, Failure> {
     if has_mark(bytes) {
         return Err(about(path, "this is a job file and no parts list; `parts show` turns it into one"));
+    }
+    if is_job(path, bytes) {
+        return Err(about(path, job_of(bytes).err().unwrap_or_default()));
     }
     List::read(bytes).map_err(|faults| match is_foreign(bytes) {
         true => about(path, "this is no parts list; `parts import` makes one of it"),

@@ -100,6 +100,7 @@ pub enum What {
     NoTip,
     TooManyParts,
     NoColumn(String),
+    UnknownColumn { column: String, columns: Vec<String> },
     FlagAgain(String),
     Positions(String),
     PositionsBackwards { first: String, last: String },
@@ -165,6 +166,9 @@ impl fmt::Display for What {
             What::NoTip => write!(to, "no tip after the colon; name one at least"),
             What::TooManyParts => write!(to, "part {}; a list has {MOST_LINES} at most, split it", MOST_LINES + 1),
             What::NoColumn(column) => write!(to, "no {column}; give every part a {column} to sort by it"),
+            What::UnknownColumn { column, columns } => {
+                write!(to, "no part has a column {column}; sort by {}", columns.join(" or "))
+            }
             What::FlagAgain(flag) => write!(to, "a second {flag}; write it once"),
             What::Positions(word) => {
                 write!(to, "no positions in `{word}`; write the first and the last, counted from 0, as at=0-3")
@@ -222,11 +226,30 @@ impl List {
                 None => faults.push(Fault { line: part.line, what: What::NoColumn(column.into()) }),
             }
         }
+        if let (true, Some(first)) = (numbered.is_empty(), self.parts.first()) {
+            let what = What::UnknownColumn { column: column.into(), columns: self.columns() };
+            return Err(vec![Fault { line: first.line, what }]);
+        }
         if !faults.is_empty() {
             return Err(faults);
         }
         numbered.sort_by(|(one, _), (other, _)| one.partial_cmp(other).unwrap_or(Ordering::Equal));
         Ok(self.text_with(numbered.iter().map(|(_, part)| part.with_tips(part.tips))))
+    }
+
+    /// What the list can be sorted by: each column that some part has, and the quantity.
+    fn columns(&self) -> Vec<String> {
+        let mut columns: Vec<String> = Vec::new();
+        for part in &self.parts {
+            let positions = part.at.map(|_| POSITIONS);
+            for name in part.columns.iter().map(|(name, _)| name.as_str()).chain(positions) {
+                if !columns.iter().any(|other| other == name) {
+                    columns.push(name.into());
+                }
+            }
+        }
+        columns.push("quantity".into());
+        columns
     }
 
     /// The text of the list with the tips of these lines, a line a part; names, quantities, columns and comments stay.

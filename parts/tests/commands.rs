@@ -71,9 +71,18 @@ fn make_show_and_sort_print_their_result() {
 fn faults_name_file_and_line() {
     let why = "-:2: no colon; write `NAME : TIPS`, or `: TIPS` without a name\n-:4: no tip after the colon; name one at least";
     assert_eq!(run(&["make", "-"], b"rack 3\nC1 0\nC2 : 1\nC3 :\n"), refused(why));
+    let pitched = LIST.replace("1-2", "1-2\nC3 pitch=0.5 : 0");
     let why =
         "-:3: no pitch; give every part a pitch to sort by it\n-:4: no pitch; give every part a pitch to sort by it";
-    assert_eq!(run(&["sort", "pitch", "-"], LIST.as_bytes()), refused(why));
+    assert_eq!(run(&["sort", "pitch", "-"], pitched.as_bytes()), refused(why));
+    for column in ["name", "Height", ""] {
+        let why = format!("-:3: no part has a column {column}; sort by height or quantity");
+        assert_eq!(run(&["sort", column, "-"], LIST.as_bytes()), refused(&why));
+    }
+    let why = "-:2: no part has a column name; sort by h or at or quantity";
+    assert_eq!(run(&["sort", "name", "-"], b"rack 1\nA h=1 : 0\nB at=1 : 0\n"), refused(why));
+    let why = "-:2: no part has a column name; sort by quantity";
+    assert_eq!(run(&["sort", "name", "-"], b"rack 1\nA : 0\n"), refused(why));
     let (_, many, _) = run(&["make", "-"], ("rack 3\n".to_string() + &"x\n".repeat(30)).as_bytes());
     assert_eq!((many.lines().count(), many.lines().last()), (21, Some("-: 10 more lines are wrong")));
 }
@@ -86,6 +95,51 @@ fn wrong_kinds_of_files_are_named() {
     assert_eq!(run(&["show", "-"], LIST.as_bytes()), refused(why));
     let (output, why, status) = run(&["make", "no-such-list"], b"");
     assert!(output.is_empty() && why.starts_with("no-such-list: ") && status == 1, "{why}");
+}
+
+#[test]
+fn short_job_file_is_told_by_its_name() {
+    let folder = folder("short");
+    for (name, bytes) in [("a.job", &b""[..]), ("b.JOB", b"T"), ("c.job", b"TI"), ("d.job", b"\0\xff")] {
+        let file = typed(&folder, name);
+        fs::write(&file, bytes).unwrap();
+        let length = bytes.len();
+        let why =
+            format!("{file}: refused 6: the file has {length} bytes and needs 8 at least; hand over the whole file");
+        for command in ["plan", "show", "make", "picture", "order", "junior"] {
+            assert_eq!(run(&[command, &file], b""), refused(&why), "{command} {name}");
+        }
+    }
+    let list = typed(&folder, "list.txt");
+    fs::write(&list, b"").unwrap();
+    let why = "no rack; begin the list with `rack M`, M being the number of tips, 1 to 64";
+    assert_eq!(run(&["plan", &list], b""), refused(&format!("{list}:1: {why}")));
+    let job = typed(&folder, "list.job");
+    fs::write(&job, LIST).unwrap();
+    assert_eq!(run(&["plan", &job], b"").2, 0);
+}
+
+#[test]
+fn swapped_files_of_an_import_are_told_once() {
+    let folder = folder("swapped");
+    let (board, tips) = (typed(&folder, "board.csv"), typed(&folder, "tips.txt"));
+    let text = "### Footprint positions - created on 2024 ###\n# Ref Val Package PosX PosY Rot Side\n## End\n";
+    let rows = "Ref,Val,Package,PosX,PosY,Rot,Side\nR1,1k,R0402,0,0,0,top\nR2,1k,R0402,0,0,0,top\n";
+    fs::write(&tips, "# my tips\nrack 2\nR* : 0-1\nC* : 0\n").unwrap();
+    for file in [text, rows] {
+        fs::write(&board, file).unwrap();
+        let why = "this is no table of tips; name the table behind --tips, and this file before it";
+        assert_eq!(run(&["import", "kicad", &tips, "--tips", &board], b""), refused(&format!("{board}: {why}")));
+    }
+    let why = "this is a table of tips; name the file to import here, and the table behind --tips";
+    for words in [&["kicad"][..], &["csv", "--columns", "ref=Ref,package=Package"]] {
+        let words = [&["import"], words, &[&tips, "--tips", &tips]].concat();
+        assert_eq!(run(&words, b""), refused(&format!("{tips}: {why}")), "{words:?}");
+    }
+    let why = "-:1: no line `# Ref Val Package PosX PosY Rot Side`; name a position file of KiCad, or export it again";
+    assert_eq!(run(&["import", "kicad", "-", "--tips", &tips], b"# a\nb\nc\n"), refused(why));
+    let why = "-:1: `Ref,Val,Package,PosX,PosY,Rot,Side R1,1k` is in no element; save the file as XML";
+    assert_eq!(run(&["import", "openpnp", "-", "b.xml"], rows.replace('\n', " ").as_bytes()), refused(why));
 }
 
 #[test]

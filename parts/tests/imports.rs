@@ -256,10 +256,12 @@ fn mistakes_of_a_table_have_their_lines() {
 fn mistakes_of_the_text_of_kicad_have_their_lines() {
     let faults = |text: &str| told(kicad::placements_of(text.as_bytes()).unwrap_err());
     assert_eq!(faults(&POS.replace("## End\n", "")), ["18: no `## End`; the file is cut, export it again"]);
-    assert_eq!(
-        faults(&POS.replace("10uF  ", "10 uF ").replace("# Ref ", "#_Ref ").replace("## End", "## End\n\nC9")).len(),
-        14
-    );
+    let behind = faults(&POS.replace("## End", "## End\n\nC9"));
+    let why = "no line `# Ref Val Package PosX PosY Rot Side` above it; export the file again";
+    assert_eq!(behind, [format!("21: {why}")]);
+    // Without that line anywhere it is told once.
+    let why = "1: no line `# Ref Val Package PosX PosY Rot Side`; name a position file of KiCad, or export it again";
+    assert_eq!(faults(&POS.replace("# Ref ", "#_Ref ")), [why]);
     assert_eq!(
         faults(
             &POS.replace("10uF  ", "10 uF ")

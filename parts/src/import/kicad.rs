@@ -51,6 +51,12 @@ const BETWEEN: &str = "\",\"";
 fn aligned(bytes: &[u8]) -> Result<Vec<Placement>, Faults> {
     let (mut placements, mut faults) = (Vec::new(), Vec::new());
     let lines = lines_of(bytes);
+    if !lines.iter().any(|line| text_of(line).is_ok_and(is_line_of_names)) {
+        return Err(vec![fault(
+            1,
+            format!("no line `# {}`; name a position file of KiCad, or export it again", NAMES.join(" ")),
+        )]);
+    }
     // Where the packages begin, from the line of names up to the end.
     let mut packages = None;
     let mut is_ended = false;
@@ -66,7 +72,7 @@ fn aligned(bytes: &[u8]) -> Result<Vec<Placement>, Faults> {
             continue;
         }
         if let Some(comment) = text.strip_prefix('#') {
-            if comment.split_whitespace().eq(NAMES) {
+            if is_line_of_names(text) {
                 (packages, is_ended) = (text.find("Package"), false);
             } else if comment.split_whitespace().eq(["#", "End"]) {
                 (packages, is_ended) = (None, true);
@@ -89,6 +95,11 @@ fn aligned(bytes: &[u8]) -> Result<Vec<Placement>, Faults> {
     } else {
         Err(faults)
     }
+}
+
+/// Whether a line is the one with the names of the columns.
+fn is_line_of_names(text: &str) -> bool {
+    text.strip_prefix('#').is_some_and(|comment| comment.split_whitespace().eq(NAMES))
 }
 
 /// The placement of a line, in which packages begin at this column; KiCad writes `_` for the spaces in names.

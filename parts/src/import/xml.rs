@@ -3,6 +3,8 @@
 use crate::import::fault;
 use crate::list::Fault;
 
+/// The most letters of a text that are told with a mistake.
+const MOST_WORDS: usize = 40;
 /// The most elements inside one another.
 const MOST_DEPTH: usize = 64;
 
@@ -62,7 +64,10 @@ impl<'a> Reader<'a> {
             match open.last_mut() {
                 Some(element) => element.text += &unescaped(text)?,
                 None if text.trim().is_empty() => {}
-                None => return Err(format!("`{}` is in no element; save the file as XML", text.trim())),
+                None => {
+                    let words: String = text.trim().chars().take(MOST_WORDS).collect();
+                    return Err(format!("`{words}` is in no element; save the file as XML"));
+                }
             }
             if self.rest.starts_with("<!--") {
                 self.pass_behind("-->")?;
