@@ -16,6 +16,7 @@ use parts::import::table::Table;
 use parts::import::{is_foreign, Faults, Placement, Sides};
 use parts::job::{has_mark, job_of, list_in_words};
 use parts::letters::shown;
+use parts::limits::too_large;
 use parts::list::{Fault, List};
 use parts::mending;
 use parts::panel::Panel;
@@ -70,6 +71,9 @@ impl Files<'_> {
         let output = of_standard_output().map_err(lost)?;
         if output.is_some() && output == input.identity {
             return Err(about(path, "this file is standard output too; name another file behind `>`"));
+        }
+        if let Some(why) = too_large(&input.bytes) {
+            return Err(about(path, why));
         }
         self.read.extend(input.identity);
         Ok(input.bytes)

@@ -10,6 +10,8 @@ use std::process;
 
 use job_file::has_mark;
 
+use crate::limits::MOST_BYTES;
+
 /// The mode of a new file, of which the mask of the process takes something away.
 const MODE: u32 = 0o666;
 /// The mode of a file that its owner alone may read and write.
@@ -36,7 +38,8 @@ impl Input {
         let mut file = if path == "-" { opened(&io::stdin())? } else { File::open(path)? };
         let identity = identity_of(&file.metadata()?);
         let mut bytes = Vec::new();
-        file.read_to_end(&mut bytes)?;
+        // One byte too many shows that the file is too large, whatever its length.
+        Read::take(&mut file, MOST_BYTES as u64 + 1).read_to_end(&mut bytes)?;
         Ok(Input { bytes, identity })
     }
 }

@@ -9,6 +9,7 @@ pub mod import;
 pub mod job;
 pub mod junior;
 pub mod letters;
+pub mod limits;
 pub mod list;
 pub mod mending;
 pub mod no_order;

@@ -2,10 +2,11 @@
 //! as `before R1 U1`, and `#` comments.
 
 use std::cmp::Ordering;
-use std::collections::HashMap;
+use std::collections::{HashMap, HashSet};
 use std::fmt;
 
 use crate::job::{Job, Line};
+use crate::limits::MOST_COLUMNS;
 use crate::{tips_in_words, MOST_LINES, MOST_PLACEMENTS, MOST_QUANTITY, MOST_TIPS};
 
 /// Words for the quantity, in capitals or not, which no column may have. `x` is none: it is where the part is placed.
@@ -99,6 +100,7 @@ pub enum What {
     TipAgain(usize),
     NoTip,
     TooManyParts,
+    TooManyColumns,
     NoColumn(String),
     UnknownColumn { column: String, columns: Vec<String> },
     FlagAgain(String),
@@ -165,6 +167,9 @@ impl fmt::Display for What {
             What::TipAgain(tip) => write!(to, "tip {tip} stands twice; name each tip once"),
             What::NoTip => write!(to, "no tip after the colon; name one at least"),
             What::TooManyParts => write!(to, "part {}; a list has {MOST_LINES} at most, split it", MOST_LINES + 1),
+            What::TooManyColumns => {
+                write!(to, "more than {MOST_COLUMNS} columns in this list; take out those that nobody sorts by")
+            }
             What::NoColumn(column) => write!(to, "no {column}; give every part a {column} to sort by it"),
             What::UnknownColumn { column, columns } => {
                 write!(to, "no part has a column {column}; sort by {}", columns.join(" or "))
@@ -317,6 +322,7 @@ struct Reading {
     placements: usize,
     /// The line of each name.
     names: HashMap<String, usize>,
+    columns: HashSet<String>,
     /// The names of each rule, and its line.
     rules: Vec<(String, String, usize)>,
     /// The text below the last part.
@@ -334,6 +340,7 @@ impl Reading {
             count: 0,
             placements: 0,
             names: HashMap::new(),
+            columns: HashSet::new(),
             rules: Vec::new(),
             above: String::new(),
         }
@@ -368,6 +375,10 @@ impl Reading {
                 return Err(What::NameAgain { name: name.clone(), line });
             }
             self.names.insert(name.clone(), line);
+        }
+        self.columns.extend(part.columns.iter().map(|(column, _)| column.clone()));
+        if self.columns.len() > MOST_COLUMNS {
+            return Err(What::TooManyColumns);
         }
         let before = self.placements;
         self.placements += usize::from(part.quantity);
@@ -536,6 +547,9 @@ fn part_of(content: &str, rack: usize) -> Result<Part, What> {
         }
         if columns.iter().any(|(earlier, _)| earlier == column) {
             return Err(What::ColumnAgain(column.into()));
+        }
+        if columns.len() == MOST_COLUMNS {
+            return Err(What::TooManyColumns);
         }
         let number = decimal_of(value).ok_or_else(|| What::ColumnValue(word.into()))?;
         columns.push((column.into(), number));

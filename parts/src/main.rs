@@ -14,6 +14,9 @@ use commands::{print, Failure};
 use help::Command;
 use parts::letters::shown;
 
+#[global_allocator]
+static MEMORY: system::OrEnd = system::OrEnd;
+
 fn main() -> ExitCode {
     let words: Vec<OsString> = env::args_os().skip(1).collect();
     let (why, status) = match run(&words) {

@@ -143,6 +143,36 @@ fn swapped_files_of_an_import_are_told_once() {
 }
 
 #[test]
+fn inputs_that_are_too_large_are_refused() {
+    let list = |lines: usize| "rack 1\n".to_string() + &"#\n".repeat(lines - 2) + "A : 0\n";
+    assert_eq!(run(&["plan", "-"], list(100_000).as_bytes()).2, 0);
+    let why = "-: 100001 lines; 100000 is the most, split the file";
+    assert_eq!(run(&["plan", "-"], list(100_001).as_bytes()), refused(why));
+    // A device without an end is read no further than to the limit.
+    let endless = run_with(program(&["plan", "-"]).stdin(File::open("/dev/zero").unwrap()), b"");
+    assert_eq!(endless, refused("-: more than 16 MB; name another file, or split it"));
+    let columns = |count: usize| (0..count).map(|column| format!(" c{column}=1")).collect::<String>();
+    assert_eq!(run(&["make", "-"], format!("rack 1\nA{} : 0\n", columns(64)).as_bytes()).2, 0);
+    let why = "more than 64 columns in this list; take out those that nobody sorts by";
+    let wide = format!("rack 1\nA{} : 0\n", columns(65));
+    assert_eq!(run(&["make", "-"], wide.as_bytes()), refused(&format!("-:2: {why}")));
+    let wide = format!("rack 1\nA{} : 0\nB c0=2 : 0\nC d=1 : 0\n", columns(64));
+    assert_eq!(run(&["make", "-"], wide.as_bytes()), refused(&format!("-:4: {why}")));
+}
+
+#[test]
+fn running_out_of_memory_is_told() {
+    let folder = folder("memory");
+    let list = typed(&folder, "list.txt");
+    fs::write(&list, "rack 1\n".to_string() + &"#".repeat(15 << 20)).unwrap();
+    let mut limited = Command::new("sh");
+    limited.args(["-c", "ulimit -v 20000; exec \"$0\" plan \"$1\"", env!("CARGO_BIN_EXE_parts"), &list]);
+    limited.stdin(Stdio::piped()).stdout(Stdio::piped()).stderr(Stdio::piped());
+    let why = "there is not enough memory for this; close other programs, or split the file";
+    assert_eq!(run_with(&mut limited, b""), refused(why));
+}
+
+#[test]
 fn plans_from_other_software_are_checked() {
     let folder = folder("checked");
     let (list, plan) = (typed(&folder, "list.txt"), typed(&folder, "plan.txt"));

@@ -171,6 +171,32 @@ fn bill_of_materials_of_kicad_is_taken() {
 }
 
 #[test]
+fn columns_attributes_and_placements_have_limits() {
+    let columns = Columns::of("ref=c0,package=c1").unwrap();
+    let rows = |count: usize| {
+        let row = |cell: &dyn Fn(usize) -> String| (0..count).map(cell).collect::<Vec<_>>().join(",") + "\n";
+        row(&|column| format!("c{column}")) + &row(&|column| format!("x{column}"))
+    };
+    let read = |count| csv::placements_of(rows(count).as_bytes(), &columns).map_err(told);
+    assert_eq!(read(64).map(|placements| placements.len()), Ok(1));
+    assert_eq!(read(65), Err(vec!["1: 65 columns; 64 is the most, take out those that nobody needs".into()]));
+    let ranges = |count: usize| "c0,c1\n".to_string() + &"R1-R2000,P\n".repeat(count);
+    let read = |count| csv::placements_of(ranges(count).as_bytes(), &columns).map_err(told);
+    assert_eq!(read(50).map(|placements| placements.len()), Ok(100_000));
+    assert_eq!(read(51), Err(vec!["52: more than 100000 placements; split the file".into()]));
+    let element = |count: usize| {
+        let attributes: String = (0..count).map(|number| format!(" a{number}=\"1\"")).collect();
+        Element::read(format!("<a{attributes}/>").as_bytes()).map_err(|fault| told(vec![fault]))
+    };
+    assert!(element(64).is_ok());
+    assert_eq!(element(65), Err(vec!["1: more than 64 attributes in a; OpenPnP writes fewer".into()]));
+    assert!(element(200_000).is_err());
+    let elements = format!("<a>{}</a>", "<b/>".repeat(500_000));
+    let why = "1: more than 500000 elements; OpenPnP writes fewer";
+    assert_eq!(Element::read(elements.as_bytes()).map_err(|fault| told(vec![fault])), Err(vec![why.into()]));
+}
+
+#[test]
 fn parts_have_255_placements_at_most_and_lists_2048() {
     let list = |count: usize| {
         let placements = placed((0..count).map(|number| format!("R{number}")));

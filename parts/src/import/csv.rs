@@ -1,6 +1,7 @@
 //! Comma-separated text: a row of column names, then a row for each placement or for several of one kind.
 
 use crate::import::{fault, Faults, Placement, Side};
+use crate::limits::{self, MOST_COLUMNS};
 use crate::list::{lines_of, number_of, text_of};
 use crate::{counted, MOST_PLACEMENTS};
 
@@ -228,10 +229,19 @@ pub(super) fn placements_apart(bytes: &[u8], columns: &Columns, apart: Apart) ->
     if is_above(&faults, head.line) {
         return Err(faults);
     }
+    if head.fields.len() > MOST_COLUMNS {
+        let what =
+            format!("{} columns; {MOST_COLUMNS} is the most, take out those that nobody needs", head.fields.len());
+        return Err(vec![fault(head.line, what)]);
+    }
     let found = Found::of(columns, &head.fields).map_err(|what| vec![fault(head.line, what)])?;
     let mut placements = Vec::new();
     for row in rows {
         match placements_in(row, &found, head.fields.len()) {
+            Ok(more) if placements.len() + more.len() > limits::MOST_PLACEMENTS => {
+                let what = format!("more than {} placements; split the file", limits::MOST_PLACEMENTS);
+                return Err(vec![fault(row.line, what)]);
+            }
             Ok(more) => placements.extend(more),
             Err(what) => faults.push(fault(row.line, what)),
         }
