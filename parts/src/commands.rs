@@ -454,6 +454,11 @@ pub fn print(bytes: &[u8]) -> Result<(), Failure> {
     result.map_err(lost)
 }
 
+/// Closes standard output, behind everything that is printed.
+pub fn close() -> Result<(), Failure> {
+    system::close_standard_output().map_err(lost)
+}
+
 /// The failure of standard output.
 fn lost(error: io::Error) -> Failure {
     about(OsStr::new("standard output"), format!("{error}; let it lead to a file or a pipe that takes all of it"))

@@ -9,6 +9,7 @@ use std::path::{Path, PathBuf};
 use std::process;
 
 use job_file::has_mark;
+use system::Removed;
 
 use crate::limits::MOST_BYTES;
 
@@ -164,6 +165,8 @@ impl Written {
 /// A file that is removed when it goes out of use; after the rename nothing has its name any more.
 struct Temporary {
     path: PathBuf,
+    /// Until then a signal removes it too.
+    _removed: Option<Removed>,
     place: PathBuf,
     /// Whether no file was in its place.
     is_new: bool,
@@ -180,7 +183,7 @@ impl Temporary {
             let path = place.with_file_name(format!(".parts-{}-{number}.tmp", process::id()));
             match OpenOptions::new().write(true).create_new(true).mode(mode).open(&path) {
                 Ok(file) => {
-                    let temporary = Temporary { path, place, is_new };
+                    let temporary = Temporary { _removed: Removed::on_signal(&path), path, place, is_new };
                     permissions.map_or(Ok(()), |permissions| file.set_permissions(permissions))?;
                     return Ok((file, temporary));
                 }

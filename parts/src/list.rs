@@ -6,6 +6,7 @@ use std::collections::{HashMap, HashSet};
 use std::fmt;
 
 use crate::job::{Job, Line};
+use crate::letters::is_invisible;
 use crate::limits::MOST_COLUMNS;
 use crate::{tips_in_words, MOST_LINES, MOST_PLACEMENTS, MOST_QUANTITY, MOST_TIPS};
 
@@ -78,6 +79,7 @@ pub struct Fault<W = What> {
 pub enum What {
     NotText,
     ControlCharacter,
+    Invisible(char),
     NoRack,
     RackWords(String),
     RackSize(String),
@@ -117,6 +119,7 @@ impl fmt::Display for What {
         match self {
             What::NotText => write!(to, "not UTF-8 text; save the file as UTF-8 text"),
             What::ControlCharacter => write!(to, "a control character; save the file as plain text"),
+            What::Invisible(c) => invisible_in_words(to, *c),
             What::NoRack => write!(to, "no rack; begin the list with `rack M`, M being the number of tips, 1 to 64"),
             What::RackWords(line) => {
                 write!(to, "unknown words in `{line}`; write `rack M`, M being the number of tips")
@@ -189,6 +192,11 @@ impl fmt::Display for What {
             What::BeforeItself(name) => write!(to, "{name} cannot be before itself; name two parts"),
         }
     }
+}
+
+/// That two names may look the same and differ.
+pub(crate) fn invisible_in_words(to: &mut fmt::Formatter, c: char) -> fmt::Result {
+    write!(to, "a character that nobody sees, U+{:04X}; delete these words and type them again", u32::from(c))
 }
 
 impl List {
@@ -352,6 +360,9 @@ impl Reading {
         if content.is_empty() {
             self.above += &format!("{text}\n");
             return Ok(());
+        }
+        if let Some(c) = content.chars().find(|&c| is_invisible(c)) {
+            return Err(What::Invisible(c));
         }
         if !self.has_rack {
             self.has_rack = true;

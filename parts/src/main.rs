@@ -10,7 +10,7 @@ use std::ffi::OsString;
 use std::io::{self, Write};
 use std::process::ExitCode;
 
-use commands::{print, Failure};
+use commands::{close, print, Failure};
 use help::Command;
 use parts::letters::shown;
 
@@ -19,7 +19,7 @@ static MEMORY: system::OrEnd = system::OrEnd;
 
 fn main() -> ExitCode {
     let words: Vec<OsString> = env::args_os().skip(1).collect();
-    let (why, status) = match run(&words) {
+    let (why, status) = match run(&words).and_then(|()| close()) {
         Ok(()) => return ExitCode::SUCCESS,
         Err(Failure::Arguments) => (usage(&words), ExitCode::from(2)),
         Err(Failure::Argument(why)) => (why, ExitCode::from(2)),

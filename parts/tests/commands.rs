@@ -5,6 +5,7 @@ use std::fs::{self, File, OpenOptions};
 use std::io::Write;
 use std::os::unix::ffi::OsStrExt;
 use std::os::unix::fs::{symlink, PermissionsExt};
+use std::os::unix::process::ExitStatusExt;
 use std::path::{Path, PathBuf};
 use std::process::{Command, Stdio};
 
@@ -158,6 +159,73 @@ fn inputs_that_are_too_large_are_refused() {
     assert_eq!(run(&["make", "-"], wide.as_bytes()), refused(&format!("-:2: {why}")));
     let wide = format!("rack 1\nA{} : 0\nB c0=2 : 0\nC d=1 : 0\n", columns(64));
     assert_eq!(run(&["make", "-"], wide.as_bytes()), refused(&format!("-:4: {why}")));
+}
+
+#[test]
+fn characters_that_nobody_sees_are_refused_in_names() {
+    let why = |line, number| {
+        refused(&format!("-:{line}: a character that nobody sees, U+{number}; delete these words and type them again"))
+    };
+    for (c, number) in [("\u{202e}", "202E"), ("\u{200b}", "200B"), ("\u{feff}", "FEFF"), ("\u{e0041}", "E0041")] {
+        assert_eq!(run(&["plan", "-"], format!("rack 1\nR{c}1 : 0\n").as_bytes()), why(2, number));
+        assert_eq!(run(&["order", "-"], format!("rack 1\nA : 0\nbefore A{c} A\n").as_bytes()), why(3, number));
+        // In a comment it stays.
+        assert_eq!(run(&["plan", "-"], format!("rack 1\nR1 : 0 # {c}\n").as_bytes()).2, 0);
+    }
+    let folder = folder("unseen");
+    let list = typed(&folder, "list.txt");
+    fs::write(&list, LIST).unwrap();
+    assert_eq!(
+        run(&["check", &list, "-"], "pairs 0\nC1\u{200b} : 0\n".as_bytes()).1.lines().next(),
+        why(2, "200B").1.lines().next()
+    );
+    let tips = typed(&folder, "tips.txt");
+    fs::write(&tips, "rack 1\n* : 0\n").unwrap();
+    let rows = "Ref,Val,Package,PosX,PosY,Rot,Side\nR\u{202e}1,1k,P,0,0,0,top\n";
+    let (text, _, _) = run(&["import", "kicad", "-", "--tips", &tips], rows.as_bytes());
+    assert!(text.starts_with(b"rack 1\nR_1 : 0 # P 1k: R"));
+}
+
+#[test]
+fn signal_removes_what_is_half_written() {
+    let folder = folder("signals");
+    let (list, job, pipe) = (typed(&folder, "list.txt"), typed(&folder, "out.job"), typed(&folder, "pipe"));
+    // More than a pipe takes, so that the list is never written whole.
+    fs::write(&list, format!("{BOARD}# {}\n", "x".repeat(1 << 20))).unwrap();
+    fs::write(&job, "TIP old").unwrap();
+    assert!(Command::new("mkfifo").arg(&pipe).status().unwrap().success());
+    for (name, number) in [("HUP", 1), ("INT", 2), ("TERM", 15)] {
+        let mut started = program(&["keep", "1", &list, "--job", &job, "--list", &pipe]).spawn().unwrap();
+        let reader = File::open(&pipe).unwrap();
+        let is_written = || names_in(&folder).iter().any(|name| name.ends_with(".tmp"));
+        while !is_written() {
+            assert_eq!(started.try_wait().unwrap(), None);
+            std::thread::yield_now();
+        }
+        assert!(Command::new("kill").args(["-s", name, &started.id().to_string()]).status().unwrap().success());
+        assert_eq!(started.wait().unwrap().signal(), Some(number));
+        drop(reader);
+        assert_eq!(names_in(&folder), ["list.txt", "out.job", "pipe"]);
+        assert_eq!(fs::read(&job).unwrap(), b"TIP old");
+    }
+}
+
+#[test]
+fn output_that_is_lost_when_it_is_closed_is_told() {
+    let folder = folder("closing");
+    // As on a file system that keeps an error until then.
+    let (source, library) = (typed(&folder, "closing.c"), typed(&folder, "closing.so"));
+    fs::write(
+        &source,
+        "#include <errno.h>\nint close(int file) { errno = file == 1 ? EIO : 0; return file == 1 ? -1 : 0; }\n",
+    )
+    .unwrap();
+    let built = Command::new("gcc").args(["-shared", "-fPIC", "-o", &library, &source]).status().unwrap();
+    assert!(built.success());
+    let (_, why, status) = run_with(program(&["make", "-"]).env("LD_PRELOAD", &library), LIST.as_bytes());
+    let lost =
+        "standard output: Input/output error (os error 5); let it lead to a file or a pipe that takes all of it\n";
+    assert_eq!((why.as_str(), status), (lost, 1));
 }
 
 #[test]

@@ -2,7 +2,7 @@
 
 use std::collections::{HashMap, HashSet};
 
-use crate::letters::shown;
+use crate::letters::{is_invisible, shown};
 use crate::list::{is_taken, lines_of, Fault};
 use crate::{quantity_in_words, tips_in_words, MOST_LINES, MOST_PLACEMENTS, MOST_QUANTITY};
 
@@ -252,7 +252,7 @@ fn distinct<'a>(words: &[&'a str]) -> Vec<&'a str> {
 
 /// A reference as a name of a list: one word, with `_` for what no name has.
 fn name_of(reference: &str) -> String {
-    let is_foreign = |c: char| c.is_whitespace() || ":=#".contains(c);
+    let is_foreign = |c: char| c.is_whitespace() || is_invisible(c) || ":=#".contains(c);
     let name: String = reference.chars().map(|c| if is_foreign(c) { '_' } else { c }).collect();
     if is_taken(&name) {
         return name + "_";
