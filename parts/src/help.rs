@@ -121,7 +121,7 @@ pub const COMMANDS: [Command; 17] = [
                tip T, which is on the head, wins where tips suit equally",
         more: "Quick takes every list. Best has the most pairs of all plans, a pair being two placements on one tip;\n\
                it takes lists in which each part has every tip between its lowest and its highest, but for tips that\n\
-               no part of the list has.\n\
+               no part of the list has. Where a part has a gap, it is named with an order of the rack that helps, if there is one.\n\
                A quantity other than 1 stands behind the name, as x10; the summary then counts parts and placements.\n\
                Where several tips suit equally, the lowest is taken, or T where it is one of them. The pairs of the\n\
                best plan are the same with every T, those of the quick plan may be others.\n\

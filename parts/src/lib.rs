@@ -19,6 +19,7 @@ pub mod panel;
 pub mod picture;
 pub mod planning;
 pub mod refusal;
+pub mod renumbering;
 pub mod table_fault;
 
 pub use job_file::{MOST_LINES, MOST_PLACEMENTS, MOST_TIPS};

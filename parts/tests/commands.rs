@@ -256,7 +256,7 @@ fn plans_from_other_software_are_checked() {
                -:3: the list has no part C3; take it out, or correct its name";
     assert_eq!(run(&["check", &list, "-"], b"pairs 0\nC1 0\nC3 : 0\n"), refused(why));
     let why = format!(
-        "{list}: refused 25: C2 is no run: it lacks tip 1, which C1 has; take the table out to check tips and pairs"
+        "{list}: refused 25: C2 is no run: it lacks tip 1, which C1 has (with the tips in the order 0 2 1 every part is a run); take the table out to check tips and pairs"
     );
     fs::write(&list, "rack 3\nC1 : 1\nC2 : 0 2\n").unwrap();
     assert_eq!(run(&["check", &list, &plan], b""), refused(&why));
