@@ -118,6 +118,18 @@ impl Files<'_> {
         }
     }
 
+    /// Where the job file and the parts list go, where they are asked for.
+    fn job_and_list(&self) -> Result<[Option<(&OsStr, Output)>; 2], Failure> {
+        let job = self.job_output()?;
+        let list = self.arguments.option("--list").map(|list| self.output(list, Kind::Text)).transpose()?;
+        if let (Some((_, job)), Some((out, list))) = (&job, &list) {
+            if list.replaces(job) {
+                return Err(Failure::Argument(format!("{}: this is JOB and LIST; name two files", shown(out))));
+            }
+        }
+        Ok([job, list])
+    }
+
     /// Prints what the command makes, or writes it to the file behind `-o`.
     fn give(&self, kind: Kind, bytes: &[u8]) -> Result<(), Failure> {
         match self.arguments.option(OUTPUT) {
@@ -141,6 +153,11 @@ fn write(outputs: Vec<((&OsStr, Output), &[u8])>) -> Result<(), Failure> {
         written.put().map_err(|error| failed(path, error))?;
     }
     Ok(())
+}
+
+/// Writes the job file and the parts list, where they are asked for.
+fn write_each(outputs: [Option<(&OsStr, Output)>; 2], bytes: [&[u8]; 2]) -> Result<(), Failure> {
+    write(outputs.into_iter().zip(bytes).filter_map(|(output, bytes)| Some((output?, bytes))).collect())
 }
 
 pub fn import_kicad(arguments: &Arguments) -> Result<(), Failure> {
@@ -247,16 +264,9 @@ fn strike<N: FromStr>(
     };
     let mut files = Files::of(arguments);
     let bytes = files.read(path)?;
-    let job = files.job_output()?;
-    let list = arguments.option("--list").map(|list| files.output(list, Kind::Text)).transpose()?;
-    if let (Some((_, job)), Some((out, list))) = (&job, &list) {
-        if list.replaces(job) {
-            return Err(Failure::Argument(format!("{}: this is JOB and LIST; name two files", shown(out))));
-        }
-    }
+    let outputs = files.job_and_list()?;
     let kept = strike(&named(path, bytes)?, bound).map_err(|why| about(path, why))?;
-    let outputs = [(job, &kept.file[..]), (list, kept.list.as_bytes())];
-    write(outputs.into_iter().filter_map(|(output, bytes)| Some((output?, bytes))).collect())?;
+    write_each(outputs, [&kept.file, kept.list.as_bytes()])?;
     print(kept.text.as_bytes())
 }
 
@@ -290,27 +300,30 @@ pub fn junior(arguments: &Arguments) -> Result<(), Failure> {
 
 pub fn panel(arguments: &Arguments) -> Result<(), Failure> {
     let paths = arguments.files();
-    let [first, second] = paths[..] else { return Err(Failure::Arguments) };
-    one_standard_input(&paths, "this is both boards")?;
+    let is = if paths.len() == 2 { "this is both boards" } else { "this is standard input for two boards" };
+    one_standard_input(&paths, is)?;
     let mut files = Files::of(arguments);
-    let inputs = [files.read(first)?, files.read(second)?];
-    let job = files.job_output()?;
+    let inputs: Vec<Vec<u8>> = paths.iter().map(|path| files.read(path)).collect::<Result<_, _>>()?;
+    let outputs = files.job_and_list()?;
     let mut boards = Vec::new();
     for (path, bytes) in paths.iter().zip(inputs) {
         let board = named(path, bytes)?;
         job_of(&board.file).map_err(|why| about(path, why))?;
         boards.push(board);
     }
-    let panel = Panel::of(&boards[0], &boards[1]).map_err(Failure::Refused)?;
-    let (text, file) = match panel.merged {
-        Ok(merged) => merged,
+    let panel = Panel::of(&boards.iter().collect::<Vec<_>>()).map_err(Failure::Refused)?;
+    match panel.merged {
+        Ok(merged) => {
+            write_each(outputs, [&merged.file, merged.list.as_bytes()])?;
+            print((panel.alone + &merged.text).as_bytes())
+        }
         Err(why) => {
             print(panel.alone.as_bytes())?;
-            return Err(Failure::Refused(format!("{} and {}: {why}", shown(first), shown(second))));
+            let names: Vec<String> = paths.iter().map(shown).collect();
+            let (last, others) = names.split_last().ok_or(Failure::Arguments)?;
+            Err(Failure::Refused(format!("{} and {last}: {why}", others.join(", "))))
         }
-    };
-    write(job.into_iter().map(|output| (output, &file[..])).collect())?;
-    print((panel.alone + &text).as_bytes())
+    }
 }
 
 pub fn mend(arguments: &Arguments) -> Result<(), Failure> {

@@ -158,13 +158,14 @@ pub const COMMANDS: [Command; 17] = [
     },
     Command {
         name: "panel",
-        arguments: "FILE FILE [--job JOB]",
-        does: "put two boards on one panel: plan each alone and both together, part by part,\n\
-               and write the panel as the job file JOB",
-        more: "The panel has the parts of the first board and then those of the second, which both have one rack. A\n\
+        arguments: "FILE FILE.. [--job JOB] [--list LIST]",
+        does: "put boards on one panel: plan each alone and all together, part by part,\n\
+               and write the panel as the job file JOB and as the parts list LIST",
+        more: "The panel has the parts of the first board, then those of the second, and so on; all have one rack. A\n\
                board alone is planned by the quick rule, whatever its rack. Behind each part stand its tip alone and\n\
-               its tips in the quick and the best plan of the panel. The same file may be named for both boards.\n\
-               Where the racks differ, or both boards are too many lines or placements, each board is planned alone,\n\
+               its tips in the quick and the best plan of the panel. A file may be named several times. In LIST R1-2\n\
+               is R1 of the second board; positions as at=3 are left out.\n\
+               Where the racks differ, or all boards are too many lines or placements, each board is planned alone,\n\
                and the panel is refused.\n\
                JOB replaces a job file of its name, another file only with --force, and never a FILE.\n",
         example: "parts panel left.txt right.txt --job panel.job",

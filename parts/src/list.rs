@@ -5,10 +5,11 @@ use std::cmp::Ordering;
 use std::collections::{HashMap, HashSet};
 use std::fmt;
 
+use crate::import::name_of;
 use crate::job::{Job, Line};
 use crate::letters::is_invisible;
 use crate::limits::MOST_COLUMNS;
-use crate::{tips_in_words, MOST_LINES, MOST_PLACEMENTS, MOST_QUANTITY, MOST_TIPS};
+use crate::{quantity_in_words, tips_in_words, MOST_LINES, MOST_PLACEMENTS, MOST_QUANTITY, MOST_TIPS};
 
 /// Words for the quantity, in capitals or not, which no column may have. `x` is none: it is where the part is placed.
 const QUANTITIES: [&str; 7] = ["qty", "quantity", "count", "amount", "pieces", "pcs", "n"];
@@ -280,6 +281,36 @@ impl Part {
     /// What stands behind the `#` of its line.
     pub fn comment(&self) -> &str {
         self.text.split_once('#').map_or("", |(_, comment)| comment.trim())
+    }
+
+    /// The reference designators of its placements, as an import writes them behind its comment: as many placements for
+    /// each, and its name among them. Nothing where the list does not say.
+    pub fn references(&self) -> Vec<&str> {
+        let Some((_, words)) = self.comment().rsplit_once(": ") else { return Vec::new() };
+        let references: Vec<&str> = words.split_whitespace().collect();
+        let is_named = self.name.as_ref().is_some_and(|name| references.iter().any(|word| name_of(word) == *name));
+        let is_even = !references.is_empty() && usize::from(self.quantity) % references.len() == 0;
+        if is_named && is_even {
+            references
+        } else {
+            Vec::new()
+        }
+    }
+
+    /// Its line on a panel, with this behind its name and its references; a position in the order of one board is left out.
+    pub(crate) fn on_panel(&self, label: &str, board: &str) -> String {
+        let mut words = vec![format!("{label}{board}")];
+        words.extend(Some(quantity_in_words(self.quantity).trim().to_string()).filter(|word| !word.is_empty()));
+        words.extend(self.columns.iter().map(|(column, number)| format!("{column}={number}")));
+        words.extend(self.fine.then(|| FINE.into()));
+        words.extend(self.tall.then(|| TALL.into()));
+        let references: Vec<String> = self.references().iter().map(|word| format!("{word}{board}")).collect();
+        let comment = match self.comment().rsplit_once(": ") {
+            Some((before, _)) if !references.is_empty() => format!(" # {before}: {}", references.join(" ")),
+            _ if self.comment().is_empty() => String::new(),
+            _ => format!(" # {}", self.comment()),
+        };
+        format!("{} : {}{comment}\n", words.join(" "), tips_in_words(self.tips))
     }
 
     /// Its number to sort by: in a column, or its quantity by any word for it.

@@ -251,7 +251,7 @@ fn distinct<'a>(words: &[&'a str]) -> Vec<&'a str> {
 }
 
 /// A reference as a name of a list: one word, with `_` for what no name has.
-fn name_of(reference: &str) -> String {
+pub(crate) fn name_of(reference: &str) -> String {
     let is_foreign = |c: char| c.is_whitespace() || is_invisible(c) || ":=#".contains(c);
     let name: String = reference.chars().map(|c| if is_foreign(c) { '_' } else { c }).collect();
     if is_taken(&name) {
