@@ -9,6 +9,9 @@ use parts::letters::shown;
 pub const OUTPUT: &str = "-o";
 /// The switch that lets an output replace any file; every command takes it.
 pub const FORCE: &str = "--force";
+/// The switch that asks for a table, and the option that is needed without it.
+pub const START_TABLE: &str = "--start-table";
+pub const TABLE: &str = "--tips";
 /// A word of this name may be typed behind `-o` instead.
 const OUT: &str = "OUT";
 
@@ -102,7 +105,8 @@ impl Arguments {
             return Err(format!("`{}` is a word too many{instead}", shown(word)));
         }
         let missing_file = files.into_iter().skip(self.files.len()).find(|file| file.is_needed);
-        let is_missing = |typed: &&Typed| typed.is_option() && typed.is_needed && self.option(typed.name).is_none();
+        let is_needed = |typed: &Typed| typed.is_needed && !(typed.name == TABLE && self.has(START_TABLE));
+        let is_missing = |typed: &&Typed| typed.is_option() && is_needed(typed) && self.option(typed.name).is_none();
         match missing_file.or_else(|| typed.iter().find(is_missing)) {
             None => Ok(self),
             Some(missing) => Err(match missing.value {

@@ -12,7 +12,7 @@ use parts::handed::Handed;
 use parts::import::csv::{self, Columns};
 use parts::import::kicad;
 use parts::import::openpnp::{Board, Packages, Parts};
-use parts::import::table::Table;
+use parts::import::table::{self, Table};
 use parts::import::{is_foreign, Faults, Placement, Sides};
 use parts::job::{has_mark, job_of, list_in_words};
 use parts::letters::shown;
@@ -23,7 +23,7 @@ use parts::panel::Panel;
 use parts::planning::{Kept, Named};
 use parts::MOST_TIPS;
 
-use crate::arguments::{Arguments, FORCE, OUTPUT};
+use crate::arguments::{Arguments, FORCE, OUTPUT, START_TABLE, TABLE};
 use crate::completion;
 
 /// The most faults of a list that are printed.
@@ -176,21 +176,29 @@ fn import_by_table(
     placements_of: impl Fn(&[u8]) -> Result<Vec<Placement>, Faults>,
 ) -> Result<(), Failure> {
     let [path] = arguments.files()[..] else { return Err(Failure::Arguments) };
-    let tips = arguments.option("--tips").ok_or(Failure::Arguments)?;
+    let tips = arguments.option(TABLE);
     let sides = sides_of(arguments)?;
-    one_standard_input(&[path, tips], "this is standard input for two files")?;
+    one_standard_input(&[path, tips.unwrap_or_default()], "this is standard input for two files")?;
     let mut files = Files::of(arguments);
-    let bytes = files.read(tips)?;
-    let table = Table::read(&bytes).map_err(|faults| match is_foreign(&bytes) {
-        true => about(tips, "this is no table of tips; name the table behind --tips, and this file before it"),
-        false => faulty(tips, &faults),
-    })?;
+    let table = tips.map(|tips| table_of(tips, &files.read(tips)?)).transpose()?;
     let bytes = files.read(path)?;
     let placements = placements_of(&bytes).map_err(|faults| match Table::read(&bytes) {
         Ok(_) => about(path, "this is a table of tips; name the file to import here, and the table behind --tips"),
         Err(_) => faulty(path, &faults),
     })?;
+    if arguments.has(START_TABLE) {
+        let begun = table::beginning(placements, sides, table.as_ref());
+        return files.give_text(&begun.map_err(|faults| faulty(path, &faults))?);
+    }
+    let table = table.ok_or(Failure::Arguments)?;
     files.give_text(&table.list(placements, sides).map_err(|faults| without_tips(path, &faults))?)
+}
+
+fn table_of(path: &OsStr, bytes: &[u8]) -> Result<Table, Failure> {
+    Table::read(bytes).map_err(|faults| match is_foreign(bytes) {
+        true => about(path, "this is no table of tips; name the table behind --tips, and this file before it"),
+        false => faulty(path, &faults),
+    })
 }
 
 pub fn import_openpnp(arguments: &Arguments) -> Result<(), Failure> {

@@ -23,7 +23,7 @@ pub struct Command {
 pub const COMMANDS: [Command; 17] = [
     Command {
         name: "import kicad",
-        arguments: "POS --tips TABLE [--side SIDE]",
+        arguments: "POS --tips TABLE [--side SIDE] [--start-table]",
         does: "print the parts list of a KiCad position file, CSV or text",
         more: "Placements of equal package and value are one part, with its quantity; it is named by its first reference.\n\
                Package, value and references are its comment.\n\
@@ -31,7 +31,9 @@ pub const COMMANDS: [Command; 17] = [
                for any letters, a ? for one. The first row that matches counts; its columns, fine, tall and at= stand in\n\
                the list. A line `skip Fiducial*` leaves packages out, `skip value DNP` values. Where no row matches a package, all such packages\n\
                are told, and nothing is printed.\n\
-               SIDE is top, bottom or both; it may be left out where the file is of one side.\n",
+               SIDE is top, bottom or both; it may be left out where the file is of one side.\n\
+               --start-table prints a table to begin with instead, a row for each package; with TABLE the rows that it\n\
+               lacks. Then TABLE may be left out.\n",
         example: "parts import kicad board-top.csv --tips tips.txt > board.txt",
         run: commands::import_kicad,
     },
@@ -51,13 +53,13 @@ pub const COMMANDS: [Command; 17] = [
     },
     Command {
         name: "import csv",
-        arguments: "CSV --tips TABLE --columns COLUMNS [--side SIDE]",
+        arguments: "CSV --tips TABLE --columns COLUMNS [--side SIDE] [--start-table]",
         does: "print the parts list of any file with columns, as a bill of materials",
         more: "The first row names the columns; they are separated by commas, semicolons or tabs. COLUMNS says which of\n\
                them are read, by name or by number, counted from 1: ref= and package=, and where there are such value=,\n\
                side= and quantity=. A field may have several references, as R1, R2 or R1-R4; each is a placement. A\n\
                quantity is for rows that name one reference or none.\n\
-               TABLE and SIDE are as for `parts import kicad`.\n",
+               TABLE, SIDE and --start-table are as for `parts import kicad`.\n",
         example: "parts import csv bom.csv --tips tips.txt --columns ref=Designator,package=Footprint > board.txt",
         run: commands::import_csv,
     },

@@ -444,7 +444,7 @@ fn wrong_arguments_print_the_usage_of_their_command() {
         let expected = format!("{what}usage: parts {usage}\n`parts {command} --help` says more\n");
         assert_eq!(run(arguments, b""), (Vec::new(), expected, 2), "{arguments:?}");
     }
-    let kicad = "usage: parts import kicad POS --tips TABLE [--side SIDE]\n`parts import kicad --help` says more";
+    let kicad = "usage: parts import kicad POS --tips TABLE [--side SIDE] [--start-table]\n`parts import kicad --help` says more";
     for (arguments, what) in [
         (&["import", "kicad", "a"][..], "--tips TABLE is missing"),
         (&["import", "kicad", "--tips", "a"], "POS is missing"),
@@ -847,6 +847,39 @@ fn imported_files_are_read_from_standard_input_too() {
     assert_eq!(run(&["import", "csv", &file, "--tips", &tips, columns[0], columns[1]], b""), given(list));
     let sided = run(&[&["import", "csv", &file, "--tips", &tips], &columns[..]].concat(), b"");
     assert_eq!(sided, refused(&format!("{file}:2: no side; take --side out, or name the sides")));
+}
+
+#[test]
+fn table_is_begun_from_a_board() {
+    let rows =
+        "Ref,Val,Package,PosX,PosY,Rot,Side\nR1,1k,R_0402,0,0,0,top\nC1,1u,A B,0,0,0,top\nR2,2k,R_0402,0,0,0,top\n\
+                F1,F,Fiducial_1mm,0,0,0,top\nD1,DNP,D_1,0,0,0,top\n";
+    let (begun, why, status) = run(&["import", "kicad", "-", "--start-table"], rows.as_bytes());
+    assert_eq!((why.as_str(), status), ("", 0));
+    let begun = String::from_utf8(begun).unwrap();
+    let table = "rack ?\nR_0402 : # 2 placements: R1 R2\nA?B : # 1 placement: C1\n\
+                 skip Fiducial_1mm # 1 placement: F1\nD_1 : # 1 placement: D1\n";
+    assert!(begun.ends_with(table), "{begun}");
+    let folder = folder("begun");
+    let tips = typed(&folder, "tips.txt");
+    // Nothing is imported with it before it is filled.
+    fs::write(&tips, &begun).unwrap();
+    let (_, why, status) = run(&["import", "kicad", "-", "--tips", &tips], rows.as_bytes());
+    assert_eq!((why.lines().count(), status), (4, 1), "{why}");
+    let filled = begun.replace("rack ?", "rack 2").replace(" : #", " : 0-1 #");
+    fs::write(&tips, &filled).unwrap();
+    let list = run(&["import", "kicad", "-", "--tips", &tips], rows.as_bytes());
+    assert_eq!((list.0.split(|&byte| byte == b'\n').count(), list.2), (7, 0));
+    let every = given(b"# every package has a row\n");
+    assert_eq!(run(&["import", "kicad", "-", "--tips", &tips, "--start-table"], rows.as_bytes()), every);
+    // With a table only what it lacks.
+    fs::write(&tips, "rack 2\nA* : 0\nskip F*\nskip value DNP\n").unwrap();
+    let lacking = given(b"R_0402 : # 2 placements: R1 R2\n");
+    assert_eq!(run(&["import", "kicad", "--start-table", "-", "--tips", &tips], rows.as_bytes()), lacking);
+    let many: String = (1..=7).map(|number| format!("R{number},1,P,0,0,0,top\n")).collect();
+    let many = "Ref,Val,Package,PosX,PosY,Rot,Side\n".to_string() + &many;
+    let (begun, _, _) = run(&["import", "kicad", "-", "--start-table"], many.as_bytes());
+    assert!(begun.ends_with(b"P : # 7 placements: R1 R2 R3 R4 R5 R6 ..\n"));
 }
 
 #[test]

@@ -2,7 +2,10 @@
 //! `skip Fiducial*` for packages and `skip value DNP` for values that are left out. The first row that matches a package
 //! counts; a value is left out wherever its row stands.
 
-use crate::import::{distinct, fault, list_of, Faults, Group, Known, Picked, Placement, Sides};
+use std::collections::HashSet;
+
+use crate::counted;
+use crate::import::{distinct, fault, groups_of, list_of, on_one_line, Faults, Group, Known, Picked, Placement, Sides};
 use crate::list::{lines_of, List, Part};
 
 /// The word that begins a row for packages that are left out.
@@ -103,6 +106,42 @@ impl Table {
             false => self.known(group.package),
         }
     }
+}
+
+/// What packages begin with that no tip places.
+const NOT_PLACED: [&str; 3] = ["fiducial", "mountinghole", "testpoint"];
+/// The most references that a row of a new table names.
+const MOST_REFERENCES: usize = 6;
+const BEGINNING: &str = "\
+# Write the number of tips in your rack for the ?, and behind each colon the tips that can pick the package, as 0-1 or 2 4.
+# One row may do for many packages, as R_0402* with a * for any letters. A row `skip PACKAGE` leaves a package out.
+rack ?
+";
+
+/// A table to begin with: a row for each package, to be filled with tips; or only the rows that a table lacks.
+pub fn beginning(placements: Vec<Placement>, sides: Sides, table: Option<&Table>) -> Result<String, Faults> {
+    let placements = sides.of_placements(placements, |_| false)?;
+    let mut text = if table.is_none() { BEGINNING.into() } else { String::new() };
+    let is_new = |group: &Group| table.is_none_or(|table| matches!(table.known_of(group), Known::Nothing));
+    let new: HashSet<&str> =
+        groups_of(placements.iter(), true).iter().filter(|group| is_new(group)).map(|group| group.package).collect();
+    let groups = groups_of(placements.iter(), false);
+    for group in groups.iter().filter(|group| new.contains(group.package)) {
+        let (pattern, package) = (pattern_of(group.package), group.package.to_ascii_lowercase());
+        let references = distinct(&group.references);
+        let more = if references.len() > MOST_REFERENCES { " .." } else { "" };
+        let named = &references[..references.len().min(MOST_REFERENCES)];
+        let comment =
+            format!("{}: {}{more}", counted(group.references.len() as u64, "placement"), on_one_line(&named.join(" ")));
+        text += &match NOT_PLACED.iter().any(|word| package.starts_with(word)) {
+            true => format!("{SKIP} {pattern} # {comment}\n"),
+            false => format!("{pattern} : # {comment}\n"),
+        };
+    }
+    if new.is_empty() {
+        text += "# every package has a row\n";
+    }
+    Ok(text)
 }
 
 /// That no row matches, and which rows would.
