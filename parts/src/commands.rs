@@ -7,6 +7,7 @@ use std::path::Path;
 use std::str::FromStr;
 
 use parts::checking::Refused;
+use parts::exporting::{Format, Which};
 use parts::files::{of_standard_output, Identity, Input, Output};
 use parts::handed::Handed;
 use parts::import::csv::{self, Columns};
@@ -281,9 +282,19 @@ fn strike<N: FromStr>(
 pub fn plan(arguments: &Arguments) -> Result<(), Failure> {
     let [path] = arguments.files()[..] else { return Err(Failure::Arguments) };
     let mounted = arguments.option("--mounted").map(tip_of).transpose()?;
+    let format = text_behind(arguments, "--format")?.map(Format::of).transpose().map_err(Failure::Argument)?;
+    let which = text_behind(arguments, "--plan")?;
+    if format.is_none() && which.is_some() {
+        return Err(Failure::Argument("--plan needs a --format; without one both plans are printed".into()));
+    }
+    let which = Which::of(which).map_err(Failure::Argument)?;
     let mut files = Files::of(arguments);
     let named = files.named(path)?;
-    files.give_text(&named.plan(mounted).map_err(|why| about(path, why))?)
+    let text = match format {
+        None => named.plan(mounted),
+        Some(format) => named.exported(format, which, mounted),
+    };
+    files.give_text(&text.map_err(|why| about(path, why))?)
 }
 
 pub fn check(arguments: &Arguments) -> Result<(), Failure> {

@@ -118,7 +118,7 @@ pub const COMMANDS: [Command; 17] = [
     },
     Command {
         name: "plan",
-        arguments: "FILE [--mounted T]",
+        arguments: "FILE [--mounted T] [--format FORMAT] [--plan PLAN]",
         does: "print the quick and the best plan, part by part, and a summary of both;\n\
                tip T, which is on the head, wins where tips suit equally",
         more: "Quick takes every list. Best has the most pairs of all plans, a pair being two placements on one tip;\n\
@@ -128,7 +128,10 @@ pub const COMMANDS: [Command; 17] = [
                Where several tips suit equally, the lowest is taken, or T where it is one of them. The pairs of the\n\
                best plan are the same with every T, those of the quick plan may be others.\n\
                The summary counts tip changes for parts placed tip by tip: one less than the tips used. With a T that\n\
-               no part uses there is one more, at the start.\n",
+               no part uses there is one more, at the start.\n\
+               FORMAT is text, csv or json: then one plan is printed, the best one or, where there is none, the quick\n\
+               one, a row for each reference designator that an import wrote into the comments, or else for each part.\n\
+               PLAN is quick or best. `parts check` reads each format.\n",
         example: "parts plan board.txt --mounted 3",
         run: commands::plan,
     },
@@ -138,11 +141,13 @@ pub const COMMANDS: [Command; 17] = [
         does: "check a plan from other software, and compare its pairs with the best plan's;\n\
                PLAN is a text with its pairs and a tip for each part, and may have a table",
         more:
-            "PLAN begins with `pairs N`, the number of pairs that it is said to have. Then each part stands on a line\n\
+            "As text, PLAN begins with `pairs N`, the number of pairs that it is said to have. Then each part stands on a line\n\
                with its tip, as C1 : 3, in any order; : 3 is for the next part without a name. Below a line `table`\n\
                its table may follow: for a rack of M, M rows of M numbers.\n\
                Each part must be on a tip of its own, the pairs must be those of the plan, and the table must show\n\
-               that no plan has more. Without a table only the first two are checked, which is said.\n",
+               that no plan has more. Without a table only the first two are checked, which is said.\n\
+               As CSV, PLAN has a column tip and a column reference or part, as JSON a list `placements` with them. A\n\
+               reference is one that stands in the comment of a part, as an import writes it.\n",
         example: "parts check board.txt plan.txt",
         run: commands::check,
     },

@@ -1,12 +1,14 @@
 //! Parts lists as text, job files as bytes, and what the proved library says of them.
 
 pub mod checking;
+pub mod exporting;
 #[cfg(unix)]
 pub mod files;
 pub mod goal;
 pub mod handed;
 pub mod import;
 pub mod job;
+pub mod json;
 pub mod junior;
 pub mod letters;
 pub mod limits;

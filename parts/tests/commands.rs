@@ -426,13 +426,17 @@ fn wrong_arguments_print_the_usage_of_their_command() {
         ),
         (&["junior"], "FILE is missing", "junior FILE"),
         (&["junior", "a", "b"], "`b` is a word too many", "junior FILE"),
-        (&["plan"], "FILE is missing", "plan FILE [--mounted T]"),
-        (&["plan", "a", "b"], "`b` is a word too many", "plan FILE [--mounted T]"),
-        (&["plan", "a", "--mounted"], "--mounted needs T behind it", "plan FILE [--mounted T]"),
+        (&["plan"], "FILE is missing", "plan FILE [--mounted T] [--format FORMAT] [--plan PLAN]"),
+        (&["plan", "a", "b"], "`b` is a word too many", "plan FILE [--mounted T] [--format FORMAT] [--plan PLAN]"),
+        (
+            &["plan", "a", "--mounted"],
+            "--mounted needs T behind it",
+            "plan FILE [--mounted T] [--format FORMAT] [--plan PLAN]",
+        ),
         (
             &["plan", "a", "--mounted", "1", "--mounted", "2"],
             "--mounted stands twice; name it once",
-            "plan FILE [--mounted T]",
+            "plan FILE [--mounted T] [--format FORMAT] [--plan PLAN]",
         ),
         (&["picture", "a", "--mounted", "1"], "parts picture has no option --mounted", "picture FILE"),
         (&["picture"], "FILE is missing", "picture FILE"),
@@ -632,7 +636,7 @@ fn options_take_their_value_behind_a_space_or_a_sign() {
     for words in [&["plan", "-", "--mounted=1"][..], &["plan", "--mounted", "1", "-"]] {
         assert!(run(words, LIST.as_bytes()).0.ends_with(b"tip 1 mounted\n"), "{words:?}");
     }
-    let usage = "usage: parts plan FILE [--mounted T]\n`parts plan --help` says more";
+    let usage = "usage: parts plan FILE [--mounted T] [--format FORMAT] [--plan PLAN]\n`parts plan --help` says more";
     for (words, what) in [
         (&["plan", "-", "--force=1"][..], "--force takes nothing behind it"),
         (&["plan", "-", "--mounted=1", "--mounted=2"], "--mounted stands twice; name it once"),
@@ -916,7 +920,8 @@ fn bash_completes_commands_and_options() {
     assert_eq!(completed(&["import", ""]), ["kicad", "openpnp", "csv"]);
     assert_eq!(completed(&["help", "import", "o"]), ["openpnp"]);
     assert_eq!(completed(&["completion", ""]), ["bash"]);
-    assert_eq!(completed(&["plan", "a", "--"]), ["--mounted", "--force", "--help"]);
+    assert_eq!(completed(&["plan", "a", "--"]), ["--mounted", "--format", "--plan", "--force", "--help"]);
+    assert_eq!(completed(&["plan", "a", "--format", ""]), ["text", "csv", "json"]);
     assert_eq!(completed(&["import", "csv", "a", "--c"]), ["--columns"]);
     assert_eq!(completed(&["import", "csv", "a", "--side", "b"]), ["bottom", "both"]);
     // Files are completed by bash itself.

@@ -66,6 +66,26 @@ pub(crate) fn names_of(bytes: &[u8]) -> Option<Vec<String>> {
     (!is_above(&faults, head.line)).then_some(head.fields)
 }
 
+/// The rows below the names of the columns, each as long as they are, with its line; and what is wrong with others.
+pub(crate) fn rows_behind_names(bytes: &[u8]) -> (Vec<(usize, Vec<String>)>, Faults) {
+    let (rows, mut faults) = rows_of(bytes, |_| None);
+    let columns = rows.first().map_or(0, |head| head.fields.len());
+    let mut good = Vec::new();
+    for row in rows.into_iter().skip(1) {
+        match row.fields.len() {
+            count if count == columns => good.push((row.line, row.fields)),
+            count => faults.push(fault(row.line, wrong_count(count, columns))),
+        }
+    }
+    (good, faults)
+}
+
+/// That a row has another number of fields than there are columns.
+fn wrong_count(fields: usize, columns: usize) -> String {
+    let fields = counted(fields as u64, "field");
+    format!("{fields}; the first row has {columns}, give each row as many")
+}
+
 /// Whether something is wrong above this line.
 fn is_above(faults: &Faults, line: usize) -> bool {
     faults.first().is_some_and(|fault| fault.line < line)
@@ -257,8 +277,7 @@ pub(super) fn placements_apart(bytes: &[u8], columns: &Columns, apart: Apart) ->
 /// The placements of one row: one for each of its references, or as many as its quantity says.
 fn placements_in(row: &Row, found: &Found, columns: usize) -> Result<Vec<Placement>, String> {
     if row.fields.len() != columns {
-        let fields = counted(row.fields.len() as u64, "field");
-        return Err(format!("{fields}; the first row has {columns}, give each row as many"));
+        return Err(wrong_count(row.fields.len(), columns));
     }
     let field = |column: usize| row.fields[column].as_str();
     let package = field(found.package);
