@@ -310,6 +310,28 @@ pub fn check(arguments: &Arguments) -> Result<(), Failure> {
     files.give_text(&checked)
 }
 
+pub fn compare(arguments: &Arguments) -> Result<(), Failure> {
+    let [one, other] = arguments.files()[..] else { return Err(Failure::Arguments) };
+    one_standard_input(&[one, other], "this is both files")?;
+    let mut files = Files::of(arguments);
+    let bytes = [files.read(one)?, files.read(other)?];
+    let is_table = |bytes: &Vec<u8>| Table::read(bytes).is_ok_and(|table| table.has_patterns());
+    if bytes.iter().any(is_table) {
+        let table = |path: &OsStr, bytes: &Vec<u8>| {
+            let why = "this is no table of tips, and the other file is one; compare two files of a kind";
+            Table::read(bytes).map_err(|_| about(path, why))
+        };
+        let (before, after) = (table(one, &bytes[0])?, table(other, &bytes[1])?);
+        return files.give_text(&before.entries().compare(&after.entries()));
+    }
+    let [before, after] = bytes;
+    let (before, after) = (named(one, before)?, named(other, after)?);
+    for (path, board) in [(one, &before), (other, &after)] {
+        job_of(&board.file).map_err(|why| about(path, why))?;
+    }
+    files.give_text(&before.compare(&after).map_err(Failure::Refused)?)
+}
+
 pub fn junior(arguments: &Arguments) -> Result<(), Failure> {
     let [path] = arguments.files()[..] else { return Err(Failure::Arguments) };
     let mut files = Files::of(arguments);

@@ -20,7 +20,7 @@ pub struct Command {
 }
 
 /// The commands, in the order of the page.
-pub const COMMANDS: [Command; 17] = [
+pub const COMMANDS: [Command; 18] = [
     Command {
         name: "import kicad",
         arguments: "POS --tips TABLE [--side SIDE] [--start-table]",
@@ -150,6 +150,16 @@ pub const COMMANDS: [Command; 17] = [
                reference is one that stands in the comment of a part, as an import writes it.\n",
         example: "parts check board.txt plan.txt",
         run: commands::check,
+    },
+    Command {
+        name: "compare",
+        arguments: "FILE FILE",
+        does: "print what differs from one parts list, job file or table of tips to another, and what that changes of the plans",
+        more: "Parts are compared by their names, those without a name by their lines: tips, quantity, columns and words.\n\
+               Then come the pairs of both plans, and each part that has another tip. A file with patterns or a line\n\
+               `skip` is a table of tips; its rows are compared, and their order.\n",
+        example: "parts compare old.txt new.txt",
+        run: commands::compare,
     },
     Command {
         name: "junior",

@@ -348,7 +348,7 @@ fn help_and_version_are_printed() {
     assert_eq!(run(&["--version"], b""), given(version.as_bytes()));
 }
 
-const COMMANDS: [&str; 17] = [
+const COMMANDS: [&str; 18] = [
     "import kicad",
     "import openpnp",
     "import csv",
@@ -359,6 +359,7 @@ const COMMANDS: [&str; 17] = [
     "goal",
     "plan",
     "check",
+    "compare",
     "junior",
     "panel",
     "mend",
@@ -851,6 +852,57 @@ fn imported_files_are_read_from_standard_input_too() {
     assert_eq!(run(&["import", "csv", &file, "--tips", &tips, columns[0], columns[1]], b""), given(list));
     let sided = run(&[&["import", "csv", &file, "--tips", &tips], &columns[..]].concat(), b"");
     assert_eq!(sided, refused(&format!("{file}:2: no side; take --side out, or name the sides")));
+}
+
+#[test]
+fn lists_job_files_and_tables_are_compared() {
+    let folder = folder("compared");
+    let (old, new) = (typed(&folder, "old.txt"), typed(&folder, "new.txt"));
+    let compared = |before: &str, after: &str| {
+        fs::write(&old, before).unwrap();
+        fs::write(&new, after).unwrap();
+        let (text, why, status) = run(&["compare", &old, &new], b"");
+        assert_eq!(status, 0, "{why}");
+        String::from_utf8(text).unwrap()
+    };
+    assert_eq!(compared(LIST, LIST), "2 parts the same\n");
+    // In another order the plans stay.
+    let turned = "rack 3\nC2 height=1 : 1-2\nC1 height=2 : 0\n";
+    assert_eq!(compared(LIST, turned), "the parts are in another order\n2 parts the same\n");
+    let more = "rack 4\nC1 x3 height=3 fine : 0-1\nC2 height=1 : 1-2\n: 1 3\n";
+    let text =
+        "rack 3, then 4\nC1 tips 0, then 0-1\nC1 quantity 1, then 3\nC1 height 2, then 3\nC1 fine none, then yes\n\
+                only in the second: line 2 tips 1 3, quantity 1\n1 part the same\nquick 0, then 10\nbest 0, then none\n\
+                C1 quick on tip 0, then 1\n";
+    assert_eq!(compared(LIST, more), text);
+    assert_eq!(
+        compared("rack 1\nA : 0\nB : 0\n", "rack 1\nB : 0\n"),
+        "only in the first: A tips 0, quantity 1\n1 part the same\nquick 1, then 0\nbest 1, then 0\n"
+    );
+    assert_eq!(
+        compared("rack 1\nA : 0\nB : 0\nbefore A B\n", "rack 1\nA : 0\nB : 0\n"),
+        "2 parts the same\nthe rules of the placing order differ\n"
+    );
+    let table = "rack 2\nR_0402* h=1 : 0\nR* : 1\nskip F*\nskip value DNP\n";
+    let text = "R_0402* words h=1, then none\nR_0402* is placed, then left out\nR_0402* tips 0, then none\n";
+    let changed = compared(table, "rack 2\nR* : 1\nskip R_0402*\nskip F*\nskip value X\n");
+    assert!(text.lines().all(|line| changed.lines().any(|other| other == line)), "{changed}");
+    assert!(
+        changed.ends_with(
+            "only in the first: value DNP is left out\nonly in the second: value X is left out\n\
+                               the rows are in another order, and the first that matches counts\n2 rows the same\n"
+        ),
+        "{changed}"
+    );
+    let job = typed(&folder, "old.job");
+    fs::write(&job, EXAMPLE).unwrap();
+    assert_eq!(run(&["compare", &job, "-"], &EXAMPLE), given(b"2 parts the same\n"));
+    let why = wrong_argument("-: this is both files; name a file for one of them");
+    assert_eq!(run(&["compare", "-", "-"], b""), why);
+    fs::write(&old, table).unwrap();
+    let why = "this is no table of tips, and the other file is one; compare two files of a kind";
+    fs::write(&new, "Ref,Val,Package\n").unwrap();
+    assert_eq!(run(&["compare", &old, &new], b""), refused(&format!("{new}: {why}")));
 }
 
 #[test]

@@ -4,9 +4,10 @@
 
 use std::collections::HashSet;
 
-use crate::counted;
+use crate::comparing::{Entries, Entry};
 use crate::import::{distinct, fault, groups_of, list_of, on_one_line, Faults, Group, Known, Picked, Placement, Sides};
 use crate::list::{lines_of, List, Part};
+use crate::{counted, tips_in_words};
 
 /// The word that begins a row for packages that are left out.
 const SKIP: &str = "skip";
@@ -85,6 +86,30 @@ impl Table {
             Some(Row { picked: None, .. }) => Known::Skipped,
             Some(Row { picked: Some(picked), .. }) => Known::Picked(picked),
         }
+    }
+
+    /// Whether a name of a list, or a row that leaves something out, shows that this is a table and no list of parts.
+    pub fn has_patterns(&self) -> bool {
+        !self.skipped_values.is_empty()
+            || self.rows.iter().any(|row| row.picked.is_none() || row.pattern.contains(['*', '?']))
+    }
+
+    /// Its rows, to be compared with those of another one.
+    pub fn entries(&self) -> Entries {
+        let row = |row: &Row| {
+            let mut facts = vec![("is".to_string(), "left out".to_string())];
+            if let Some(picked) = &row.picked {
+                facts = vec![("is".into(), "placed".into()), ("tips".into(), tips_in_words(picked.tips))];
+                facts.extend((!picked.words.is_empty()).then(|| ("words".into(), picked.words.clone())));
+            }
+            Entry { name: row.pattern.clone(), facts }
+        };
+        let value = |pattern: &String| Entry {
+            name: format!("{VALUE} {pattern}"),
+            facts: vec![("is".into(), "left out".into())],
+        };
+        let entries = self.rows.iter().map(row).chain(self.skipped_values.iter().map(value)).collect();
+        Entries { rack: self.rack, entries, thing: "row", is_ordered: true }
     }
 
     /// The text of the parts list of these placements, on these sides.
