@@ -22,8 +22,8 @@ impl Named {
         let job = job_of(&self.file).map_err(Refused::List)?;
         let best = self.best(&job, None).map_err(Refused::List)?;
         let number = match (&handed.table, &best) {
-            (Some(table), _) => self.number(handed, table),
-            (None, Ok((_, table))) => match self.number(handed, table) {
+            (Some(table), _) => self.number(&job, handed, table),
+            (None, Ok((_, table))) => match self.number(&job, handed, table) {
                 // Our own table fails for a plan with fewer pairs than ours alone: that is no fault, and told below.
                 TABLE_FAILS => 0,
                 number => number,
@@ -39,26 +39,31 @@ impl Named {
             return Err(Refused::Plan(format!("refused {number}: {}", self.fault(&job, handed, number))));
         }
         let mut text = format!("lines {} rack {}\n", job.lines.len(), job.rack);
-        text += &format!("pairs {} as claimed, each part on a tip of its own\n", handed.claim);
+        let claimed = if handed.claim.is_some() { " as claimed" } else { "" };
+        text += &format!("pairs {}{claimed}, each part on a tip of its own\n", claim_of(&job, handed));
         text += match handed.table {
             Some(_) => "table accepted: no plan has more pairs\n",
             None => "no table: only the tips and the pairs are checked\n",
         };
         text += &match best {
-            Ok((Plan { pairs, .. }, _)) => format!("best {pairs}, the plan has {}\n", fewer(pairs, handed.claim)),
+            Ok((Plan { pairs, .. }, _)) => {
+                format!("best {pairs}, the plan has {}\n", fewer(pairs, claim_of(&job, handed)))
+            }
             Err(line) => self.no_best(&job, line),
         };
         Ok(text)
     }
 
     /// The number that the library gives.
-    fn number(&self, handed: &Handed, table: &[u32]) -> u32 {
-        library::check(&self.file, &plan_of(handed), handed.claim, table).err().map_or(0, |refusal| refusal.number)
+    fn number(&self, job: &Job, handed: &Handed, table: &[u32]) -> u32 {
+        library::check(&self.file, &plan_of(handed), claim_of(job, handed), table)
+            .err()
+            .map_or(0, |refusal| refusal.number)
     }
 
     /// What is wrong with a plan that is refused with this number, and what to do.
     fn fault(&self, job: &Job, handed: &Handed, number: u32) -> String {
-        let (pairs, claim) = (pairs_of(job, handed), handed.claim);
+        let (pairs, claim) = (pairs_of(job, handed), claim_of(job, handed));
         match (number, first_foreign(job, handed)) {
             (FOREIGN_TIP, Some(line)) => {
                 let (tip, own) = (handed.tips[line], tips_in_words(job.lines[line].set));
@@ -87,11 +92,16 @@ fn pairs_of(job: &Job, handed: &Handed) -> u64 {
     pairs_in(job, &plan_of(handed))
 }
 
+/// The pairs that the plan is said to have; its own, where nothing is said.
+fn claim_of(job: &Job, handed: &Handed) -> u32 {
+    handed.claim.unwrap_or_else(|| u32::try_from(pairs_of(job, handed)).unwrap_or(u32::MAX))
+}
+
 /// What can be checked without a table, for a list that has no best plan.
 fn number_without_table(job: &Job, handed: &Handed) -> u32 {
     if first_foreign(job, handed).is_some() {
         FOREIGN_TIP
-    } else if pairs_of(job, handed) != u64::from(handed.claim) {
+    } else if pairs_of(job, handed) != u64::from(claim_of(job, handed)) {
         WRONG_CLAIM
     } else {
         0
@@ -101,9 +111,9 @@ fn number_without_table(job: &Job, handed: &Handed) -> u32 {
 /// The first entry of the table that shows too little.
 fn fault_of_table(job: &Job, handed: &Handed) -> String {
     let table = handed.table.as_deref().unwrap_or_default();
-    match table_fault(job, handed.claim, table) {
+    match table_fault(job, claim_of(job, handed), table) {
         Some(TableFault::NotTheClaim { entry }) => {
-            let claim = handed.claim;
+            let claim = claim_of(job, handed);
             format!("the table has {entry} for the whole rack, and the plan {claim} pairs; correct the table or the plan")
         }
         Some(TableFault::TooLow { first, last, tip, entry, needed }) => format!(

@@ -7,6 +7,10 @@ CASES
     esac
     if [[ $last == --side ]]; then
         words='top bottom both'
+    elif [[ $last == --format ]]; then
+        words='text csv json'
+    elif [[ $last == --plan ]]; then
+        words='quick best'
     elif [[ $is_option && $word != -* ]]; then
         words=
     fi

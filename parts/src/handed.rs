@@ -1,14 +1,19 @@
-//! Plans from other software as text: `pairs N` first, then a tip for each part, as `C1 : 3`, and sometimes a table.
+//! Plans from other software. As text: `pairs N` first, then a tip for each part, as `C1 : 3`, and sometimes a table. As CSV:
+//! a column `tip`, and a column `reference` or `part`. As JSON: a list `placements` of the same, and `pairs`.
 
 use std::collections::HashMap;
 use std::fmt;
 
-use crate::list::{lines_of, number_of, text_of, Fault, List, What as WhatOfList};
+use crate::import::{csv, name_of};
+use crate::json::Json;
+use crate::letters::is_invisible;
+use crate::list::{invisible_in_words, lines_of, number_of, text_of, Fault, List, What as WhatOfList};
 
 /// A plan with its claimed pairs, and with its table where there is one.
 #[derive(Clone, PartialEq, Eq, Debug)]
 pub struct Handed {
-    pub claim: u32,
+    /// Its pairs, where it names them.
+    pub claim: Option<u32>,
     /// The tip of each part of the list, as it is written.
     pub tips: Vec<usize>,
     /// The entries, row by row, as many rows and columns as the rack has tips.
@@ -20,6 +25,7 @@ pub struct Handed {
 pub enum What {
     NotText,
     ControlCharacter,
+    Invisible(char),
     NoPairs,
     PairsWords(String),
     PairsSize(String),
@@ -36,6 +42,8 @@ pub enum What {
     UnknownEntry(String),
     RowLength { entries: usize, rack: usize },
     Rows { rows: usize, rack: usize },
+    OtherTip { name: String, tip: usize, other: String, other_tip: usize, part: String },
+    OtherForm(String),
 }
 
 impl fmt::Display for What {
@@ -43,6 +51,7 @@ impl fmt::Display for What {
         match self {
             What::NotText => write!(to, "not UTF-8 text; save the file as UTF-8 text"),
             What::ControlCharacter => write!(to, "a control character; save the file as plain text"),
+            What::Invisible(c) => invisible_in_words(to, *c),
             What::NoPairs => write!(to, "no pairs; begin the plan with `pairs N`, N being its number of pairs"),
             What::PairsWords(line) => write!(to, "unknown words in `{line}`; write `pairs N`, N being a number"),
             What::PairsSize(number) => write!(to, "pairs {number} is out of range; {} is the most", u32::MAX),
@@ -64,6 +73,11 @@ impl fmt::Display for What {
                 write!(to, "`{word}` is no entry of a table; write numbers up to {}, with spaces between", u32::MAX)
             }
             What::RowLength { entries, rack } => write!(to, "{entries} entries; a row has {rack}, one for each tip"),
+            What::OtherTip { name, tip, other, other_tip, part } => write!(
+                to,
+                "{name} is on tip {tip} and {other} on tip {other_tip}, and both are part {part}; give all of a part one tip"
+            ),
+            What::OtherForm(what) => write!(to, "{what}"),
             What::Rows { rows, rack } => write!(to, "{rows} rows; the table has {rack}, one for each tip"),
         }
     }
@@ -73,17 +87,17 @@ impl Handed {
     /// Reads a plan for this list, or gives what is wrong, at most one fault a line; what is missing is told at the end.
     pub fn read(bytes: &[u8], list: &List) -> Result<Handed, Vec<Fault<What>>> {
         let mut reading = Reading::of(list);
-        let mut faults = Vec::new();
         let lines = lines_of(bytes);
-        for (line, &bytes) in (1..).zip(&lines) {
-            if let Err(what) = reading.take(line, bytes) {
-                faults.push(Fault { line, what });
-            }
-        }
+        let first = lines.iter().map(|line| line.trim_ascii()).find(|line| !line.is_empty()).unwrap_or_default();
+        let mut faults = if first.starts_with(b"{") {
+            reading.take_json(bytes)
+        } else if let Some(names) = csv::names_of(bytes).filter(|names| names.iter().any(|name| is_called(name, &TIP)))
+        {
+            reading.take_csv(bytes, &names)
+        } else {
+            reading.take_text(&lines)
+        };
         let last = lines.len().max(1);
-        if !reading.has_pairs {
-            faults.push(Fault { line: last, what: What::NoPairs });
-        }
         // Faulty lines may be the ones that are missing.
         if faults.is_empty() {
             faults.extend(reading.missing().map(|what| Fault { line: last, what }));
@@ -91,28 +105,144 @@ impl Handed {
         if !faults.is_empty() {
             return Err(faults);
         }
-        let tips = reading.tips.into_iter().map(|tip| tip.map_or(0, |(tip, _)| tip)).collect();
-        Ok(Handed { claim: reading.claim, tips, table: reading.table })
+        Ok(Handed { claim: reading.claim, tips: reading.tips(), table: reading.table })
     }
 }
+
+/// What the columns of CSV and the members of JSON are called.
+const TIP: [&str; 1] = ["tip"];
+const REFERENCE: [&str; 4] = ["reference", "ref", "designator", "name"];
+const PART: [&str; 1] = ["part"];
+
+fn is_called(name: &str, names: &[&str]) -> bool {
+    names.iter().any(|other| other.eq_ignore_ascii_case(name))
+}
+
+/// The tip of a reference, and the line that it is on.
+type Placed = Option<(usize, usize)>;
 
 /// A plan of which the lines up to some line are read.
 struct Reading<'a> {
     list: &'a List,
-    /// The part of each name.
-    names: HashMap<&'a str, usize>,
+    /// The parts that a word may mean, and which of their references.
+    words: HashMap<String, Vec<(usize, usize)>>,
+    /// The references of each part, or its own name where it has none; a part without a name has its line.
+    references: Vec<Vec<String>>,
     has_pairs: bool,
-    claim: u32,
-    /// The tip of each part, and the line that it stands on.
-    tips: Vec<Option<(usize, usize)>>,
+    claim: Option<u32>,
+    /// What each reference of each part has.
+    placed: Vec<Vec<Placed>>,
     table: Option<Vec<u32>>,
 }
 
 impl Reading<'_> {
     fn of(list: &List) -> Reading<'_> {
-        let named = list.parts.iter().enumerate().filter_map(|(part, at)| Some((at.name.as_deref()?, part)));
-        let tips = vec![None; list.parts.len()];
-        Reading { list, names: named.collect(), has_pairs: false, claim: 0, tips, table: None }
+        let label = |part: usize| list.parts[part].name.clone().unwrap_or_else(|| format!("line {part}"));
+        let mut words: HashMap<String, Vec<(usize, usize)>> = HashMap::new();
+        let mut references = Vec::new();
+        for (part, listed) in list.parts.iter().enumerate() {
+            let mut named: Vec<String> = listed.references().into_iter().map(String::from).collect();
+            let own = named.iter().position(|word| name_of(word) == label(part)).unwrap_or_default();
+            if named.is_empty() {
+                named.push(label(part));
+            }
+            for (place, word) in named.iter().enumerate() {
+                words.entry(word.clone()).or_default().push((part, place));
+            }
+            if named[own] != label(part) {
+                words.entry(label(part)).or_default().push((part, own));
+            }
+            references.push(named);
+        }
+        let placed = references.iter().map(|named| vec![None; named.len()]).collect();
+        Reading { list, words, references, has_pairs: false, claim: None, placed, table: None }
+    }
+
+    fn take_text(&mut self, lines: &[&[u8]]) -> Vec<Fault<What>> {
+        let mut faults = Vec::new();
+        for (line, bytes) in (1..).zip(lines) {
+            if let Err(what) = self.take(line, bytes) {
+                faults.push(Fault { line, what });
+            }
+        }
+        if !self.has_pairs {
+            faults.push(Fault { line: lines.len().max(1), what: What::NoPairs });
+        }
+        faults
+    }
+
+    fn take_csv(&mut self, bytes: &[u8], names: &[String]) -> Vec<Fault<What>> {
+        let column = |called: &[&str]| names.iter().position(|name| is_called(name, called));
+        let (rows, other) = csv::rows_behind_names(bytes);
+        let mut faults: Vec<Fault<What>> =
+            other.into_iter().map(|fault| Fault { line: fault.line, what: What::OtherForm(fault.what) }).collect();
+        for (line, fields) in rows {
+            let field = |called: &[&str]| column(called).map(|at| fields[at].as_str());
+            if let Err(what) = self.put(line, field(&REFERENCE), field(&PART), field(&TIP).unwrap_or_default()) {
+                faults.push(Fault { line, what });
+            }
+        }
+        faults.sort_by_key(|fault| fault.line);
+        faults
+    }
+
+    fn take_json(&mut self, bytes: &[u8]) -> Vec<Fault<What>> {
+        let fault = |line, what: &str| vec![Fault { line, what: What::OtherForm(what.into()) }];
+        let Ok(text) = std::str::from_utf8(bytes) else { return vec![Fault { line: 1, what: What::NotText }] };
+        let plan = match Json::read(text) {
+            Ok(plan) => plan,
+            Err((line, what)) => return fault(line, &what),
+        };
+        let claim = plan.get("pairs").and_then(Json::digits);
+        self.claim = claim.and_then(|digits| digits.parse().ok());
+        if claim.is_some() && self.claim.is_none() {
+            return fault(1, "the pairs are no number that a plan has; write them as digits");
+        }
+        let mut faults = Vec::new();
+        for placement in plan.get("placements").map_or(&[][..], Json::list) {
+            let text = |called: &[&str]| called.iter().find_map(|name| placement.get(name)?.text());
+            let tip = TIP.iter().find_map(|name| placement.get(name)?.digits()).unwrap_or_default();
+            if let Err(what) = self.put(1, text(&REFERENCE), text(&PART), tip) {
+                faults.push(Fault { line: 1, what });
+            }
+        }
+        faults
+    }
+
+    /// Takes the tip of a row, whose part is named by a reference, by its name, or by both.
+    fn put(&mut self, line: usize, reference: Option<&str>, part: Option<&str>, tip: &str) -> Result<(), What> {
+        let tip = number_of(tip.trim()).ok_or_else(|| What::UnknownTip(tip.trim().into()))?;
+        let word = reference.filter(|word| !word.is_empty()).or(part).unwrap_or_default();
+        let is_part = |&&(number, _): &&(usize, usize)| part.is_none_or(|part| *part == self.label(number));
+        let meant: Vec<(usize, usize)> = self.words.get(word).into_iter().flatten().filter(is_part).copied().collect();
+        self.put_first(line, word, &meant, tip)
+    }
+
+    /// Gives the first of these references that has no tip this one.
+    fn put_first(&mut self, line: usize, word: &str, meant: &[(usize, usize)], tip: usize) -> Result<(), What> {
+        let Some(&(part, place)) = meant.iter().find(|&&(part, place)| self.placed[part][place].is_none()) else {
+            return Err(match meant.first().and_then(|&(part, place)| self.placed[part][place]) {
+                Some((_, line)) => What::PartAgain { name: word.into(), line },
+                None => What::UnknownPart(word.into()),
+            });
+        };
+        let other = self.placed[part].iter().position(|placed| placed.is_some_and(|(other, _)| other != tip));
+        if let Some((at, (other_tip, _))) = other.and_then(|at| Some((at, self.placed[part][at]?))) {
+            let (other, part) = (self.references[part][at].clone(), self.label(part));
+            return Err(What::OtherTip { name: word.into(), tip, other, other_tip, part });
+        }
+        self.placed[part][place] = Some((tip, line));
+        Ok(())
+    }
+
+    fn label(&self, part: usize) -> String {
+        self.list.parts[part].name.clone().unwrap_or_else(|| format!("line {part}"))
+    }
+
+    /// The tip of each part, where nothing is missing.
+    fn tips(&self) -> Vec<usize> {
+        let tip = |placed: &Vec<Placed>| placed.iter().flatten().next().map_or(0, |&(tip, _)| tip);
+        self.placed.iter().map(tip).collect()
     }
 
     fn take(&mut self, line: usize, bytes: &[u8]) -> Result<(), What> {
@@ -124,9 +254,12 @@ impl Reading<'_> {
         if content.is_empty() {
             return Ok(());
         }
+        if let Some(c) = content.chars().find(|&c| is_invisible(c)) {
+            return Err(What::Invisible(c));
+        }
         if !self.has_pairs {
             self.has_pairs = true;
-            self.claim = claim_of(content)?;
+            self.claim = Some(claim_of(content)?);
             return Ok(());
         }
         match &mut self.table {
@@ -159,26 +292,31 @@ impl Reading<'_> {
         if name.contains(char::is_whitespace) {
             return Err(What::NameWords(name.into()));
         }
-        let part = match name {
+        let meant: Vec<(usize, usize)> = match name {
             "" => {
-                let parts = self.list.parts.iter().zip(&self.tips);
-                let next = parts.clone().position(|(part, tip)| part.name.is_none() && tip.is_none());
-                next.ok_or(What::TooManyWithoutName)?
+                let parts = self.list.parts.iter().zip(&self.placed);
+                let next = parts.clone().position(|(part, placed)| part.name.is_none() && placed[0].is_none());
+                vec![(next.ok_or(What::TooManyWithoutName)?, 0)]
             }
-            _ => *self.names.get(name).ok_or_else(|| What::UnknownPart(name.into()))?,
+            _ => self.words.get(name).cloned().ok_or_else(|| What::UnknownPart(name.into()))?,
         };
-        if let Some((_, line)) = self.tips[part] {
-            return Err(What::PartAgain { name: name.into(), line });
-        }
-        self.tips[part] = Some((tip, line));
-        Ok(())
+        self.put_first(line, name, &meant, tip)
     }
 
     /// What is missing in a plan without faults: a part's tip, or rows of the table.
     fn missing(&self) -> Option<What> {
-        if let Some(part) = self.tips.iter().position(Option::is_none) {
-            let name = self.list.parts[part].name.clone();
-            return Some(What::NoTip(name.unwrap_or_else(|| format!("line {part}"))));
+        for (part, placed) in self.placed.iter().enumerate() {
+            let name = &self.list.parts[part].name;
+            let is_own =
+                |place: usize| name.as_ref().is_some_and(|name| name_of(&self.references[part][place]) == *name);
+            let given: Vec<usize> = (0..placed.len()).filter(|&place| placed[place].is_some()).collect();
+            match (&given[..], placed.iter().position(Option::is_none)) {
+                // The name of a part stands for all of its references.
+                ([own], _) if is_own(*own) => {}
+                ([], _) => return Some(What::NoTip(self.label(part))),
+                (_, Some(place)) => return Some(What::NoTip(self.references[part][place].clone())),
+                _ => {}
+            }
         }
         let rack = self.list.rack;
         let rows = self.table.as_ref().map_or(rack, |table| table.len() / rack);

@@ -1,12 +1,18 @@
 //! Parts lists as text, job files as bytes, and what the proved library says of them.
 
 pub mod checking;
+pub mod comparing;
+pub mod exporting;
+#[cfg(unix)]
 pub mod files;
 pub mod goal;
 pub mod handed;
 pub mod import;
 pub mod job;
+pub mod json;
 pub mod junior;
+pub mod letters;
+pub mod limits;
 pub mod list;
 pub mod mending;
 pub mod no_order;
@@ -16,6 +22,7 @@ pub mod panel;
 pub mod picture;
 pub mod planning;
 pub mod refusal;
+pub mod renumbering;
 pub mod table_fault;
 
 pub use job_file::{MOST_LINES, MOST_PLACEMENTS, MOST_TIPS};

@@ -33,7 +33,8 @@ impl Named {
             Ok(_) => format!("Kept are the tips of all plans with {bound}."),
             Err(_) => format!("No plan has {bound}, so nothing is kept."),
         };
-        body += &format!("<h2>Plans and kept tips</h2>\n<p>{kept_are}</p>\n<div class=\"wide\">\n{drawing}</div>\n");
+        body += &format!("<h2>Plans and kept tips</h2>\n<p>{kept_are}</p>\n");
+        body += &format!("<div class=\"wide\" style=\"--drawn: {width}px\">\n{drawing}</div>\n");
         body += &self.table(&plans, k, kept.as_ref().ok());
         let paper = if width > UPRIGHT { "size: landscape;" } else { "" };
         // The title has no BODY to be replaced, for it is put in last.
@@ -49,7 +50,8 @@ impl Named {
         heads.extend(columns.iter().map(|column| (*column, true)));
         heads.push(("comment", false));
         let head = |(words, is_number): &(&str, bool)| {
-            format!("<th{}><button>{}</button></th>", class_of(*is_number), escaped(words))
+            let button = format!("<span role=\"button\" tabindex=\"0\">{}</span>", escaped(words));
+            format!("<th{}>{button}</th>", class_of(*is_number))
         };
         let heads: String = heads.iter().map(head).collect();
         let sorts = "<p class=\"screen\">A click on the name of a column sorts by it.</p>";

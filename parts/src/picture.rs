@@ -2,16 +2,18 @@
 
 use std::ops::Range;
 
-use crate::counted;
 use crate::job::{named_tips, Job};
 use crate::planning::{Named, Plan, Plans};
+use crate::{counted, quantity_in_words};
 
 /// The side of a cell.
 const CELL: usize = 38;
 /// The least width of the comments beside the names.
 const COMMENTS: usize = 166;
-/// The most letters of a comment beside a name.
+/// The most letters of a name, and of a comment beside it.
 const MOST_LETTERS: usize = 40;
+/// The space on both sides of a number below a column.
+const SPACE: usize = 3;
 /// Between the plans.
 const BETWEEN: usize = 56;
 /// The least width of a plan, for the words above it.
@@ -96,10 +98,10 @@ impl Text {
             + &format!(r#" fill="{colour}" font-weight="{weight}">{words}</text>"#)
     }
 
-    /// A number, made smaller where it is wider than a cell: a digit is about 5/9 as wide as the size of its text.
+    /// A number, made smaller where it would touch its neighbours: a digit is about 5/9 as wide as the size of its text.
     fn in_cell(&self, x: usize, y: usize, number: usize) -> String {
         let digits = number.to_string();
-        let size = self.size.min(CELL * 9 / 5 / digits.len());
+        let size = self.size.min((CELL - 2 * SPACE) * 9 / 5 / digits.len());
         Text { size, ..*self }.at(x, y, &digits)
     }
 }
@@ -205,7 +207,21 @@ fn panel(kind: Kind, left: usize, rows: &Range<usize>, plans: &Plans, plan: Opti
     drawn
 }
 
-/// The beginning of a comment, where it is long.
+/// How wide words are at the most in letters of this size, in any common font.
+fn width_of(words: &str, size: usize) -> usize {
+    let thousandths = |c: char| match c {
+        'i' | 'j' | 'l' | 'I' | '.' | ',' | ':' | ';' | '\'' | '|' | '!' | ' ' => 350,
+        'f' | 't' | 'r' | '-' | '(' | ')' | '/' => 450,
+        'm' | 'w' | 'M' | 'W' | '@' | '%' => 1000,
+        'A'..='Z' | '&' | '_' | '=' | '<' | '>' | '+' | '#' => 700,
+        '\0'..='\u{7f}' => 560,
+        '\u{1100}'.. => 1000,
+        _ => 700,
+    };
+    words.chars().map(thousandths).sum::<usize>() * size / 1000
+}
+
+/// The beginning of a name or a comment, where it is long.
 fn beginning_of(comment: &str) -> String {
     if comment.chars().count() <= MOST_LETTERS {
         return comment.into();
@@ -237,11 +253,15 @@ impl Named {
     /// its width.
     fn drawing(&self, plans: &Plans, keep: Option<(u16, Option<&Job>)>, rows: Range<usize>) -> (String, usize) {
         let count = plans.job.lines.len();
-        let labels: Vec<String> = (0..count).map(|line| self.label_in(&plans.job, line)).collect();
+        let label = |line: usize| beginning_of(&self.label(line)) + &quantity_in_words(plans.job.lines[line].quantity);
+        let labels: Vec<String> = (0..count).map(label).collect();
         let comments: Vec<String> = (0..count).map(|line| beginning_of(self.comment(line))).collect();
-        let longest = |words: &mut dyn Iterator<Item = &str>| words.map(|word| word.chars().count()).max().unwrap_or(0);
-        let names_width = 14 + 10 * longest(&mut labels.iter().map(String::as_str));
-        let comments_width = COMMENTS.max(22 + 8 * longest(&mut comments.iter().map(String::as_str)));
+        let widest = |words: &[String], size: usize, letter: usize| {
+            let width = |words: &String| width_of(words, size).max(letter * words.chars().count());
+            words.iter().map(width).max().unwrap_or(0)
+        };
+        let names_width = 14 + widest(&labels, 15, 10);
+        let comments_width = COMMENTS.max(22 + widest(&comments, 14, 8));
         let first = MARGIN + names_width + comments_width;
         let panel_width = HEADING.max(CELL * plans.job.rack);
         let second = first + panel_width + BETWEEN;

@@ -57,8 +57,8 @@ fn quantities_stand_behind_the_names_and_placements_below() {
 #[test]
 fn large_numbers_are_as_wide_as_their_cell() {
     let drawn = picture(&("rack 2\nB x140 : 1\n".to_string() + &"x255 : 0\n".repeat(7)));
-    // 140 and 1785 placements and 9730 pairs at full size, 1592220 pairs in smaller letters.
-    for (number, size) in [("140", 15), ("1785", 15), ("9730", 15), ("1592220", 9)] {
+    // 140 placements at full size; more digits are smaller, so that 3 are left beside them: 32 * 9 / 5 / digits.
+    for (number, size) in [("140", 15), ("1785", 14), ("9730", 14), ("1592220", 8)] {
         let words = format!(" font-size=\"{size}\" text-anchor=\"middle\"");
         let lines: Vec<&str> = drawn.lines().filter(|line| line.ends_with(&format!(">{number}</text>"))).collect();
         assert_eq!(lines.len(), 2, "{number}");
@@ -94,10 +94,12 @@ fn names_and_comments_are_text_of_the_drawing() {
 
 #[test]
 fn long_comment_gets_its_room() {
-    // 24 + 14 + 10 for the name; 166 for up to 18 letters of comment, 22 + 8 * 30 for 30.
-    for (letters, left) in [(0, 214), (18, 214), (30, 310)] {
-        let picture = picture(&format!("rack 1\nA : 0 # {}\n", "m".repeat(letters)));
-        assert_eq!(count(&picture, &format!("<text x=\"{left}\" y=\"34\"")), 1, "{letters}");
+    // 24 + 14 + 10 for the name; 166 for up to 18 letters of comment, 22 + 8 * 30 for 30. An m is as wide as it is high, 14.
+    for (letter, letters, left) in
+        [("e", 0, 214), ("e", 18, 214), ("e", 30, 310), ("m", 10, 214), ("m", 30, 48 + 22 + 420)]
+    {
+        let picture = picture(&format!("rack 1\nA : 0 # {}\n", letter.repeat(letters)));
+        assert_eq!(count(&picture, &format!("<text x=\"{left}\" y=\"34\"")), 1, "{letters} {letter}");
     }
 }
 
@@ -106,4 +108,15 @@ fn job_file_is_drawn_with_line_numbers() {
     let picture = Named { file: named("rack 1\nA : 0\n: 0\n").file, list: None }.picture().unwrap();
     assert_eq!((count(&picture, ">line 0</text>"), count(&picture, ">line 1</text>")), (1, 1));
     assert_eq!(count(&picture, ">A</text>"), 0);
+}
+
+#[test]
+fn long_names_end_before_the_drawing() {
+    // 40 letters of which each is as wide as it is high, and a quantity behind them.
+    let name = "W".repeat(60);
+    let drawn = picture(&format!("rack 1\n{name} x10 : 0\n"));
+    assert_eq!(count(&drawn, &format!(">{}… x10</text>", "W".repeat(39))), 1);
+    let first = drawn.split("<circle cx=\"").nth(1).and_then(|rest| rest.split('"').next()).unwrap();
+    // Name, then the least room for comments; the disc stands in the middle of its cell.
+    assert!(first.parse::<usize>().unwrap() >= 24 + 39 * 15 + 166 + 19, "{first}");
 }
