@@ -123,3 +123,5 @@ deb: all
 
 clean:
 	rm -rf target target-rust crates/*/out
+
+include targets/rules.mk

@@ -1,0 +1,38 @@
+# The library for other processors and systems, from the module that was proved (tools/retarget, docs/TARGETS.md).
+# make targets          builds it for each of the targets below, in target/TARGET
+# make TARGET           builds it for one, as make wasm32
+# They need, beside the toolchain, Debian's gcc-aarch64-linux-gnu, gcc-riscv64-linux-gnu, gcc-mingw-w64-x86-64 and clang.
+targets := aarch64-linux riscv64-linux wasm32 x86_64-windows
+.PHONY: targets $(targets) aarch64-darwin
+targets: $(targets)
+
+module := target/module/module.ll
+llvm := target/module/toolchain/bin
+# The functions of the header, to be exported.
+functions := $(shell sed -nE 's/^[a-z].*[ *](tipshare_[a-z]+)[^a-z_].*/\1/p' include/tipshare.h)
+
+$(module): $(library) tools/retarget
+	tools/retarget --module
+
+.PRECIOUS: target/%/tipshare_c.o
+target/%/tipshare_c.o: $(module) tools/retarget include/tipshare.h
+	tools/retarget $*
+
+# Never linked or run: no machine of ours has that system.
+aarch64-darwin: target/aarch64-darwin/tipshare_c.o
+
+# wasm32: the module tipshare.wasm imports nothing. Its stack lies first in its memory, so that a call that outgrows it ends in
+# a trap; the rest of the memory, from __heap_base on, is the caller's.
+wasm := target/wasm32
+wasm32: $(wasm)/libtipshare.a $(wasm)/tipshare.wasm
+
+$(wasm)/words.o: library/words.c target/lib/words.o include/tipshare.h
+	clang --target=wasm32 -ffreestanding -mcpu=mvp -std=c11 -Wall -Wextra -Werror -O2 -Iinclude -Itarget/lib -c $< -o $@
+
+$(wasm)/libtipshare.a: $(wasm)/tipshare_c.o $(wasm)/words.o
+	rm -f $@
+	$(llvm)/llvm-ar rcsD $@ $^
+
+$(wasm)/tipshare.wasm: $(wasm)/libtipshare.a
+	$(llvm)/wasm-ld --no-entry --fatal-warnings --stack-first -z stack-size=262144 --strip-all \
+		--export=__heap_base $(addprefix --export=,$(functions)) $< -o $@
