@@ -36,3 +36,53 @@ $(wasm)/libtipshare.a: $(wasm)/tipshare_c.o $(wasm)/words.o
 $(wasm)/tipshare.wasm: $(wasm)/libtipshare.a
 	$(llvm)/wasm-ld --no-entry --fatal-warnings --stack-first -z stack-size=262144 --strip-all \
 		--export=__heap_base $(addprefix --export=,$(functions)) $< -o $@
+
+# Linux on other processors: as make builds it for x86-64, by Debian's compilers for them.
+elf := aarch64-linux riscv64-linux
+cc-aarch64-linux := aarch64-linux-gnu-gcc
+cc-riscv64-linux := riscv64-linux-gnu-gcc
+define elf-rules
+$(1): target/$(1)/libtipshare.a target/$(1)/$(notdir $(shared)) target/$(1)/tipshare
+
+target/$(1)/words.o: library/words.c target/lib/words.o include/tipshare.h
+	mkdir -p $$(@D)
+	$$(cc-$(1)) $(CFLAGS) -fPIC -Iinclude -Itarget/lib -c $$< -o $$@
+
+target/$(1)/libtipshare.a: target/$(1)/tipshare_c.o target/$(1)/words.o
+	rm -f $$@
+	$(llvm)/llvm-ar rcsD $$@ $$^
+
+target/$(1)/$(notdir $(shared)): target/$(1)/libtipshare.a packaging/exports.map
+	$$(cc-$(1)) -shared -Wl,-soname,$(soname) -Wl,--version-script=packaging/exports.map -Wl,-z,defs -Wl,-z,relro -Wl,-z,now \
+		-Wl,--whole-archive $$< -Wl,--no-whole-archive -o $$@
+	ln -sf $$(@F) target/$(1)/$(soname)
+	ln -sf $(soname) target/$(1)/libtipshare.so
+
+target/$(1)/tipshare: targets/tipshare.c target/$(1)/libtipshare.a
+	$$(cc-$(1)) $(CFLAGS) -Iinclude $$^ -o $$@
+endef
+$(foreach target,$(elf),$(eval $(call elf-rules,$(target))))
+
+# Windows: the library to link into a program, the shared one with what a program is linked with for it, and the program.
+windows := target/x86_64-windows
+mingw := x86_64-w64-mingw32-gcc
+x86_64-windows: $(windows)/libtipshare.a $(windows)/tipshare.dll $(windows)/tipshare.exe
+
+$(windows)/words.o: library/words.c target/lib/words.o include/tipshare.h
+	mkdir -p $(@D)
+	$(mingw) $(CFLAGS) -Iinclude -Itarget/lib -c $< -o $@
+
+$(windows)/libtipshare.a: $(windows)/tipshare_c.o $(windows)/words.o
+	rm -f $@
+	$(llvm)/llvm-ar rcsD $@ $^
+
+$(windows)/tipshare.def: include/tipshare.h
+	mkdir -p $(@D)
+	(echo EXPORTS && printf '%s\n' $(functions)) > $@
+
+$(windows)/tipshare.dll: $(windows)/tipshare.def $(windows)/libtipshare.a
+	$(mingw) -shared -static-libgcc -Wl,--out-implib,$(windows)/libtipshare.dll.a $< \
+		-Wl,--whole-archive $(windows)/libtipshare.a -Wl,--no-whole-archive -o $@
+
+$(windows)/tipshare.exe: targets/tipshare.c $(windows)/libtipshare.a
+	$(mingw) $(CFLAGS) -static-libgcc -Iinclude $^ -o $@
