@@ -86,3 +86,14 @@ $(windows)/tipshare.dll: $(windows)/tipshare.def $(windows)/libtipshare.a
 
 $(windows)/tipshare.exe: targets/tipshare.c $(windows)/libtipshare.a
 	$(mingw) $(CFLAGS) -static-libgcc -Iinclude $^ -o $@
+
+# What makes recorded calls again on each target, and the check of all targets, which installs from Debian what it needs.
+target/%-linux/replay: targets/replay.c target/%-linux/libtipshare.a
+	$(cc-$*-linux) $(CFLAGS) -static -Iinclude $^ -o $@
+
+$(windows)/replay.exe: targets/replay.c $(windows)/libtipshare.a
+	$(mingw) $(CFLAGS) -static -Iinclude $^ -o $@
+
+.PHONY: check-targets
+check-targets:
+	targets/check --install
