@@ -97,3 +97,23 @@ $(windows)/replay.exe: targets/replay.c $(windows)/libtipshare.a
 .PHONY: check-targets
 check-targets:
 	targets/check --install
+
+# A folder that npm install takes.
+npm := target/npm
+.PHONY: npm
+npm: $(wasm)/tipshare.wasm
+	rm -rf $(npm)
+	mkdir -p $(npm)
+	cp $< packaging/npm/tipshare.js packaging/npm/tipshare.d.ts packaging/npm/README.md $(npm)
+	chmod 644 $(npm)/*
+	sed 's/@VERSION@/$(version)/' packaging/npm/package.json.in > $(npm)/package.json
+
+# Python wheels with the library, for x86-64 and, with make wheel-aarch64, for ARM.
+.PHONY: wheel wheel-aarch64
+wheel: $(shared)
+	mkdir -p target/wheel
+	TIPSHARE_TARGET=x86_64-linux python3 -m pip wheel --quiet --no-deps --no-build-isolation --wheel-dir target/wheel packaging/wheel
+
+wheel-aarch64: target/aarch64-linux/$(notdir $(shared))
+	mkdir -p target/wheel
+	TIPSHARE_TARGET=aarch64-linux python3 -m pip wheel --quiet --no-deps --no-build-isolation --wheel-dir target/wheel packaging/wheel
