@@ -5,7 +5,7 @@
 # make example          builds the C example, then runs it
 # make install          copies all of it to PREFIX (/usr/local), below DESTDIR if that is set
 # make uninstall        removes what make install with the same PREFIX and DESTDIR has copied
-# make deb              makes a Debian package, target/tipshare_VERSION_amd64.deb
+# make deb              makes Debian packages, in target/deb
 # make clean            removes all that was built
 .DELETE_ON_ERROR:
 .PHONY: all check checklist bench example install uninstall deb clean parts pages

@@ -117,3 +117,8 @@ wheel: $(shared)
 wheel-aarch64: target/aarch64-linux/$(notdir $(shared))
 	mkdir -p target/wheel
 	TIPSHARE_TARGET=aarch64-linux python3 -m pip wheel --quiet --no-deps --no-build-isolation --wheel-dir target/wheel packaging/wheel
+
+# Debian packages for ARM, of what make deb installs and the library for it.
+.PHONY: deb-arm64
+deb-arm64: all aarch64-linux
+	packaging/deb $(version) arm64
