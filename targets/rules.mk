@@ -122,3 +122,12 @@ wheel-aarch64: target/aarch64-linux/$(notdir $(shared))
 .PHONY: deb-arm64
 deb-arm64: all aarch64-linux
 	packaging/deb $(version) arm64
+
+# A zip for Windows.
+.PHONY: windows-zip
+windows-zip: all x86_64-windows
+	packaging/windows $(version)
+
+# Whether a backtrace passes through a call.
+target/%-linux/backtrace: targets/backtrace.c target/%-linux/libtipshare.a
+	$(cc-$*-linux) $(CFLAGS) -funwind-tables -Iinclude $^ -o $@

@@ -32,6 +32,7 @@ def metadata():
         "Name": "tipshare",
         "Version": version(),
         "Summary": "Which suction tip of a desktop placer picks which part: the proved library, from Python",
+        "License": "Apache-2.0",
         "Requires-Python": ">=3.7",
         "Description-Content-Type": "text/markdown",
     }
