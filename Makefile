@@ -5,7 +5,7 @@
 # make example          builds the C example, then runs it
 # make install          copies all of it to PREFIX (/usr/local), below DESTDIR if that is set
 # make uninstall        removes what make install with the same PREFIX and DESTDIR has copied
-# make deb              makes a Debian package, target/tipshare_VERSION_amd64.deb
+# make deb              makes Debian packages, in target/deb
 # make check-kicad      has Debian's KiCad write position files of its demonstration boards, and checks what parts imports
 # make clean            removes all that was built
 .DELETE_ON_ERROR:
@@ -133,3 +133,5 @@ deb: all
 
 clean:
 	rm -rf target target-rust crates/*/out
+
+include targets/rules.mk

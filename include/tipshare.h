@@ -32,13 +32,17 @@
  * that are only read. A call keeps nothing after it returns, so calls on
  * different buffers may run at one time. The rules in full are in docs/RULES.md.
  *
- * The library is for x86-64 Linux and its calling convention, and runs on every
- * such processor. Of the C library it needs memset and memcpy alone; it has no
- * heap and no global state. The stack that a call needs, in KB, measured and
- * rounded up (docs/PERFORMANCE.md); the first call of a process may need 2 KB
- * more, to look up those two functions:
+ * The library is for x86-64 Linux, and runs on every such processor. The same
+ * proved module is compiled for ARM and RISC-V Linux, for x86-64 Windows and as
+ * WebAssembly, and compared on each with the second implementation by 200,000
+ * calls (docs/TARGETS.md). WebAssembly is for JavaScript: lengths have 64 bits
+ * there, so that the prototypes below do not fit it. Of the C library the
+ * library needs memset and memcpy alone; it has no heap and no global state. The
+ * stack that a call needs on Linux, in KB, the most of the three processors,
+ * measured and rounded up (docs/TARGETS.md); the first call of a process may need
+ * 2 KB more, to look up those two functions:
  *
- *   read 1, common 6, keep 7, goal 91, quick 17, best 32, check 22, junior 5,
+ *   read 1, common 7, keep 7, goal 91, quick 18, best 32, check 22, junior 5,
  *   merge 14, alone 22, mend 1, order 15, report 48
  *
  * All but tipshare_words and tipshare_version are proved. The two are tables in

@@ -1,11 +1,12 @@
 //! One call made in both implementations on equal buffers, and compared whole.
 
-use std::fmt;
+use std::{fmt, io};
 
 use library::on_slices;
 use second::interface;
 
 use crate::random::Random;
+use crate::record::Record;
 
 /// Junk before and after each buffer, so that a write outside it is seen.
 const GUARD: usize = 32;
@@ -239,6 +240,11 @@ impl<'a> Expected<'a> {
     fn made_by(&self, caller: Caller) -> (u64, Buffers) {
         let mut lent = self.before.clone();
         (caller(self.call, &mut lent), lent)
+    }
+
+    /// Puts the call on record under this number.
+    pub fn record(&self, record: &mut Record, number: u32) -> io::Result<()> {
+        record.call(self.call, number, self.returned, &self.before, &self.after)
     }
 
     fn is_met(&self, (returned, lent): &(u64, Buffers)) -> bool {

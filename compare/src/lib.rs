@@ -9,6 +9,7 @@ pub mod mistakes;
 pub mod order_mistakes;
 pub mod orders;
 pub mod random;
+pub mod record;
 pub mod run;
 pub mod sought;
 pub mod tally;

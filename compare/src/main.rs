@@ -1,6 +1,6 @@
 //! Compares the proved library with the second implementation over seeded files.
 
-use std::path::PathBuf;
+use std::path::{Path, PathBuf};
 use std::process::ExitCode;
 use std::time::Instant;
 use std::{env, fs};
@@ -9,6 +9,7 @@ use compare::check::Difference;
 use compare::mistakes::{mistakes, mistakes_of_panels_and_mendings};
 use compare::order_mistakes::order_mistakes;
 use compare::orders::Orders;
+use compare::record::Record;
 use compare::run::{compare_program, Run};
 use compare::sought::Sought;
 
@@ -21,8 +22,13 @@ const DEFAULT_SEED: u64 = 1;
 /// Beside so many calls on job files one order is asked for.
 const CALLS_AN_ORDER: u64 = 22;
 
+/// How many calls are recorded.
+const DEFAULT_RECORDED: u64 = 200_000;
+
 const USAGE: &str = "\
 compare [--cases N] [--seed S] [--last FILE]     compare the library on N calls, 440,000 without N, 380,000 at least
+compare --record FILE [--recorded M]             the same, and M of its calls are written to FILE, 200,000 without M, to be
+                                                 made again on another machine (targets/README.md)
 compare --orders N [--seed S]                    compare it on N placing orders alone
 compare --mendings N [--seed S]                  compare it on N calls that mend, and some that read what is mended
 compare --hex FILE [--seed S]                    compare it on one job file, given as hex digits
@@ -37,6 +43,8 @@ struct Settings {
     files: u64,
     seed: u64,
     last: Option<PathBuf>,
+    record: Option<PathBuf>,
+    recorded: u64,
     hex: Option<PathBuf>,
     program: Option<String>,
     orders: Option<u64>,
@@ -51,6 +59,8 @@ fn settings() -> Result<Settings, String> {
         files: DEFAULT_FILES,
         seed: DEFAULT_SEED,
         last: None,
+        record: None,
+        recorded: DEFAULT_RECORDED,
         hex: None,
         program: None,
         orders: None,
@@ -69,6 +79,8 @@ fn settings() -> Result<Settings, String> {
             "--files" => settings.files = number(&name, &value, LEAST_FILES)?,
             "--seed" => settings.seed = number(&name, &value, 0)?,
             "--last" => settings.last = Some(value.into()),
+            "--record" => settings.record = Some(value.into()),
+            "--recorded" => settings.recorded = number(&name, &value, 1)?,
             "--hex" => settings.hex = Some(value.into()),
             "--program" => settings.program = Some(value),
             "--orders" => settings.orders = Some(number(&name, &value, 1)?),
@@ -95,7 +107,7 @@ fn main() -> ExitCode {
     let result = if settings.self_test {
         return find_mistakes(&settings);
     } else if let Some(calls) = settings.orders {
-        return compare_orders(settings.seed, calls);
+        return compare_orders(settings.seed, calls, None);
     } else if let Some(calls) = settings.mendings {
         let mut run = Run::new(settings.seed, calls, settings.last);
         run.mendings().map(|()| println!("{} calls on {} files, no difference", run.tally.cases, run.tally.files))
@@ -120,7 +132,9 @@ fn main() -> ExitCode {
 
 fn compare_library(settings: Settings) -> ExitCode {
     let start = Instant::now();
+    let orders = settings.cases / CALLS_AN_ORDER;
     let mut run = Run::new(settings.seed, settings.cases, settings.last);
+    run.record = settings.record.as_deref().map(|file| record_in(file, settings.cases + orders, settings.recorded));
     let result = run.all();
     let seconds = start.elapsed().as_secs_f64();
     let tally = &run.tally;
@@ -137,11 +151,17 @@ fn compare_library(settings: Settings) -> ExitCode {
     if !missing.is_empty() {
         return ExitCode::FAILURE;
     }
-    compare_orders(settings.seed, settings.cases / CALLS_AN_ORDER)
+    compare_orders(settings.seed, orders, run.record)
 }
 
-fn compare_orders(seed: u64, calls: u64) -> ExitCode {
+/// A record of some calls.
+fn record_in(file: &Path, calls: u64, recorded: u64) -> Record {
+    Record::new(file, calls, recorded).expect("making the file asked for with --record")
+}
+
+fn compare_orders(seed: u64, calls: u64, record: Option<Record>) -> ExitCode {
     let mut orders = Orders::new(seed, calls);
+    orders.record = record;
     let result = orders.all();
     println!("{}", orders.tally);
     if let Err(difference) = result {
@@ -154,6 +174,9 @@ fn compare_orders(seed: u64, calls: u64) -> ExitCode {
     }
     if !missing.is_empty() {
         return ExitCode::FAILURE;
+    }
+    if let Some(record) = orders.record {
+        println!("{} calls recorded", record.end().expect("writing the file asked for with --record"));
     }
     println!("no difference");
     ExitCode::SUCCESS

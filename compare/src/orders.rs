@@ -9,6 +9,7 @@ use second::{try_every_order, Part, Placing, Rule, MOST_PARTS};
 
 use crate::check::{first_difference, Lent};
 use crate::random::Random;
+use crate::record::Record;
 use crate::sought::{all_found, look, Sought};
 
 /// With at most so many parts every order is tried.
@@ -160,6 +161,8 @@ impl fmt::Display for Tally {
 pub struct Orders {
     /// Mistakes that are to show beside it.
     pub sought: Vec<Sought<Caller>>,
+    /// Where some of the calls are put, if asked for.
+    pub record: Option<Record>,
     random: Random,
     least_calls: u64,
     pub tally: Tally,
@@ -167,7 +170,8 @@ pub struct Orders {
 
 impl Orders {
     pub fn new(seed: u64, least_calls: u64) -> Orders {
-        Orders { sought: Vec::new(), random: Random::new(seed), least_calls, tally: Tally::default() }
+        let (sought, record, tally) = (Vec::new(), None, Tally::default());
+        Orders { sought, record, random: Random::new(seed), least_calls, tally }
     }
 
     /// The same run, in which these mistakes are looked for.
@@ -256,6 +260,9 @@ impl Orders {
             what += &first_difference("order", &of_library.order, &of_second.order);
             what += &first_difference("answer", &of_library.answer, &of_second.answer);
             return Err(Difference { handed: handed.clone(), what });
+        }
+        if let Some(record) = &mut self.record {
+            record.order(second, &before, &of_second).expect("writing the file asked for with --record");
         }
         look(&mut self.sought, self.tally.calls, |caller| {
             let mut lent = before.clone();

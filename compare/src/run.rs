@@ -15,6 +15,7 @@ use crate::damage::{damage, damaged, first_to_pass, quantities_in, KINDS, TOO_MA
 use crate::files::{board_in, file_in, file_of};
 use crate::handed::{keeps, stopping, wrapping, Handed, REFUSED_WAYS, WAYS};
 use crate::random::Random;
+use crate::record::Record;
 use crate::sought::{all_found, look, Sought};
 use crate::tally::{Event, Tally, SHORT_REPORT};
 
@@ -44,6 +45,8 @@ const TURNS: usize = 8;
 pub struct Run {
     /// Mistakes that are to show beside it.
     pub sought: Vec<Sought<Caller>>,
+    /// Where some of the calls are put, if asked for.
+    pub record: Option<Record>,
     random: Random,
     /// Seeded boards are added until this many cases are done, or each mistake that is looked for has shown.
     least_cases: u64,
@@ -54,7 +57,8 @@ pub struct Run {
 
 impl Run {
     pub fn new(seed: u64, least_cases: u64, last_file: Option<PathBuf>) -> Run {
-        Run { sought: Vec::new(), random: Random::new(seed), least_cases, last_file, tally: Tally::default() }
+        let (sought, record, tally) = (Vec::new(), None, Tally::default());
+        Run { sought, record, random: Random::new(seed), least_cases, last_file, tally }
     }
 
     /// The same run, in which these mistakes are looked for.
@@ -433,6 +437,9 @@ impl Run {
             _ => outcome.returned as u32,
         };
         self.tally.count_call(number, call.column());
+        if let Some(record) = &mut self.record {
+            expected.record(record, number).expect("writing the file asked for with --record");
+        }
         look(&mut self.sought, self.tally.cases, |caller| !expected.is_met_by(caller));
         Ok(outcome)
     }
