@@ -1,6 +1,7 @@
 //! Parts lists as text, job files as bytes, and what the proved library says of them.
 
 pub mod checking;
+#[cfg(unix)]
 pub mod files;
 pub mod goal;
 pub mod handed;

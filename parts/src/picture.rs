@@ -221,7 +221,7 @@ impl Named {
     }
 
     /// The drawing in pieces, each as high as a page, with what a keep within k leaves; and how wide each is.
-    pub(crate) fn pieces(&self, plans: &Plans, k: u16, kept: Option<&Job>) -> (String, usize) {
+    pub fn pieces(&self, plans: &Plans, k: u16, kept: Option<&Job>) -> (String, usize) {
         let (count, mut width) = (plans.job.lines.len(), 0);
         let mut text = String::new();
         for piece in 0..count.div_ceil(PIECE).max(1) {

@@ -56,7 +56,7 @@ struct Row {
 }
 
 /// The names of the columns, in the first row; none where something is wrong up to there.
-pub(crate) fn names_of(bytes: &[u8]) -> Option<Vec<String>> {
+pub fn names_of(bytes: &[u8]) -> Option<Vec<String>> {
     let (rows, faults) = rows_of(bytes);
     let head = rows.into_iter().next()?;
     (!is_above(&faults, head.line)).then_some(head.fields)
