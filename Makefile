@@ -6,9 +6,10 @@
 # make install          copies all of it to PREFIX (/usr/local), below DESTDIR if that is set
 # make uninstall        removes what make install with the same PREFIX and DESTDIR has copied
 # make deb              makes a Debian package, target/tipshare_VERSION_amd64.deb
+# make check-kicad      has Debian's KiCad write position files of its demonstration boards, and checks what parts imports
 # make clean            removes all that was built
 .DELETE_ON_ERROR:
-.PHONY: all check checklist bench example install uninstall deb clean parts pages
+.PHONY: all check check-kicad checklist bench example install uninstall deb clean parts pages
 
 PREFIX = /usr/local
 LIBDIR = $(PREFIX)/lib
@@ -76,6 +77,10 @@ pages: parts
 check:
 	rm -rf target target-rust/tmp
 	.ci/run
+
+# Needs Debian's packages kicad and kicad-demos.
+check-kicad: parts
+	parts/tests/kicad/check $(parts) target/kicad
 
 checklist: all
 	checklist/run

@@ -51,6 +51,21 @@ class Calls(unittest.TestCase):
         self.refused(12, 1, tipshare.order, [(0, 1), (1, 2)])
         self.refused(13, 0, tipshare.order, [(0, 1), (0, 1)], [(1, 1)])
         self.assertEqual(tipshare.words(18), "unknown number")
+        self.assertEqual(tipshare.words(2**32 - 1), "unknown number")
+        # No number is cut to the 32 bits that C takes.
+        for number in (2**32, 2**32 + 7, 2**64, -1):
+            with self.assertRaisesRegex(ValueError, f"^the number of a refusal is {number},"):
+                tipshare.words(number)
+
+    def test_numbers_are_no_files(self):
+        for call in (tipshare.read, tipshare.common, tipshare.quick, tipshare.junior, tipshare.mend, tipshare.report):
+            for wrong in (5, 0, True, "TIP", None, 2.5):
+                with self.assertRaises(TypeError):
+                    call(wrong)
+        with self.assertRaises(TypeError):
+            tipshare.check(EXAMPLE, 2, 0, [0] * 9)
+        for file in (EXAMPLE, bytearray(EXAMPLE), memoryview(EXAMPLE), list(EXAMPLE)):
+            self.assertEqual(tipshare.read(file), (3, 2))
         for wrong in (-1, 65536):
             with self.assertRaises(ValueError):
                 tipshare.keep(EXAMPLE, wrong)

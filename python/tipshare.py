@@ -100,6 +100,9 @@ def _lent(kind, count):
 
 def _given(data):
     """Bytes to be read, with their number. They are copied, for a call may not see them change."""
+    if isinstance(data, int):
+        # bytes(5) would be five zeros.
+        raise TypeError(f"{data} is a number and no bytes; give the bytes of a job file, as job() makes them")
     data = bytes(data)
     array = _lent(ctypes.c_uint8, len(data))
     ctypes.memmove(array, data, len(data))
@@ -128,7 +131,7 @@ def _call(name, *arguments):
 
 def words(number):
     """A refusal's number in words."""
-    return _library.tipshare_words(number).decode()
+    return _library.tipshare_words(_in_range("the number of a refusal", number, 2**32 - 1)).decode()
 
 
 def version():

@@ -1,11 +1,22 @@
 //! Files that are read, and files that are written whole or not at all.
 
+use std::ffi::OsStr;
 use std::fs::{self, File, Metadata, OpenOptions, Permissions};
 use std::io::{self, Read, Write};
 use std::os::fd::AsFd;
-use std::os::unix::fs::MetadataExt;
+use std::os::unix::fs::{MetadataExt, OpenOptionsExt};
 use std::path::{Path, PathBuf};
 use std::process;
+
+use job_file::has_mark;
+use system::Removed;
+
+use crate::limits::MOST_BYTES;
+
+/// The mode of a new file, of which the mask of the process takes something away.
+const MODE: u32 = 0o666;
+/// The mode of a file that its owner alone may read and write.
+const OWN_MODE: u32 = 0o600;
 
 /// Which file it is, by device and inode, whatever path or link leads to it.
 #[derive(Clone, Copy, PartialEq, Eq, Debug)]
@@ -24,11 +35,12 @@ pub struct Input {
 
 impl Input {
     /// Reads a file, or standard input for `-`.
-    pub fn read(path: &str) -> io::Result<Input> {
+    pub fn read(path: &OsStr) -> io::Result<Input> {
         let mut file = if path == "-" { opened(&io::stdin())? } else { File::open(path)? };
         let identity = identity_of(&file.metadata()?);
         let mut bytes = Vec::new();
-        file.read_to_end(&mut bytes)?;
+        // One byte too many shows that the file is too large, whatever its length.
+        Read::take(&mut file, MOST_BYTES as u64 + 1).read_to_end(&mut bytes)?;
         Ok(Input { bytes, identity })
     }
 }
@@ -46,37 +58,59 @@ fn opened(stream: &impl AsFd) -> io::Result<File> {
 pub enum Output {
     /// A pipe or device, which is written to as it is.
     Stream(File),
-    /// A file, whether it is there or not, with its folder in full.
-    File { path: PathBuf, identity: Option<Identity>, permissions: Option<Permissions> },
+    /// A file, with its folder in full, and what is there already.
+    File { path: PathBuf, old: Option<Old> },
+}
+
+/// A file that an output replaces.
+pub struct Old {
+    identity: Option<Identity>,
+    permissions: Permissions,
+    is_job: bool,
 }
 
 impl Output {
     /// Finds the file behind a path, and leaves it as it is.
-    pub fn at(path: &str) -> io::Result<Output> {
+    pub fn at(path: &Path) -> io::Result<Output> {
         match OpenOptions::new().write(true).open(path) {
             Ok(file) => {
                 let data = file.metadata()?;
                 if !data.is_file() {
                     return Ok(Output::Stream(file));
                 }
-                let permissions = Some(data.permissions());
-                Ok(Output::File { path: fs::canonicalize(path)?, identity: identity_of(&data), permissions })
+                let old = Old {
+                    identity: identity_of(&data),
+                    permissions: data.permissions(),
+                    is_job: File::open(path).and_then(begins_with_mark).unwrap_or(false),
+                };
+                Ok(Output::File { path: fs::canonicalize(path)?, old: Some(old) })
             }
             // A link that leads nowhere is no new file.
             Err(error) if error.kind() == io::ErrorKind::NotFound && fs::symlink_metadata(path).is_err() => {
-                let (Some(folder), Some(name)) = (Path::new(path).parent(), Path::new(path).file_name()) else {
+                let (Some(folder), Some(name)) = (path.parent(), path.file_name()) else {
                     return Err(error);
                 };
                 let folder = if folder.as_os_str().is_empty() { Path::new(".") } else { folder };
-                Ok(Output::File { path: fs::canonicalize(folder)?.join(name), identity: None, permissions: None })
+                Ok(Output::File { path: fs::canonicalize(folder)?.join(name), old: None })
             }
             Err(error) => Err(error),
         }
     }
 
-    /// Whether it is the file that was read.
-    pub fn is(&self, input: &Input) -> bool {
-        matches!(self, Output::File { identity, .. } if identity.is_some() && *identity == input.identity)
+    /// Whether it is one of the files that were read.
+    pub fn is_one_of(&self, read: &[Identity]) -> bool {
+        let identity = self.old().and_then(|old| old.identity);
+        identity.is_some_and(|identity| read.contains(&identity))
+    }
+
+    /// Whether a file is there that is no job file.
+    pub fn replaces_other_file(&self) -> bool {
+        self.old().is_some_and(|old| !old.is_job)
+    }
+
+    /// Whether any file is there.
+    pub fn replaces_file(&self) -> bool {
+        self.old().is_some()
     }
 
     /// Whether what is written to the one replaces what is written to the other.
@@ -84,21 +118,32 @@ impl Output {
         matches!((self, other), (Output::File { path: one, .. }, Output::File { path: other, .. }) if one == other)
     }
 
+    fn old(&self) -> Option<&Old> {
+        match self {
+            Output::File { old, .. } => old.as_ref(),
+            Output::Stream(_) => None,
+        }
+    }
+
     /// Writes the bytes to a temporary file in the same folder, or to the pipe or device.
     pub fn write(self, bytes: &[u8]) -> io::Result<Written> {
         match self {
             Output::Stream(mut file) => file.write_all(bytes).map(|()| Written { temporary: None }),
-            Output::File { path, permissions, .. } => {
-                let (mut file, temporary) = Temporary::beside(path)?;
+            Output::File { path, old } => {
+                let (mut file, temporary) = Temporary::beside(path, old.map(|old| old.permissions))?;
                 file.write_all(bytes)?;
-                if let Some(permissions) = permissions {
-                    file.set_permissions(permissions)?;
-                }
                 file.sync_all()?;
                 Ok(Written { temporary: Some(temporary) })
             }
         }
     }
+}
+
+/// Whether a file begins as a job file does.
+fn begins_with_mark(file: File) -> io::Result<bool> {
+    let mut beginning = Vec::new();
+    file.take(3).read_to_end(&mut beginning)?;
+    Ok(has_mark(&beginning))
 }
 
 /// What is written and not in its place yet.
@@ -107,26 +152,41 @@ pub struct Written {
 }
 
 impl Written {
-    /// Puts the written file in its place, in one step.
+    /// Puts the written file in its place, in one step. A file that was not there when the output was found stays.
     pub fn put(self) -> io::Result<()> {
-        self.temporary.map_or(Ok(()), |temporary| fs::rename(&temporary.path, &temporary.place))
+        let Some(temporary) = self.temporary else { return Ok(()) };
+        if temporary.is_new && fs::symlink_metadata(&temporary.place).is_ok() {
+            return Err(io::ErrorKind::AlreadyExists.into());
+        }
+        fs::rename(&temporary.path, &temporary.place)
     }
 }
 
 /// A file that is removed when it goes out of use; after the rename nothing has its name any more.
 struct Temporary {
     path: PathBuf,
+    /// Until then a signal removes it too.
+    _removed: Option<Removed>,
     place: PathBuf,
+    /// Whether no file was in its place.
+    is_new: bool,
 }
 
 impl Temporary {
-    /// An empty temporary file in the folder of this place.
-    fn beside(place: PathBuf) -> io::Result<(File, Temporary)> {
+    /// An empty temporary file in the folder of this place, with the permissions of the file that is there: nobody may
+    /// read it before who may not read it then.
+    fn beside(place: PathBuf, permissions: Option<Permissions>) -> io::Result<(File, Temporary)> {
+        let is_new = permissions.is_none();
+        let mode = if is_new { MODE } else { OWN_MODE };
         let mut number = 0;
         loop {
             let path = place.with_file_name(format!(".parts-{}-{number}.tmp", process::id()));
-            match OpenOptions::new().write(true).create_new(true).open(&path) {
-                Ok(file) => return Ok((file, Temporary { path, place })),
+            match OpenOptions::new().write(true).create_new(true).mode(mode).open(&path) {
+                Ok(file) => {
+                    let temporary = Temporary { _removed: Removed::on_signal(&path), path, place, is_new };
+                    permissions.map_or(Ok(()), |permissions| file.set_permissions(permissions))?;
+                    return Ok((file, temporary));
+                }
                 Err(error) if error.kind() == io::ErrorKind::AlreadyExists => number += 1,
                 Err(error) => return Err(error),
             }
@@ -143,6 +203,8 @@ impl Drop for Temporary {
 
 #[cfg(test)]
 mod tests {
+    use std::os::unix::fs::PermissionsExt;
+
     use super::*;
 
     /// An empty folder of this name below the folder for temporary files.
@@ -161,7 +223,7 @@ mod tests {
     }
 
     fn output(folder: &Path, name: &str) -> Output {
-        Output::at(folder.join(name).to_str().expect("a path")).expect("an output")
+        Output::at(&folder.join(name)).expect("an output")
     }
 
     #[test]
@@ -182,11 +244,43 @@ mod tests {
         let folder = folder("dropped");
         drop(output(&folder, "out").write(b"new").unwrap());
         assert!(names_in(&folder).is_empty());
+        // A file that came meanwhile is not replaced.
+        let written = output(&folder, "out").write(b"new").unwrap();
+        fs::write(folder.join("out"), "theirs").unwrap();
+        assert_eq!(written.put().unwrap_err().kind(), io::ErrorKind::AlreadyExists);
+        assert_eq!(fs::read(folder.join("out")).unwrap(), b"theirs");
+        fs::remove_file(folder.join("out")).unwrap();
+        fs::write(folder.join("out"), "old").unwrap();
         let written = output(&folder, "out").write(b"new").unwrap();
         // A folder in its place, so that the rename fails.
+        fs::remove_file(folder.join("out")).unwrap();
         fs::create_dir(folder.join("out")).unwrap();
         assert!(written.put().is_err());
         assert_eq!(names_in(&folder), ["out"]);
+        fs::remove_dir_all(folder).unwrap();
+    }
+
+    #[test]
+    fn temporary_file_is_as_private_as_the_file_that_it_replaces() {
+        let folder = folder("private");
+        fs::write(folder.join("out"), "old").unwrap();
+        fs::set_permissions(folder.join("out"), Permissions::from_mode(0o600)).unwrap();
+        let written = output(&folder, "out").write(b"new").unwrap();
+        for name in names_in(&folder) {
+            assert_eq!(fs::metadata(folder.join(&name)).unwrap().permissions().mode() & 0o777, 0o600, "{name}");
+        }
+        written.put().unwrap();
+        fs::remove_dir_all(folder).unwrap();
+    }
+
+    #[test]
+    fn job_files_are_told_from_other_files() {
+        let folder = folder("told");
+        for (bytes, is_other) in [(&b"TIP\0\x01\x01\0\0"[..], false), (b"TI", true), (b"", true), (b"rack 1\n", true)] {
+            fs::write(folder.join("out"), bytes).unwrap();
+            assert_eq!(output(&folder, "out").replaces_other_file(), is_other, "{bytes:?}");
+        }
+        assert!(!output(&folder, "new").replaces_file());
         fs::remove_dir_all(folder).unwrap();
     }
 

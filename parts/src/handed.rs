@@ -3,7 +3,8 @@
 use std::collections::HashMap;
 use std::fmt;
 
-use crate::list::{lines_of, number_of, text_of, Fault, List, What as WhatOfList};
+use crate::letters::is_invisible;
+use crate::list::{invisible_in_words, lines_of, number_of, text_of, Fault, List, What as WhatOfList};
 
 /// A plan with its claimed pairs, and with its table where there is one.
 #[derive(Clone, PartialEq, Eq, Debug)]
@@ -20,6 +21,7 @@ pub struct Handed {
 pub enum What {
     NotText,
     ControlCharacter,
+    Invisible(char),
     NoPairs,
     PairsWords(String),
     PairsSize(String),
@@ -43,6 +45,7 @@ impl fmt::Display for What {
         match self {
             What::NotText => write!(to, "not UTF-8 text; save the file as UTF-8 text"),
             What::ControlCharacter => write!(to, "a control character; save the file as plain text"),
+            What::Invisible(c) => invisible_in_words(to, *c),
             What::NoPairs => write!(to, "no pairs; begin the plan with `pairs N`, N being its number of pairs"),
             What::PairsWords(line) => write!(to, "unknown words in `{line}`; write `pairs N`, N being a number"),
             What::PairsSize(number) => write!(to, "pairs {number} is out of range; {} is the most", u32::MAX),
@@ -123,6 +126,9 @@ impl Reading<'_> {
         let content = text.split('#').next().unwrap_or_default().trim();
         if content.is_empty() {
             return Ok(());
+        }
+        if let Some(c) = content.chars().find(|&c| is_invisible(c)) {
+            return Err(What::Invisible(c));
         }
         if !self.has_pairs {
             self.has_pairs = true;

@@ -1,5 +1,8 @@
 //! The commands, with what is typed and what each does.
 
+use std::ffi::OsString;
+
+use crate::arguments::{Arguments, Typed};
 use crate::commands::{self, print, Failure};
 
 /// A command of the program.
@@ -13,16 +16,7 @@ pub struct Command {
     more: &'static str,
     /// What someone may type.
     example: &'static str,
-    run: fn(&[&str]) -> Result<(), Failure>,
-}
-
-/// One thing that is typed behind the name of a command.
-struct Typed {
-    /// As `FILE`, or an option, as `--tips`.
-    name: &'static str,
-    /// What stands behind an option, as `TABLE`.
-    value: Option<&'static str>,
-    is_needed: bool,
+    run: fn(&Arguments) -> Result<(), Failure>,
 }
 
 /// The commands, in the order of the page.
@@ -35,7 +29,7 @@ pub const COMMANDS: [Command; 17] = [
                Package, value and references are its comment.\n\
                TABLE is a parts list with patterns for names, as R_0402* height=0.4 : 0-1, for the packages. A * stands\n\
                for any letters, a ? for one. The first row that matches counts; its columns, fine, tall and at= stand in\n\
-               the list. A line `skip Fiducial*` leaves packages out. Where no row matches a package, all such packages\n\
+               the list. A line `skip Fiducial*` leaves packages out, `skip value DNP` values. Where no row matches a package, all such packages\n\
                are told, and nothing is printed.\n\
                SIDE is top, bottom or both; it may be left out where the file is of one side.\n",
         example: "parts import kicad board-top.csv --tips tips.txt > board.txt",
@@ -96,19 +90,19 @@ pub const COMMANDS: [Command; 17] = [
     },
     Command {
         name: "keep",
-        arguments: "K FILE [JOB] [--list LIST]",
+        arguments: "K FILE [--job JOB] [--list LIST]",
         does: "print which parts lose tips when at most K placements are off the most used tip,\n\
                and write what is left as the job file JOB and as the parts list LIST",
         more: "A tip is struck from a part where no plan within K has the part on that tip. A part has all its\n\
                placements on one tip. The list written has the names, quantities, columns and comments of the list\n\
                read; from a job file it has line numbers for names.\n\
-               JOB and LIST replace files of their names, but never FILE.\n",
+               JOB replaces a job file of its name; a file of LIST's name is only replaced with --force, FILE never.\n",
         example: "parts keep 3 board.txt --list kept.txt",
         run: commands::keep,
     },
     Command {
         name: "goal",
-        arguments: "K FILE [JOB] [--list LIST]",
+        arguments: "K FILE [--job JOB] [--list LIST]",
         does: "print which parts lose tips when a plan has to have K pairs at least,\n\
                and write what is left as the job file JOB and as the parts list LIST",
         more: "A tip is struck from a part where no plan with K pairs or more has the part on that tip, a pair being\n\
@@ -116,7 +110,7 @@ pub const COMMANDS: [Command; 17] = [
                printed, only the tips of best plans are left.\n\
                It takes the lists that have a best plan. What is left may have gaps; where it has no best plan any\n\
                more, the last line says which part has a gap.\n\
-               JOB and LIST replace files of their names, but never FILE.\n",
+               JOB replaces a job file of its name; a file of LIST's name is only replaced with --force, FILE never.\n",
         example: "parts goal 12 board.txt --list kept.txt",
         run: commands::goal,
     },
@@ -127,7 +121,7 @@ pub const COMMANDS: [Command; 17] = [
                tip T, which is on the head, wins where tips suit equally",
         more: "Quick takes every list. Best has the most pairs of all plans, a pair being two placements on one tip;\n\
                it takes lists in which each part has every tip between its lowest and its highest, but for tips that\n\
-               no part of the list has.\n\
+               no part of the list has. Where a part has a gap, it is named with an order of the rack that helps, if there is one.\n\
                A quantity other than 1 stands behind the name, as x10; the summary then counts parts and placements.\n\
                Where several tips suit equally, the lowest is taken, or T where it is one of them. The pairs of the\n\
                best plan are the same with every T, those of the quick plan may be others.\n\
@@ -164,16 +158,17 @@ pub const COMMANDS: [Command; 17] = [
     },
     Command {
         name: "panel",
-        arguments: "FILE FILE [JOB]",
-        does: "put two boards on one panel: plan each alone and both together, part by part,\n\
-               and write the panel as the job file JOB",
-        more: "The panel has the parts of the first board and then those of the second, which both have one rack. A\n\
+        arguments: "FILE FILE.. [--job JOB] [--list LIST]",
+        does: "put boards on one panel: plan each alone and all together, part by part,\n\
+               and write the panel as the job file JOB and as the parts list LIST",
+        more: "The panel has the parts of the first board, then those of the second, and so on; all have one rack. A\n\
                board alone is planned by the quick rule, whatever its rack. Behind each part stand its tip alone and\n\
-               its tips in the quick and the best plan of the panel. The same file may be named for both boards.\n\
-               Where the racks differ, or both boards are too many lines or placements, each board is planned alone,\n\
+               its tips in the quick and the best plan of the panel. A file may be named several times. In LIST R1-2\n\
+               is R1 of the second board; positions as at=3 are left out.\n\
+               Where the racks differ, or all boards are too many lines or placements, each board is planned alone,\n\
                and the panel is refused.\n\
-               JOB replaces a file of its name, but never a FILE.\n",
-        example: "parts panel left.txt right.txt panel.job",
+               JOB replaces a job file of its name, another file only with --force, and never a FILE.\n",
+        example: "parts panel left.txt right.txt --job panel.job",
         run: commands::panel,
     },
     Command {
@@ -184,9 +179,9 @@ pub const COMMANDS: [Command; 17] = [
         more: "The first 8 bytes must name the mark, the version and the rack size well; the rest may be anything.\n\
                Tips outside the rack are cleared, lines without a tip are dropped, a quantity of 0 becomes 1, and the\n\
                first line with more than 2,048 placements is dropped with all after it. Lines that are missing and\n\
-               bytes that follow are told. Line numbers are those of JOB, counted from 0.\n\
+               bytes that follow are told. Where parts are lost, it says how many, and the exit status is 3. Line numbers are those of JOB, counted from 0.\n\
                OUT is of the same version, every command takes it, and mending it again changes nothing. OUT replaces\n\
-               a file of its name, but never JOB.\n",
+               a job file of its name, another file only with --force, and never JOB.\n",
         example: "parts mend card.job mended.job && parts plan mended.job",
         run: commands::mend,
     },
@@ -235,81 +230,35 @@ pub const COMMANDS: [Command; 17] = [
     },
 ];
 
-const FILES: &str = "LIST is a parts list, JOB a job file, FILE either one; - is standard input.\n";
+const FILES: &str =
+    "LIST is a parts list, JOB a job file, FILE either one, - standard input; -o OUT writes to the file OUT.\n";
 
 /// The widest line to be typed that has what it does beside it.
 const BESIDE: usize = 37;
 
 impl Command {
-    /// The command that these words begin with, and the words behind its name.
-    pub fn of<'a>(words: &'a [&'a str]) -> Option<(&'static Command, &'a [&'a str])> {
+    /// The command that these words begin with, and how many words are behind its name.
+    pub fn of(words: &[&str]) -> Option<(&'static Command, usize)> {
         COMMANDS.iter().find_map(|command| {
             let length = command.name.split(' ').count();
             let is_named = words.len() >= length && command.name.split(' ').eq(words[..length].iter().copied());
-            is_named.then(|| (command, &words[length..]))
+            is_named.then(|| (command, words.len() - length))
         })
     }
 
     /// Does what the command does, or prints its page where that is asked for.
-    pub fn run(&self, arguments: &[&str]) -> Result<(), Failure> {
-        if arguments.iter().any(|word| is_help(word)) {
+    pub fn run(&self, words: &[OsString]) -> Result<(), Failure> {
+        if words.iter().any(|word| word.to_str().is_some_and(is_help)) {
             return print(self.page().as_bytes());
         }
-        if let Some(what) = self.wrong_in(arguments) {
-            return Err(Failure::Argument(format!("{what}\n{}", self.usage())));
-        }
-        (self.run)(arguments)
-    }
-
-    /// What is typed behind its name.
-    fn parsed(&self) -> Vec<Typed> {
-        let mut words = self.arguments.split_whitespace();
-        let mut parsed = Vec::new();
-        while let Some(word) = words.next() {
-            let name = word.trim_matches(['[', ']']);
-            let value = name.starts_with("--").then(|| words.next().unwrap_or_default().trim_end_matches(']'));
-            parsed.push(Typed { name, value, is_needed: !word.starts_with('[') });
-        }
-        parsed
+        let arguments = Arguments::of(self.name, &Typed::of(self.arguments), words)
+            .map_err(|what| Failure::Argument(format!("{what}\n{}", self.usage())))?;
+        (self.run)(&arguments)
     }
 
     /// The options that may be typed behind its name.
     pub fn options(&self) -> Vec<&'static str> {
-        self.parsed().iter().filter(|typed| typed.value.is_some()).map(|typed| typed.name).collect()
-    }
-
-    /// What is wrong with the number of words or with an option, if anything.
-    fn wrong_in(&self, arguments: &[&str]) -> Option<String> {
-        let (options, files): (Vec<Typed>, Vec<Typed>) =
-            self.parsed().into_iter().partition(|typed| typed.value.is_some());
-        let (mut named, mut given) = (Vec::new(), Vec::new());
-        let mut words = arguments.iter();
-        while let Some(&word) = words.next() {
-            // A word with two dashes is never a file, so that a mistyped option is not taken for one.
-            if !word.starts_with("--") {
-                given.push(word);
-                continue;
-            }
-            let Some(option) = options.iter().find(|option| option.name == word) else {
-                return Some(format!("parts {} has no option {word}", self.name));
-            };
-            if named.contains(&word) {
-                return Some(format!("{word} stands twice; name it once"));
-            }
-            if words.next().is_none_or(|next| next.starts_with("--")) {
-                return Some(format!("{word} needs {} behind it", option.value.unwrap_or_default()));
-            }
-            named.push(word);
-        }
-        if let Some(word) = given.get(files.len()) {
-            return Some(format!("`{word}` is a word too many"));
-        }
-        let missing_file = files.iter().skip(given.len()).find(|file| file.is_needed);
-        let missing_option = || options.iter().find(|option| option.is_needed && !named.contains(&option.name));
-        let missing = missing_file.or_else(missing_option)?;
-        Some(
-            [Some(missing.name), missing.value, Some("is missing")].into_iter().flatten().collect::<Vec<_>>().join(" "),
-        )
+        Typed::of(self.arguments).iter().filter(|typed| typed.is_option()).map(|typed| typed.name).collect()
     }
 
     fn typed(&self) -> String {
@@ -360,6 +309,9 @@ pub fn page() -> String {
 }
 
 const ENDS: &str = "\
+-o OUT writes what a command makes to the file OUT: what it prints, for keep, goal and panel the job file JOB.
+A job file replaces a job file of its name. Any other file that is there stays, but with --force.
 Exit 0: done. Exit 1: a file was refused, or could not be read or written. Exit 2: wrong arguments.
+Exit 3: a file was mended, and parts are lost.
 `parts COMMAND --help` says more of a command, `parts --version` names the version.
 ";

@@ -8,6 +8,8 @@ pub mod handed;
 pub mod import;
 pub mod job;
 pub mod junior;
+pub mod letters;
+pub mod limits;
 pub mod list;
 pub mod mending;
 pub mod no_order;
@@ -17,6 +19,7 @@ pub mod panel;
 pub mod picture;
 pub mod planning;
 pub mod refusal;
+pub mod renumbering;
 pub mod table_fault;
 
 pub use job_file::{MOST_LINES, MOST_PLACEMENTS, MOST_TIPS};

@@ -2,11 +2,14 @@
 //! as `before R1 U1`, and `#` comments.
 
 use std::cmp::Ordering;
-use std::collections::HashMap;
+use std::collections::{HashMap, HashSet};
 use std::fmt;
 
+use crate::import::name_of;
 use crate::job::{Job, Line};
-use crate::{tips_in_words, MOST_LINES, MOST_PLACEMENTS, MOST_QUANTITY, MOST_TIPS};
+use crate::letters::is_invisible;
+use crate::limits::MOST_COLUMNS;
+use crate::{quantity_in_words, tips_in_words, MOST_LINES, MOST_PLACEMENTS, MOST_QUANTITY, MOST_TIPS};
 
 /// Words for the quantity, in capitals or not, which no column may have. `x` is none: it is where the part is placed.
 const QUANTITIES: [&str; 7] = ["qty", "quantity", "count", "amount", "pieces", "pcs", "n"];
@@ -77,6 +80,7 @@ pub struct Fault<W = What> {
 pub enum What {
     NotText,
     ControlCharacter,
+    Invisible(char),
     NoRack,
     RackWords(String),
     RackSize(String),
@@ -99,7 +103,9 @@ pub enum What {
     TipAgain(usize),
     NoTip,
     TooManyParts,
+    TooManyColumns,
     NoColumn(String),
+    UnknownColumn { column: String, columns: Vec<String> },
     FlagAgain(String),
     Positions(String),
     PositionsBackwards { first: String, last: String },
@@ -114,6 +120,7 @@ impl fmt::Display for What {
         match self {
             What::NotText => write!(to, "not UTF-8 text; save the file as UTF-8 text"),
             What::ControlCharacter => write!(to, "a control character; save the file as plain text"),
+            What::Invisible(c) => invisible_in_words(to, *c),
             What::NoRack => write!(to, "no rack; begin the list with `rack M`, M being the number of tips, 1 to 64"),
             What::RackWords(line) => {
                 write!(to, "unknown words in `{line}`; write `rack M`, M being the number of tips")
@@ -164,7 +171,13 @@ impl fmt::Display for What {
             What::TipAgain(tip) => write!(to, "tip {tip} stands twice; name each tip once"),
             What::NoTip => write!(to, "no tip after the colon; name one at least"),
             What::TooManyParts => write!(to, "part {}; a list has {MOST_LINES} at most, split it", MOST_LINES + 1),
+            What::TooManyColumns => {
+                write!(to, "more than {MOST_COLUMNS} columns in this list; take out those that nobody sorts by")
+            }
             What::NoColumn(column) => write!(to, "no {column}; give every part a {column} to sort by it"),
+            What::UnknownColumn { column, columns } => {
+                write!(to, "no part has a column {column}; sort by {}", columns.join(" or "))
+            }
             What::FlagAgain(flag) => write!(to, "a second {flag}; write it once"),
             What::Positions(word) => {
                 write!(to, "no positions in `{word}`; write the first and the last, counted from 0, as at=0-3")
@@ -180,6 +193,11 @@ impl fmt::Display for What {
             What::BeforeItself(name) => write!(to, "{name} cannot be before itself; name two parts"),
         }
     }
+}
+
+/// That two names may look the same and differ.
+pub(crate) fn invisible_in_words(to: &mut fmt::Formatter, c: char) -> fmt::Result {
+    write!(to, "a character that nobody sees, U+{:04X}; delete these words and type them again", u32::from(c))
 }
 
 impl List {
@@ -222,11 +240,30 @@ impl List {
                 None => faults.push(Fault { line: part.line, what: What::NoColumn(column.into()) }),
             }
         }
+        if let (true, Some(first)) = (numbered.is_empty(), self.parts.first()) {
+            let what = What::UnknownColumn { column: column.into(), columns: self.columns() };
+            return Err(vec![Fault { line: first.line, what }]);
+        }
         if !faults.is_empty() {
             return Err(faults);
         }
         numbered.sort_by(|(one, _), (other, _)| one.partial_cmp(other).unwrap_or(Ordering::Equal));
         Ok(self.text_with(numbered.iter().map(|(_, part)| part.with_tips(part.tips))))
+    }
+
+    /// What the list can be sorted by: each column that some part has, and the quantity.
+    fn columns(&self) -> Vec<String> {
+        let mut columns: Vec<String> = Vec::new();
+        for part in &self.parts {
+            let positions = part.at.map(|_| POSITIONS);
+            for name in part.columns.iter().map(|(name, _)| name.as_str()).chain(positions) {
+                if !columns.iter().any(|other| other == name) {
+                    columns.push(name.into());
+                }
+            }
+        }
+        columns.push("quantity".into());
+        columns
     }
 
     /// The text of the list with the tips of these lines, a line a part; names, quantities, columns and comments stay.
@@ -244,6 +281,36 @@ impl Part {
     /// What stands behind the `#` of its line.
     pub fn comment(&self) -> &str {
         self.text.split_once('#').map_or("", |(_, comment)| comment.trim())
+    }
+
+    /// The reference designators of its placements, as an import writes them behind its comment: as many placements for
+    /// each, and its name among them. Nothing where the list does not say.
+    pub fn references(&self) -> Vec<&str> {
+        let Some((_, words)) = self.comment().rsplit_once(": ") else { return Vec::new() };
+        let references: Vec<&str> = words.split_whitespace().collect();
+        let is_named = self.name.as_ref().is_some_and(|name| references.iter().any(|word| name_of(word) == *name));
+        let is_even = !references.is_empty() && usize::from(self.quantity) % references.len() == 0;
+        if is_named && is_even {
+            references
+        } else {
+            Vec::new()
+        }
+    }
+
+    /// Its line on a panel, with this behind its name and its references; a position in the order of one board is left out.
+    pub(crate) fn on_panel(&self, label: &str, board: &str) -> String {
+        let mut words = vec![format!("{label}{board}")];
+        words.extend(Some(quantity_in_words(self.quantity).trim().to_string()).filter(|word| !word.is_empty()));
+        words.extend(self.columns.iter().map(|(column, number)| format!("{column}={number}")));
+        words.extend(self.fine.then(|| FINE.into()));
+        words.extend(self.tall.then(|| TALL.into()));
+        let references: Vec<String> = self.references().iter().map(|word| format!("{word}{board}")).collect();
+        let comment = match self.comment().rsplit_once(": ") {
+            Some((before, _)) if !references.is_empty() => format!(" # {before}: {}", references.join(" ")),
+            _ if self.comment().is_empty() => String::new(),
+            _ => format!(" # {}", self.comment()),
+        };
+        format!("{} : {}{comment}\n", words.join(" "), tips_in_words(self.tips))
     }
 
     /// Its number to sort by: in a column, or its quantity by any word for it.
@@ -294,6 +361,7 @@ struct Reading {
     placements: usize,
     /// The line of each name.
     names: HashMap<String, usize>,
+    columns: HashSet<String>,
     /// The names of each rule, and its line.
     rules: Vec<(String, String, usize)>,
     /// The text below the last part.
@@ -311,6 +379,7 @@ impl Reading {
             count: 0,
             placements: 0,
             names: HashMap::new(),
+            columns: HashSet::new(),
             rules: Vec::new(),
             above: String::new(),
         }
@@ -322,6 +391,9 @@ impl Reading {
         if content.is_empty() {
             self.above += &format!("{text}\n");
             return Ok(());
+        }
+        if let Some(c) = content.chars().find(|&c| is_invisible(c)) {
+            return Err(What::Invisible(c));
         }
         if !self.has_rack {
             self.has_rack = true;
@@ -345,6 +417,10 @@ impl Reading {
                 return Err(What::NameAgain { name: name.clone(), line });
             }
             self.names.insert(name.clone(), line);
+        }
+        self.columns.extend(part.columns.iter().map(|(column, _)| column.clone()));
+        if self.columns.len() > MOST_COLUMNS {
+            return Err(What::TooManyColumns);
         }
         let before = self.placements;
         self.placements += usize::from(part.quantity);
@@ -513,6 +589,9 @@ fn part_of(content: &str, rack: usize) -> Result<Part, What> {
         }
         if columns.iter().any(|(earlier, _)| earlier == column) {
             return Err(What::ColumnAgain(column.into()));
+        }
+        if columns.len() == MOST_COLUMNS {
+            return Err(What::TooManyColumns);
         }
         let number = decimal_of(value).ok_or_else(|| What::ColumnValue(word.into()))?;
         columns.push((column.into(), number));

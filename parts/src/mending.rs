@@ -14,6 +14,13 @@ const WHOLE_FILE: u16 = u16::MAX;
 pub struct Mended {
     pub file: Vec<u8>,
     pub text: String,
+    /// How many parts of the file found are not in the mended one.
+    pub lost: usize,
+}
+
+/// How many parts are lost, in letters that nobody overlooks.
+pub fn lost_in_words(lost: usize) -> String {
+    counted(lost as u64, "PART").replace("PARTs", "PARTS") + " LOST"
 }
 
 /// Mends a job file whose first 8 bytes name mark, version and rack size well.
@@ -26,13 +33,17 @@ pub fn mend(found: &[u8]) -> Result<Mended, String> {
     file.truncate(lengths.file as usize);
     report.truncate(lengths.report as usize);
     let job = job_of(&file)?;
-    let mut text = Found::new(found, &report, job.lines.len()).changes_in_words();
-    let changes = match report.len() / CHANGE {
+    let found = Found::new(found, &report, job.lines.len());
+    let (mut text, lost) = (found.changes_in_words(), found.lost());
+    let mut changes = match report.len() / CHANGE {
         0 => "no change".into(),
         number => counted(number as u64, "change"),
     };
+    if lost > 0 {
+        changes += &format!(", {}", lost_in_words(lost));
+    }
     text += &format!("lines {} rack {}, {changes}\n", job.lines.len(), job.rack);
-    Ok(Mended { file, text })
+    Ok(Mended { file, text, lost })
 }
 
 /// The file that was found, and what the library tells of it.
@@ -68,8 +79,25 @@ impl<'a> Found<'a> {
 
     /// The number of lines that were read.
     fn read(&self) -> usize {
-        let whole = (self.bytes.len() - HEAD) / self.version.line();
-        self.said.min(whole).min(crate::MOST_LINES)
+        self.said.min(self.held()).min(crate::MOST_LINES)
+    }
+
+    /// The number of whole lines that the bytes hold.
+    fn held(&self) -> usize {
+        (self.bytes.len() - HEAD) / self.version.line()
+    }
+
+    /// How many parts the file found has or says, and the mended one lacks. What follows the lines that were read is a part
+    /// where it looks like one: the number of lines may be what is damaged.
+    fn lost(&self) -> usize {
+        let is_part = |line: &usize| self.set(*line) != 0 && self.outside(*line) == 0;
+        let behind = (self.read()..self.held()).filter(is_part).count();
+        self.said.max(self.read() + behind).saturating_sub(self.written)
+    }
+
+    /// The tips of a line that are outside the rack.
+    fn outside(&self, line: usize) -> u64 {
+        self.set(line) & !(u64::MAX >> (64 - self.rack))
     }
 
     fn changes_in_words(&self) -> String {
@@ -80,7 +108,7 @@ impl<'a> Found<'a> {
             let has = |other: u8| self.changes.contains(&(line, other));
             let what = match code {
                 1 => {
-                    let cleared = self.set(place) & !(u64::MAX >> (64 - self.rack));
+                    let cleared = self.outside(place);
                     let tips = if cleared.count_ones() == 1 { "tip" } else { "tips" };
                     format!("{tips} {} cleared, outside the rack of {}", tips_in_words(cleared), self.rack)
                 }

@@ -1,39 +1,48 @@
-//! Two boards on one panel, merged and planned by the proved library.
+//! Boards on one panel, merged and planned by the proved library.
 
 use job_file::refusal::{FULL, RACKS_DIFFER, TOO_MANY_PLACEMENTS};
 
 use crate::job::{job_of, Job};
 use crate::planning::{common_in_words, no_run_in_words, Named, Plans};
-use crate::{counted, MOST_LINES, MOST_PLACEMENTS};
+use crate::{counted, quantity_in_words, tips_in_words, MOST_LINES, MOST_PLACEMENTS};
 
-/// Two boards, each planned alone, and merged where they can be.
+/// Boards, each planned alone, and merged where they can be.
 pub struct Panel {
     /// What is said of each board by itself.
     pub alone: String,
-    /// What is said of the panel, and its job file; else why there is none.
-    pub merged: Result<(String, Vec<u8>), String>,
+    /// The panel, else why there is none.
+    pub merged: Result<Merged, String>,
 }
 
-/// Both boards with the tips that each line has alone.
+/// Boards on one panel.
+#[derive(Clone, PartialEq, Eq, Debug)]
+pub struct Merged {
+    /// What is said of the panel.
+    pub text: String,
+    /// Its job file.
+    pub file: Vec<u8>,
+    /// Its parts list: `R1-2` is R1 on the second board.
+    pub list: String,
+}
+
+/// Boards with the tips that each line has alone.
 struct Boards<'a> {
-    named: [&'a Named; 2],
-    jobs: [Job; 2],
-    tips: Vec<u8>,
+    named: &'a [&'a Named],
+    jobs: Vec<Job>,
+    tips: Vec<Vec<u8>>,
 }
 
 impl Panel {
-    /// Plans each board alone, whatever its rack, and then both on one panel.
-    pub fn of(first: &Named, second: &Named) -> Result<Panel, String> {
-        let jobs = [job_of(&first.file)?, job_of(&second.file)?];
-        let mut tips = vec![0; jobs[0].lines.len() + jobs[1].lines.len()];
-        let pairs =
-            library::alone(&first.file, &second.file, &mut tips).map_err(|refusal| format!("alone: {refusal}"))?;
-        let boards = Boards { named: [first, second], jobs, tips };
-        let mut alone = String::new();
-        for (board, pairs) in [pairs.0, pairs.1].into_iter().enumerate() {
-            let job = &boards.jobs[board];
-            alone += &format!("{} lines {} rack {} alone {pairs}\n", SIDES[board], job.lines.len(), job.rack);
+    /// Plans each board alone, whatever its rack, and then all on one panel.
+    pub fn of(named: &[&Named]) -> Result<Panel, String> {
+        let jobs: Vec<Job> = named.iter().map(|board| job_of(&board.file)).collect::<Result<_, _>>()?;
+        let (mut tips, mut alone) = (Vec::new(), String::new());
+        for (board, (planned, pairs)) in planned_alone(named, &jobs)?.into_iter().enumerate() {
+            let (name, lines, rack) = (board_in_words(board), jobs[board].lines.len(), jobs[board].rack);
+            alone += &format!("{name} lines {lines} rack {rack} alone {pairs}\n");
+            tips.push(planned);
         }
+        let boards = Boards { named, jobs, tips };
         Ok(match boards.merged() {
             Ok(merged) => Panel { alone, merged: Ok(merged) },
             // Without a panel the plan of each board is all that there is.
@@ -42,51 +51,103 @@ impl Panel {
     }
 }
 
-/// How the two boards are told apart.
-const SIDES: [&str; 2] = ["first", "second"];
+/// The tips of each board alone, and its pairs. The library plans two boards at once.
+fn planned_alone(named: &[&Named], jobs: &[Job]) -> Result<Vec<(Vec<u8>, u64)>, String> {
+    let why = |refusal: library::Refusal| format!("alone: {refusal}");
+    let mut planned = Vec::new();
+    for (boards, jobs) in named.chunks(2).zip(jobs.chunks(2)) {
+        let mut tips = vec![0; jobs.iter().map(|job| job.lines.len()).sum()];
+        if let [first, second] = boards {
+            let pairs = library::alone(&first.file, &second.file, &mut tips).map_err(why)?;
+            let of_second = tips.split_off(jobs[0].lines.len());
+            planned.extend([(tips, pairs.0), (of_second, pairs.1)]);
+        } else {
+            let pairs = library::quick(&boards[0].file, None, &mut tips).map_err(why)?;
+            planned.push((tips, pairs));
+        }
+    }
+    Ok(planned)
+}
+
+/// How boards are told apart.
+fn board_in_words(board: usize) -> String {
+    const WORDS: [&str; 10] =
+        ["first", "second", "third", "fourth", "fifth", "sixth", "seventh", "eighth", "ninth", "tenth"];
+    WORDS.get(board).map_or_else(|| format!("{}th", board + 1), |word| word.to_string())
+}
 
 impl Boards<'_> {
     /// The board of a line of the panel, and the line there.
-    fn line(&self, line: usize) -> (usize, usize) {
-        let of_first = self.jobs[0].lines.len();
-        if line < of_first {
-            (0, line)
-        } else {
-            (1, line - of_first)
+    fn line(&self, mut line: usize) -> (usize, usize) {
+        let mut board = 0;
+        while line >= self.jobs[board].lines.len() {
+            line -= self.jobs[board].lines.len();
+            board += 1;
         }
+        (board, line)
     }
 
     /// The board and the name of a line of the panel.
     fn label(&self, line: usize) -> String {
         let (board, line) = self.line(line);
-        format!("{} {}", SIDES[board], self.named[board].label(line))
+        format!("{} {}", board_in_words(board), self.named[board].label(line))
     }
 
     /// Each line with its tip alone, and with what is said behind it.
     fn lines(&self, behind: &dyn Fn(usize) -> String) -> String {
         let mut text = String::new();
-        for (number, tip) in self.tips.iter().enumerate() {
-            let (board, line) = self.line(number);
-            let label = self.named[board].label_in(&self.jobs[board], line);
-            text += &format!("{} {label} alone {tip}{}\n", SIDES[board], behind(number));
+        let mut number = 0;
+        for (board, tips) in self.tips.iter().enumerate() {
+            for (line, tip) in tips.iter().enumerate() {
+                let label = self.named[board].label_in(&self.jobs[board], line);
+                text += &format!("{} {label} alone {tip}{}\n", board_in_words(board), behind(number));
+                number += 1;
+            }
         }
         text
     }
 
-    /// What is said of the panel and its job file, else why there is none.
-    fn merged(&self) -> Result<(String, Vec<u8>), String> {
-        let mut file = vec![0; library::LONGEST_FILE];
-        let bytes = library::merge(&self.named[0].file, &self.named[1].file, &mut file)
-            .map_err(|refusal| format!("refused {}: {}", refusal.number, self.no_panel(refusal.number)))?;
-        file.truncate(bytes as usize);
-        let panel = Named { file, list: None };
+    /// The panel, else why there is none.
+    fn merged(&self) -> Result<Merged, String> {
+        let mut merged = self.named[0].file.clone();
+        for board in 1..self.named.len() {
+            let mut file = vec![0; library::LONGEST_FILE];
+            let bytes = library::merge(&merged, &self.named[board].file, &mut file)
+                .map_err(|refusal| format!("refused {}: {}", refusal.number, self.no_panel(refusal.number, board)))?;
+            file.truncate(bytes as usize);
+            merged = file;
+        }
+        let panel = Named { file: merged, list: None };
         let plans = panel.plans(None)?;
         let (lines, rack) = (plans.job.lines.len(), plans.job.rack);
         let mut text = format!("panel lines {lines} rack {rack}\n{}", common_in_words(plans.common));
         text += &format!("quick {}\n{}", plans.quick.pairs, self.best_in_words(&plans));
         text += &self.lines(&|line| format!(" {}", plans.each(|plan| plan.tips[line])));
         text += &format!("\n{}", plans.summary());
-        Ok((text, panel.file))
+        Ok(Merged { text, file: panel.file, list: self.list() })
+    }
+
+    /// The parts list of the panel. Positions in the order are those of one board, and left out.
+    fn list(&self) -> String {
+        let mut text = format!("rack {}\n", self.jobs[0].rack);
+        for (number, (named, job)) in (1..).zip(self.named.iter().zip(&self.jobs)) {
+            let behind = format!("-{number}");
+            let Some(list) = &named.list else {
+                for (part, line) in job.lines.iter().enumerate() {
+                    let quantity = quantity_in_words(line.quantity);
+                    text += &format!("{part}{behind}{quantity} : {}\n", tips_in_words(line.set));
+                }
+                continue;
+            };
+            let label = |part: usize| list.parts[part].name.clone().unwrap_or_else(|| format!("line{part}"));
+            for (part, listed) in list.parts.iter().enumerate() {
+                text += &listed.on_panel(&label(part), &behind);
+            }
+            for rule in &list.rules {
+                text += &format!("before {}{behind} {}{behind}\n", label(rule.earlier), label(rule.later));
+            }
+        }
+        text
     }
 
     fn best_in_words(&self, plans: &Plans) -> String {
@@ -96,20 +157,21 @@ impl Boards<'_> {
         }
     }
 
-    /// Why the boards make no panel, and what to do.
-    fn no_panel(&self, number: u32) -> String {
-        let [first, second] = &self.jobs;
+    /// Why the boards up to this one make no panel, and what to do.
+    fn no_panel(&self, number: u32, board: usize) -> String {
+        let all = if self.jobs.len() == 2 { "both" } else { "all" };
         match number {
             RACKS_DIFFER => {
-                let [first, second] = [first, second].map(|job| counted(job.rack as u64, "tip"));
-                format!("the first rack has {first} and the second {second}; name one rack in both")
+                let [first, other] = [0, board].map(|board| counted(self.jobs[board].rack as u64, "tip"));
+                let name = board_in_words(board);
+                format!("the first rack has {first} and the {name} {other}; name one rack in {all}")
             }
             FULL => {
-                let lines = first.lines.len() + second.lines.len();
+                let lines: usize = self.jobs.iter().map(|job| job.lines.len()).sum();
                 format!("{lines} lines together; a panel has {MOST_LINES} at most, make two panels")
             }
             TOO_MANY_PLACEMENTS => {
-                let placements = first.placements() + second.placements();
+                let placements: usize = self.jobs.iter().map(Job::placements).sum();
                 format!("{placements} placements together; a panel has {MOST_PLACEMENTS} at most, make two panels")
             }
             _ => "see the table of refusals in include/tipshare.h".into(),

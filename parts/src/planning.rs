@@ -6,6 +6,7 @@ use library::CommonTip;
 
 use crate::job::{job_of, list_in_words, missed_tip, Job};
 use crate::list::List;
+use crate::renumbering::Renumbering;
 use crate::{counted, quantity_in_words, refusal, tips_in_words};
 
 /// A job file, and the parts list that it was made from, where there is one.
@@ -219,11 +220,11 @@ impl Plans {
     }
 }
 
-/// That a line is no run, what it lacks, and who has it, by these names.
+/// That a line is no run, what it lacks, who has it, by these names, and which order of the tips helps.
 pub(crate) fn no_run_in_words(job: &Job, line: usize, label: impl Fn(usize) -> String) -> String {
     let missing = missed_tip(job, line)
         .map_or(String::new(), |(tip, other)| format!(": it lacks tip {tip}, which {} has", label(other)));
-    format!("{} is no run{missing}", label(line))
+    format!("{} is no run{missing} ({})", label(line), Renumbering::of(job).in_words())
 }
 
 /// The line that the program tipshare prints for the common tip.

@@ -20,7 +20,7 @@ pub fn in_words(number: u32, line: usize, file: &[u8]) -> String {
         8 => format!("the version is {version}; write the file as version 1 or 2"),
         9 => format!("the file names {count} lines and 512 is the most; split the parts list"),
         10 => format!(
-            "the file names {count} lines{}, which take {} bytes, and has {length}; hand over the whole file and no more",
+            "the file names {count} lines{}, which take {} bytes, and has {length}; hand over the whole file and no more, or mend it: parts mend",
             if form == Version::Two { " with quantities" } else { "" },
             form.length_of(count.into())
         ),

@@ -1,8 +1,11 @@
 //! The program as it is typed: output, messages and exit status.
 
+use std::ffi::OsStr;
 use std::fs::{self, File, OpenOptions};
 use std::io::Write;
+use std::os::unix::ffi::OsStrExt;
 use std::os::unix::fs::{symlink, PermissionsExt};
+use std::os::unix::process::ExitStatusExt;
 use std::path::{Path, PathBuf};
 use std::process::{Command, Stdio};
 
@@ -69,9 +72,18 @@ fn make_show_and_sort_print_their_result() {
 fn faults_name_file_and_line() {
     let why = "-:2: no colon; write `NAME : TIPS`, or `: TIPS` without a name\n-:4: no tip after the colon; name one at least";
     assert_eq!(run(&["make", "-"], b"rack 3\nC1 0\nC2 : 1\nC3 :\n"), refused(why));
+    let pitched = LIST.replace("1-2", "1-2\nC3 pitch=0.5 : 0");
     let why =
         "-:3: no pitch; give every part a pitch to sort by it\n-:4: no pitch; give every part a pitch to sort by it";
-    assert_eq!(run(&["sort", "pitch", "-"], LIST.as_bytes()), refused(why));
+    assert_eq!(run(&["sort", "pitch", "-"], pitched.as_bytes()), refused(why));
+    for column in ["name", "Height", ""] {
+        let why = format!("-:3: no part has a column {column}; sort by height or quantity");
+        assert_eq!(run(&["sort", column, "-"], LIST.as_bytes()), refused(&why));
+    }
+    let why = "-:2: no part has a column name; sort by h or at or quantity";
+    assert_eq!(run(&["sort", "name", "-"], b"rack 1\nA h=1 : 0\nB at=1 : 0\n"), refused(why));
+    let why = "-:2: no part has a column name; sort by quantity";
+    assert_eq!(run(&["sort", "name", "-"], b"rack 1\nA : 0\n"), refused(why));
     let (_, many, _) = run(&["make", "-"], ("rack 3\n".to_string() + &"x\n".repeat(30)).as_bytes());
     assert_eq!((many.lines().count(), many.lines().last()), (21, Some("-: 10 more lines are wrong")));
 }
@@ -84,6 +96,148 @@ fn wrong_kinds_of_files_are_named() {
     assert_eq!(run(&["show", "-"], LIST.as_bytes()), refused(why));
     let (output, why, status) = run(&["make", "no-such-list"], b"");
     assert!(output.is_empty() && why.starts_with("no-such-list: ") && status == 1, "{why}");
+}
+
+#[test]
+fn short_job_file_is_told_by_its_name() {
+    let folder = folder("short");
+    for (name, bytes) in [("a.job", &b""[..]), ("b.JOB", b"T"), ("c.job", b"TI"), ("d.job", b"\0\xff")] {
+        let file = typed(&folder, name);
+        fs::write(&file, bytes).unwrap();
+        let length = bytes.len();
+        let why =
+            format!("{file}: refused 6: the file has {length} bytes and needs 8 at least; hand over the whole file");
+        for command in ["plan", "show", "make", "picture", "order", "junior"] {
+            assert_eq!(run(&[command, &file], b""), refused(&why), "{command} {name}");
+        }
+    }
+    let list = typed(&folder, "list.txt");
+    fs::write(&list, b"").unwrap();
+    let why = "no rack; begin the list with `rack M`, M being the number of tips, 1 to 64";
+    assert_eq!(run(&["plan", &list], b""), refused(&format!("{list}:1: {why}")));
+    let job = typed(&folder, "list.job");
+    fs::write(&job, LIST).unwrap();
+    assert_eq!(run(&["plan", &job], b"").2, 0);
+}
+
+#[test]
+fn swapped_files_of_an_import_are_told_once() {
+    let folder = folder("swapped");
+    let (board, tips) = (typed(&folder, "board.csv"), typed(&folder, "tips.txt"));
+    let text = "### Footprint positions - created on 2024 ###\n# Ref Val Package PosX PosY Rot Side\n## End\n";
+    let rows = "Ref,Val,Package,PosX,PosY,Rot,Side\nR1,1k,R0402,0,0,0,top\nR2,1k,R0402,0,0,0,top\n";
+    fs::write(&tips, "# my tips\nrack 2\nR* : 0-1\nC* : 0\n").unwrap();
+    for file in [text, rows] {
+        fs::write(&board, file).unwrap();
+        let why = "this is no table of tips; name the table behind --tips, and this file before it";
+        assert_eq!(run(&["import", "kicad", &tips, "--tips", &board], b""), refused(&format!("{board}: {why}")));
+    }
+    let why = "this is a table of tips; name the file to import here, and the table behind --tips";
+    for words in [&["kicad"][..], &["csv", "--columns", "ref=Ref,package=Package"]] {
+        let words = [&["import"], words, &[&tips, "--tips", &tips]].concat();
+        assert_eq!(run(&words, b""), refused(&format!("{tips}: {why}")), "{words:?}");
+    }
+    let why = "-:1: no line `# Ref Val Package PosX PosY Rot Side`; name a position file of KiCad, or export it again";
+    assert_eq!(run(&["import", "kicad", "-", "--tips", &tips], b"# a\nb\nc\n"), refused(why));
+    let why = "-:1: `Ref,Val,Package,PosX,PosY,Rot,Side R1,1k` is in no element; save the file as XML";
+    assert_eq!(run(&["import", "openpnp", "-", "b.xml"], rows.replace('\n', " ").as_bytes()), refused(why));
+}
+
+#[test]
+fn inputs_that_are_too_large_are_refused() {
+    let list = |lines: usize| "rack 1\n".to_string() + &"#\n".repeat(lines - 2) + "A : 0\n";
+    assert_eq!(run(&["plan", "-"], list(100_000).as_bytes()).2, 0);
+    let why = "-: 100001 lines; 100000 is the most, split the file";
+    assert_eq!(run(&["plan", "-"], list(100_001).as_bytes()), refused(why));
+    // A device without an end is read no further than to the limit.
+    let endless = run_with(program(&["plan", "-"]).stdin(File::open("/dev/zero").unwrap()), b"");
+    assert_eq!(endless, refused("-: more than 16 MB; name another file, or split it"));
+    let columns = |count: usize| (0..count).map(|column| format!(" c{column}=1")).collect::<String>();
+    assert_eq!(run(&["make", "-"], format!("rack 1\nA{} : 0\n", columns(64)).as_bytes()).2, 0);
+    let why = "more than 64 columns in this list; take out those that nobody sorts by";
+    let wide = format!("rack 1\nA{} : 0\n", columns(65));
+    assert_eq!(run(&["make", "-"], wide.as_bytes()), refused(&format!("-:2: {why}")));
+    let wide = format!("rack 1\nA{} : 0\nB c0=2 : 0\nC d=1 : 0\n", columns(64));
+    assert_eq!(run(&["make", "-"], wide.as_bytes()), refused(&format!("-:4: {why}")));
+}
+
+#[test]
+fn characters_that_nobody_sees_are_refused_in_names() {
+    let why = |line, number| {
+        refused(&format!("-:{line}: a character that nobody sees, U+{number}; delete these words and type them again"))
+    };
+    for (c, number) in [("\u{202e}", "202E"), ("\u{200b}", "200B"), ("\u{feff}", "FEFF"), ("\u{e0041}", "E0041")] {
+        assert_eq!(run(&["plan", "-"], format!("rack 1\nR{c}1 : 0\n").as_bytes()), why(2, number));
+        assert_eq!(run(&["order", "-"], format!("rack 1\nA : 0\nbefore A{c} A\n").as_bytes()), why(3, number));
+        // In a comment it stays.
+        assert_eq!(run(&["plan", "-"], format!("rack 1\nR1 : 0 # {c}\n").as_bytes()).2, 0);
+    }
+    let folder = folder("unseen");
+    let list = typed(&folder, "list.txt");
+    fs::write(&list, LIST).unwrap();
+    assert_eq!(
+        run(&["check", &list, "-"], "pairs 0\nC1\u{200b} : 0\n".as_bytes()).1.lines().next(),
+        why(2, "200B").1.lines().next()
+    );
+    let tips = typed(&folder, "tips.txt");
+    fs::write(&tips, "rack 1\n* : 0\n").unwrap();
+    let rows = "Ref,Val,Package,PosX,PosY,Rot,Side\nR\u{202e}1,1k,P,0,0,0,top\n";
+    let (text, _, _) = run(&["import", "kicad", "-", "--tips", &tips], rows.as_bytes());
+    assert!(text.starts_with(b"rack 1\nR_1 : 0 # P 1k: R"));
+}
+
+#[test]
+fn signal_removes_what_is_half_written() {
+    let folder = folder("signals");
+    let (list, job, pipe) = (typed(&folder, "list.txt"), typed(&folder, "out.job"), typed(&folder, "pipe"));
+    // More than a pipe takes, so that the list is never written whole.
+    fs::write(&list, format!("{BOARD}# {}\n", "x".repeat(1 << 20))).unwrap();
+    fs::write(&job, "TIP old").unwrap();
+    assert!(Command::new("mkfifo").arg(&pipe).status().unwrap().success());
+    for (name, number) in [("HUP", 1), ("INT", 2), ("TERM", 15)] {
+        let mut started = program(&["keep", "1", &list, "--job", &job, "--list", &pipe]).spawn().unwrap();
+        let reader = File::open(&pipe).unwrap();
+        let is_written = || names_in(&folder).iter().any(|name| name.ends_with(".tmp"));
+        while !is_written() {
+            assert_eq!(started.try_wait().unwrap(), None);
+            std::thread::yield_now();
+        }
+        assert!(Command::new("kill").args(["-s", name, &started.id().to_string()]).status().unwrap().success());
+        assert_eq!(started.wait().unwrap().signal(), Some(number));
+        drop(reader);
+        assert_eq!(names_in(&folder), ["list.txt", "out.job", "pipe"]);
+        assert_eq!(fs::read(&job).unwrap(), b"TIP old");
+    }
+}
+
+#[test]
+fn output_that_is_lost_when_it_is_closed_is_told() {
+    let folder = folder("closing");
+    // As on a file system that keeps an error until then.
+    let (source, library) = (typed(&folder, "closing.c"), typed(&folder, "closing.so"));
+    fs::write(
+        &source,
+        "#include <errno.h>\nint close(int file) { errno = file == 1 ? EIO : 0; return file == 1 ? -1 : 0; }\n",
+    )
+    .unwrap();
+    let built = Command::new("gcc").args(["-shared", "-fPIC", "-o", &library, &source]).status().unwrap();
+    assert!(built.success());
+    let (_, why, status) = run_with(program(&["make", "-"]).env("LD_PRELOAD", &library), LIST.as_bytes());
+    let lost =
+        "standard output: Input/output error (os error 5); let it lead to a file or a pipe that takes all of it\n";
+    assert_eq!((why.as_str(), status), (lost, 1));
+}
+
+#[test]
+fn running_out_of_memory_is_told() {
+    let folder = folder("memory");
+    let list = typed(&folder, "list.txt");
+    fs::write(&list, "rack 1\n".to_string() + &"#".repeat(15 << 20)).unwrap();
+    let mut limited = Command::new("sh");
+    limited.args(["-c", "ulimit -v 20000; exec \"$0\" plan \"$1\"", env!("CARGO_BIN_EXE_parts"), &list]);
+    limited.stdin(Stdio::piped()).stdout(Stdio::piped()).stderr(Stdio::piped());
+    let why = "there is not enough memory for this; close other programs, or split the file";
+    assert_eq!(run_with(&mut limited, b""), refused(why));
 }
 
 #[test]
@@ -102,7 +256,7 @@ fn plans_from_other_software_are_checked() {
                -:3: the list has no part C3; take it out, or correct its name";
     assert_eq!(run(&["check", &list, "-"], b"pairs 0\nC1 0\nC3 : 0\n"), refused(why));
     let why = format!(
-        "{list}: refused 25: C2 is no run: it lacks tip 1, which C1 has; take the table out to check tips and pairs"
+        "{list}: refused 25: C2 is no run: it lacks tip 1, which C1 has (with the tips in the order 0 2 1 every part is a run); take the table out to check tips and pairs"
     );
     fs::write(&list, "rack 3\nC1 : 1\nC2 : 0 2\n").unwrap();
     assert_eq!(run(&["check", &list, &plan], b""), refused(&why));
@@ -247,17 +401,29 @@ fn wrong_arguments_print_the_usage_of_their_command() {
         (&["show", "--all"], "parts show has no option --all", "show JOB"),
         (&["sort", "height"], "LIST is missing", "sort COLUMN LIST"),
         (&["sort", "height", "a", "b"], "`b` is a word too many", "sort COLUMN LIST"),
-        (&["keep", "1"], "FILE is missing", "keep K FILE [JOB] [--list LIST]"),
-        (&["keep", "1", "a", "b", "c"], "`c` is a word too many", "keep K FILE [JOB] [--list LIST]"),
-        (&["keep", "1", "a", "--list"], "--list needs LIST behind it", "keep K FILE [JOB] [--list LIST]"),
+        (&["keep", "1"], "FILE is missing", "keep K FILE [--job JOB] [--list LIST]"),
+        (
+            &["keep", "1", "a", "b"],
+            "`b` is a word too many; write the job file with --job b",
+            "keep K FILE [--job JOB] [--list LIST]",
+        ),
+        (&["keep", "1", "a", "--list"], "--list needs LIST behind it", "keep K FILE [--job JOB] [--list LIST]"),
         (
             &["keep", "1", "a", "--list", "b", "--list", "c"],
             "--list stands twice; name it once",
-            "keep K FILE [JOB] [--list LIST]",
+            "keep K FILE [--job JOB] [--list LIST]",
         ),
-        (&["keep", "1", "a", "--job", "b"], "parts keep has no option --job", "keep K FILE [JOB] [--list LIST]"),
-        (&["goal", "1"], "FILE is missing", "goal K FILE [JOB] [--list LIST]"),
-        (&["goal", "1", "a", "b", "c"], "`c` is a word too many", "goal K FILE [JOB] [--list LIST]"),
+        (
+            &["keep", "1", "a", "--jobs", "b"],
+            "parts keep has no option --jobs",
+            "keep K FILE [--job JOB] [--list LIST]",
+        ),
+        (&["goal", "1"], "FILE is missing", "goal K FILE [--job JOB] [--list LIST]"),
+        (
+            &["goal", "1", "a", "b"],
+            "`b` is a word too many; write the job file with --job b",
+            "goal K FILE [--job JOB] [--list LIST]",
+        ),
         (&["junior"], "FILE is missing", "junior FILE"),
         (&["junior", "a", "b"], "`b` is a word too many", "junior FILE"),
         (&["plan"], "FILE is missing", "plan FILE [--mounted T]"),
@@ -390,9 +556,9 @@ fn keep_writes_the_job_file_and_the_list() {
     fs::write(&list, BOARD).unwrap();
     let kept_list = "rack 2\nA h=2 : 0   # a\nB : 0\nC : 1\nD : 0\n";
     for arguments in [
-        &["keep", "1", &list, &job][..],
+        &["keep", "1", &list, "--job", &job][..],
         &["keep", "1", &list, "--list", &kept],
-        &["keep", "--list", &kept, "1", &list, &job],
+        &["keep", "--list", &kept, "1", &list, "-o", &job],
     ] {
         assert_eq!(run(arguments, b""), given(KEPT.as_bytes()));
         if arguments.contains(&job.as_str()) {
@@ -410,16 +576,92 @@ fn keep_writes_the_job_file_and_the_list() {
         assert_eq!(fs::read_to_string(&list).unwrap(), BOARD);
     }
     // Quantities stay in both forms, and a longer output of an earlier run is replaced whole.
-    fs::write(&job, [1; 5000]).unwrap();
+    fs::write(&job, [&EXAMPLE[..], &[1; 5000]].concat()).unwrap();
     let twice = BOARD.replace("A h=2", "A x2 h=2");
     let printed = KEPT.replace("A keeps", "A x2 keeps");
-    let arguments = ["keep", "1", "-", &job, "--list", &kept];
+    let arguments = ["keep", "1", "-", "--job", &job, "--list", &kept, "--force"];
     assert_eq!(run(&arguments, twice.as_bytes()), given(printed.as_bytes()));
     assert_eq!(run(&["show", &job], b""), given(b"rack 2\n0 x2 : 0\n1 : 0\n2 : 1\n3 : 0\n"));
     assert_eq!(fs::read_to_string(&kept).unwrap(), kept_list.replace("A h=2", "A x2 h=2"));
     // From a job file the list has line numbers.
-    assert_eq!(run(&["keep", "1", "-", "--list", &kept], &EXAMPLE).2, 0);
+    assert_eq!(run(&["keep", "1", "-", "--list", &kept, "--force"], &EXAMPLE).2, 0);
     assert_eq!(fs::read_to_string(&kept).unwrap(), "rack 3\n0 : 0\n1 : 1-2\n");
+}
+
+#[test]
+fn outputs_replace_only_job_files() {
+    let folder = folder("kept-files");
+    let (left, right) = (typed(&folder, "left.txt"), typed(&folder, "right.txt"));
+    let (third, job) = (typed(&folder, "third.txt"), typed(&folder, "panel.job"));
+    for list in [&left, &right, &third] {
+        fs::write(list, BOARD).unwrap();
+    }
+    fs::write(&job, "TIP old").unwrap();
+    let why = format!(
+        "{third}: this file is there already, and is no job file; name another one, or add --force to replace it"
+    );
+    for option in ["--job", "-o"] {
+        assert_eq!(run(&["panel", &left, &right, option, &third], b""), refused(&why));
+        assert_eq!(run(&["keep", "1", &left, option, &third], b""), refused(&why));
+        assert_eq!(run(&["goal", "1", &left, option, &third], b""), refused(&why));
+    }
+    assert_eq!(run(&["mend", "-", &third], &EXAMPLE), refused(&why));
+    assert_eq!(run(&["mend", "-", "-o", &third], &EXAMPLE), refused(&why));
+    assert_eq!(run(&["make", "-o", &third, &left], b""), refused(&why));
+    let why = format!("{third}: this file is there already; name another one, or add --force to replace it");
+    assert_eq!(run(&["keep", "1", &left, "--list", &third], b""), refused(&why));
+    assert_eq!(run(&["plan", &left, "-o", &third], b""), refused(&why));
+    let why = format!("{job}: this file is there already; name another one, or add --force to replace it");
+
+    assert_eq!(run(&["picture", &left, "-o", &job], b""), refused(&why));
+    assert_eq!((fs::read_to_string(&third).unwrap(), fs::read(&job).unwrap()), (BOARD.into(), b"TIP old".to_vec()));
+    // A job file replaces a job file; with --force every file is replaced but one that was read.
+    assert_eq!(run(&["panel", &left, &right, "--job", &job], b"").2, 0);
+    assert_eq!(run(&["show", &job], b"").0.split(|&byte| byte == b'\n').count(), 10);
+    assert_eq!(run(&["make", &left, &format!("-o={third}"), "--force"], b""), given(b""));
+    assert_eq!(run(&["show", &third], b""), given(b"rack 2\n0 : 0-1\n1 : 0\n2 : 1\n3 : 0\n"));
+    let why = format!("{left}: this is the file that was read; name another one to write");
+    assert_eq!(run(&["plan", &left, "-o", &left, "--force"], b""), refused(&why));
+    let why = wrong_argument("--job and -o name one file; take one of them out");
+    assert_eq!(run(&["keep", "1", &left, "-o", &job, "--job", &job], b""), why);
+    assert_eq!(names_in(&folder), ["left.txt", "panel.job", "right.txt", "third.txt"]);
+}
+
+#[test]
+fn options_take_their_value_behind_a_space_or_a_sign() {
+    for words in [&["plan", "-", "--mounted=1"][..], &["plan", "--mounted", "1", "-"]] {
+        assert!(run(words, LIST.as_bytes()).0.ends_with(b"tip 1 mounted\n"), "{words:?}");
+    }
+    let usage = "usage: parts plan FILE [--mounted T]\n`parts plan --help` says more";
+    for (words, what) in [
+        (&["plan", "-", "--force=1"][..], "--force takes nothing behind it"),
+        (&["plan", "-", "--mounted=1", "--mounted=2"], "--mounted stands twice; name it once"),
+        (&["plan", "-", "-o"], "-o needs OUT behind it"),
+        (&["plan", "-", "--unknown=1"], "parts plan has no option --unknown"),
+    ] {
+        assert_eq!(run(words, LIST.as_bytes()), wrong_argument(&format!("{what}\n{usage}")), "{words:?}");
+    }
+}
+
+#[test]
+fn file_names_need_not_be_text() {
+    let folder = folder("names");
+    let name = |bytes: &[u8]| folder.join(OsStr::from_bytes(bytes));
+    let (list, job) = (name(b"Gr\xfc\xdfe.txt"), name(b"Gr\xfc\xdfe.job"));
+    fs::write(&list, LIST).unwrap();
+    let typed = |words: &[&OsStr]| run_with(program(&[]).args(words), b"");
+    let made = typed(&["make".as_ref(), list.as_os_str(), "-o".as_ref(), job.as_os_str()]);
+    assert_eq!((made, fs::read(&job).unwrap()), (given(b""), EXAMPLE.to_vec()));
+    // What a name has of control characters is never printed.
+    let escaping = name(b"a\x1b[31m\n\xe2\x80\xae.txt");
+    let (_, why, status) = typed(&["plan".as_ref(), escaping.as_os_str()]);
+    assert_eq!(status, 1);
+    assert!(
+        why.ends_with("a\\u{1b}[31m\\u{a}\\u{202e}.txt: there is no such file or folder; correct the name\n"),
+        "{why}"
+    );
+    let why = typed(&["\u{1b}".as_ref()]).1;
+    assert_eq!(why, "parts has no command \\u{1b}; `parts --help` names its commands\n");
 }
 
 fn names_in(folder: &Path) -> Vec<String> {
@@ -432,10 +674,10 @@ fn names_in(folder: &Path) -> Vec<String> {
 #[test]
 fn refused_keep_leaves_the_file_as_it_is() {
     let job = typed(&folder("refused"), "out.job");
-    fs::write(&job, "old").unwrap();
+    fs::write(&job, "TIP old").unwrap();
     let why = "-: refused 26: margin -1, no plan is within k 0; the least k is 1";
-    assert_eq!(run(&["keep", "0", "-", &job], &EXAMPLE), refused(why));
-    assert_eq!(fs::read(&job).unwrap(), b"old");
+    assert_eq!(run(&["keep", "0", "-", "--job", &job], &EXAMPLE), refused(why));
+    assert_eq!(fs::read(&job).unwrap(), b"TIP old");
 }
 
 #[test]
@@ -449,11 +691,11 @@ fn list_that_was_read_is_never_written() {
     for name in ["list.txt", "./list.txt", "inner/../list.txt", "inner/link", "hard"] {
         let out = typed(&folder, name);
         let why = refused(&format!("{out}: this is the file that was read; name another one to write"));
-        assert_eq!(run(&["keep", "1", &list, &out], b""), why);
+        assert_eq!(run(&["keep", "1", &list, "--job", &out], b""), why);
         assert_eq!(run(&["keep", "1", &list, "--list", &out], b""), why);
         // The input by its other names, and as standard input.
-        assert_eq!(run(&["keep", "1", &out, &out], b""), why);
-        let stream = run_with(program(&["keep", "1", "-", &out]).stdin(File::open(&list).unwrap()), b"");
+        assert_eq!(run(&["keep", "1", &out, "--job", &out], b""), why);
+        let stream = run_with(program(&["keep", "1", "-", "--job", &out]).stdin(File::open(&list).unwrap()), b"");
         assert_eq!(stream, why);
     }
     assert_eq!(fs::read_to_string(&list).unwrap(), BOARD);
@@ -466,11 +708,11 @@ fn one_file_is_not_job_and_list() {
     for (job, list) in [("out", "out"), ("out", "./out")] {
         let (job, list) = (typed(&folder, job), typed(&folder, list));
         let why = wrong_argument(&format!("{list}: this is JOB and LIST; name two files"));
-        assert_eq!(run(&["keep", "1", "-", &job, "--list", &list], &EXAMPLE), why);
+        assert_eq!(run(&["keep", "1", "-", "--job", &job, "--list", &list], &EXAMPLE), why);
     }
     assert!(names_in(&folder).is_empty());
     let why = wrong_argument("-: this is standard input; name a file to write");
-    assert_eq!(run(&["keep", "1", "-", "-"], &EXAMPLE), why);
+    assert_eq!(run(&["keep", "1", "-", "--job", "-"], &EXAMPLE), why);
     assert_eq!(run(&["keep", "1", "-", "--list", "-"], &EXAMPLE), why);
 }
 
@@ -478,10 +720,10 @@ fn one_file_is_not_job_and_list() {
 fn written_file_keeps_its_link_and_its_permissions() {
     let folder = folder("links");
     let (job, link) = (typed(&folder, "out.job"), typed(&folder, "link"));
-    fs::write(&job, "old").unwrap();
+    fs::write(&job, "TIP old").unwrap();
     fs::set_permissions(&job, fs::Permissions::from_mode(0o640)).unwrap();
     symlink("out.job", &link).unwrap();
-    assert_eq!(run(&["keep", "1", "-", &link], &EXAMPLE).2, 0);
+    assert_eq!(run(&["keep", "1", "-", "--job", &link], &EXAMPLE).2, 0);
     assert_eq!(fs::read(&job).unwrap(), EXAMPLE);
     assert_eq!(fs::metadata(&job).unwrap().permissions().mode() & 0o777, 0o640);
     assert_eq!(fs::read_link(&link).unwrap().to_str(), Some("out.job"));
@@ -492,7 +734,7 @@ fn written_file_keeps_its_link_and_its_permissions() {
 fn file_that_cannot_be_written_is_named_and_nothing_is_left() {
     let folder = folder("failing");
     let (job, list) = (typed(&folder, "out.job"), typed(&folder, "kept.txt"));
-    fs::write(&job, "old").unwrap();
+    fs::write(&job, "TIP old").unwrap();
     let missing = typed(&folder, "no-such-folder/kept.txt");
     symlink("nowhere", folder.join("dangling")).unwrap();
     let dangling = typed(&folder, "dangling");
@@ -503,26 +745,26 @@ fn file_that_cannot_be_written_is_named_and_nothing_is_left() {
         ("/dev/full", "the disk is full; make room on it"),
     ] {
         let why = refused(&format!("{out}: {why}"));
-        assert_eq!(run(&["keep", "1", "-", out], &EXAMPLE), why);
+        assert_eq!(run(&["keep", "1", "-", "--job", out], &EXAMPLE), why);
         // The job file could be written, and is not, because the list cannot.
-        assert_eq!(run(&["keep", "1", "-", &job, "--list", out], &EXAMPLE), why);
-        assert_eq!(fs::read(&job).unwrap(), b"old");
+        assert_eq!(run(&["keep", "1", "-", "--job", &job, "--list", out], &EXAMPLE), why);
+        assert_eq!(fs::read(&job).unwrap(), b"TIP old");
         assert_eq!(names_in(&folder), ["dangling", "out.job"]);
     }
     // A limit of no bytes at all stands for a full disk; its signal is ignored, so that writing fails instead.
     let limited = "trap '' XFSZ; ulimit -f 0; exec \"$0\" \"$@\"";
     let mut program = Command::new("sh");
-    program.args(["-c", limited, env!("CARGO_BIN_EXE_parts"), "keep", "1", "-", &job, "--list", &list]);
+    program.args(["-c", limited, env!("CARGO_BIN_EXE_parts"), "keep", "1", "-", "--job", &job, "--list", &list]);
     program.stdin(Stdio::piped()).stdout(Stdio::piped()).stderr(Stdio::piped());
     let why = refused(&format!("{job}: File too large (os error 27)"));
     assert_eq!(run_with(&mut program, &EXAMPLE), why);
-    assert_eq!(fs::read(&job).unwrap(), b"old");
+    assert_eq!(fs::read(&job).unwrap(), b"TIP old");
     assert_eq!(names_in(&folder), ["dangling", "out.job"]);
 }
 
 #[test]
 fn pipe_is_written_to_as_it_is() {
-    let pipe = "parts=$1; printf 'rack 1\\nA : 0\\n' | $parts keep 0 - /dev/fd/3 3>&1 >/dev/null | $parts show -";
+    let pipe = "parts=$1; printf 'rack 1\\nA : 0\\n' | $parts keep 0 - --job /dev/fd/3 3>&1 >/dev/null | $parts show -";
     let mut program = Command::new("sh");
     program.args(["-c", pipe, "sh", env!("CARGO_BIN_EXE_parts")]);
     program.stdin(Stdio::null()).stdout(Stdio::piped()).stderr(Stdio::piped());
@@ -553,11 +795,11 @@ fn goal_writes_the_job_file_and_the_list() {
     let (job, kept) = (typed(&folder, "goal.job"), typed(&folder, "goal.txt"));
     let list = b"# board\nrack 2\nA x2 : 0\nB : 0-1 # either\n";
     let text = b"best 3 goal 3\nB keeps 0 struck 1\nno tip struck from 1 part\n";
-    assert_eq!(run(&["goal", "3", "-", &job, "--list", &kept], list), given(text));
+    assert_eq!(run(&["goal", "3", "-", "--job", &job, "--list", &kept], list), given(text));
     assert_eq!(fs::read(&kept).unwrap(), b"# board\nrack 2\nA x2 : 0\nB : 0   # either\n");
     assert_eq!(run(&["show", &job], b""), given(b"rack 2\n0 x2 : 0\n1 : 0\n"));
     let why = "-: refused 34: no plan has 4 pairs; the most is 3, name a goal from 0 to 3";
-    assert_eq!(run(&["goal", "4", "-", &job], list), refused(why));
+    assert_eq!(run(&["goal", "4", "-", "--job", &job], list), refused(why));
     assert_eq!(run(&["show", &job], b""), given(b"rack 2\n0 x2 : 0\n1 : 0\n"));
     for goal in ["", "-1", "4294967296", "1.5", "+1"] {
         let why = format!("a goal is a number from 0 to 4294967295, and not {goal}");
@@ -641,7 +883,7 @@ fn bash_completes_commands_and_options() {
     assert_eq!(completed(&["import", ""]), ["kicad", "openpnp", "csv"]);
     assert_eq!(completed(&["help", "import", "o"]), ["openpnp"]);
     assert_eq!(completed(&["completion", ""]), ["bash"]);
-    assert_eq!(completed(&["plan", "a", "--"]), ["--mounted", "--help"]);
+    assert_eq!(completed(&["plan", "a", "--"]), ["--mounted", "--force", "--help"]);
     assert_eq!(completed(&["import", "csv", "a", "--c"]), ["--columns"]);
     assert_eq!(completed(&["import", "csv", "a", "--side", "b"]), ["bottom", "both"]);
     // Files are completed by bash itself.

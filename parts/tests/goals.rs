@@ -44,7 +44,7 @@ fn goals_that_no_plan_meets_are_refused_with_the_most() {
 fn gaps_that_are_left_are_told() {
     let kept = named("rack 3\nA x255 : 0-2\nB x2 : 0\nC : 1\nD x2 : 2\n").goal(32_643).unwrap();
     let text = "best 32897 goal 32643\nA x255 keeps 0 2 struck 1\nno tip struck from 3 parts\n\
-                then best none, A is no run: it lacks tip 1, which C has\n";
+                then best none, A is no run: it lacks tip 1, which C has (with the tips in the order 0 2 1 every part is a run)\n";
     assert_eq!(kept.text, text);
     // Without C no part has tip 1 any more.
     let kept = named("rack 3\nA x255 : 0-2\nB x2 : 0\nD x2 : 2\n").goal(32_643).unwrap();
@@ -55,7 +55,7 @@ fn gaps_that_are_left_are_told() {
 fn lists_without_a_best_plan_are_refused() {
     let board = named("rack 3\nA : 1\nB : 0 2\n");
     for goal in [0, u32::MAX] {
-        let why = "refused 25: B is no run: it lacks tip 1, which A has; give B that tip to strike by a goal";
+        let why = "refused 25: B is no run: it lacks tip 1, which A has (with the tips in the order 0 2 1 every part is a run); give B that tip to strike by a goal";
         assert_eq!(board.goal(goal).err(), Some(why.into()));
     }
     let bad = Named { file: b"TIP\0\x01\x41\0\0".to_vec(), list: None };

@@ -106,6 +106,97 @@ fn sides_are_told_apart() {
 }
 
 #[test]
+fn side_without_a_placement_is_told() {
+    let file = "Ref,Val,Package,PosX,PosY,Rot,Side\nA,1,P,0,0,0,top\n";
+    let list = |file: &str, side| kicad_list(file, "rack 1\n* : 0\n", Sides::of(Some(side)).unwrap());
+    let why = |line, side| {
+        Err(vec![format!("{line}: no placement is on the {side}; take --side {side} out, or name another file")])
+    };
+    assert_eq!(list(file, "bottom"), why(2, "bottom"));
+    assert_eq!(list(&file.replace("top", "bottom"), "Top"), why(2, "top"));
+    assert_eq!(list("Ref,Val,Package,PosX,PosY,Rot,Side\n", "bottom"), why(1, "bottom"));
+    assert_eq!(list(file, "BOTH"), Ok("rack 1\nA : 0 # P 1\n".into()));
+}
+
+#[test]
+fn values_are_left_out_wherever_their_row_stands() {
+    let file = "Ref,Val,Package,PosX,PosY,Rot,Side\nA,1k,P,0,0,0,top\nB,DNP,P,0,0,0,top\nC,1k DNP,Q,0,0,0,top\n";
+    let list = |tips: &str| kicad_list(file, tips, Sides::Unsaid);
+    let left = "rack 1\n# left out: P DNP: B\n# left out: Q 1k DNP: C\nA : 0 # P 1k\n";
+    assert_eq!(list("rack 1\n* : 0\nskip value *DNP\n"), Ok(left.into()));
+    assert_eq!(list("skip value DNP\nskip value *?DNP\nrack 1\nP : 0\n"), Ok(left.into()));
+    // A package whose parts are all left out needs no row, and a part that is left out is not told with the others.
+    let why = "2: no row matches P, the package of A; add `P : TIPS` or `skip P` to the table";
+    assert_eq!(list("rack 1\nskip value *DNP\n"), Err(vec![why.into()]));
+    assert_eq!(list("rack 1\nP : 0\nskip value dnp\nskip Q\n").unwrap().lines().count(), 4);
+    // `value` alone is a package.
+    assert_eq!(list("rack 1\n* : 0\nskip value\n").unwrap().lines().count(), 4);
+    let unvalued = file.replace("1k DNP", "").replace("1k", "").replace("DNP", "");
+    let why = "2: no placement has a value, and the table leaves values out; add value=COLUMN to --columns";
+    assert_eq!(kicad_list(&unvalued, "rack 1\n* : 0\nskip value DNP\n", Sides::Unsaid), Err(vec![why.into()]));
+}
+
+/// The values of a position file of KiCad with these values as KiCad 6 writes them, which escapes nothing.
+fn values_of(values: &[&str]) -> Result<Vec<String>, Vec<String>> {
+    let row = |value: &&str| format!("\"J1\",\"{value}\",\"Conn\",1.0,-2.5,90.0,top\n");
+    let file = "Ref,Val,Package,PosX,PosY,Rot,Side\n".to_string() + &values.iter().map(row).collect::<String>();
+    let placements = kicad::placements_of(file.as_bytes()).map_err(told)?;
+    assert!(placements.iter().all(|placement| placement.reference == "J1" && placement.package == "Conn"));
+    Ok(placements.into_iter().map(|placement| placement.value).collect())
+}
+
+#[test]
+fn quotation_marks_and_commas_in_values_of_kicad_are_taken() {
+    let values = ["2.2\" TFT", "1/4\"", "\"A\"", "a,b", "a\",\"b", "a\",b", "\"", ",", "1/4\",2.2\" x", "10 kΩ", ""];
+    assert_eq!(values_of(&values), Ok(values.map(String::from).into()));
+    // Versions that escape them write two marks.
+    let file = "Ref,Val,Package,PosX,PosY,Rot,Side\n\"J1\",\"2.2\"\" TFT\",\"Conn\",1.0,-2.5,90.0,top\n";
+    assert_eq!(kicad::placements_of(file.as_bytes()).unwrap()[0].value, "2.2\" TFT");
+}
+
+#[test]
+fn bill_of_materials_of_kicad_is_taken() {
+    let bom = "\"Id\";\"Designator\";\"Footprint\";\"Quantity\";\"Designation\";\"Supplier and ref\";\n\
+               1;\"R1, R2\";\"R_0402\";2;\"10k 1/8\"W\";;;\n\
+               2;\"J1\";\"Conn\";1;\"2.2\" TFT\";;;\n";
+    let columns = Columns::of("ref=Designator,package=Footprint,value=Designation,quantity=Quantity").unwrap();
+    let placements = csv::placements_of(bom.as_bytes(), &columns).map_err(told).unwrap();
+    let read: Vec<[&str; 3]> = placements.iter().map(|at| [&at.reference[..], &at.package, &at.value]).collect();
+    let expected = [["R1", "R_0402", "10k 1/8\"W"], ["R2", "R_0402", "10k 1/8\"W"], ["J1", "Conn", "2.2\" TFT"]];
+    assert_eq!(read, expected);
+    // A field behind the last column that is not empty is a mistake as ever.
+    let why = "2: 8 fields; the first row has 7, give each row as many";
+    let bom = bom.replace(" 1/8\"W", "").replace(";;;\n2", ";;;x\n2");
+    assert_eq!(csv::placements_of(bom.as_bytes(), &columns).map_err(told), Err(vec![why.into()]));
+}
+
+#[test]
+fn columns_attributes_and_placements_have_limits() {
+    let columns = Columns::of("ref=c0,package=c1").unwrap();
+    let rows = |count: usize| {
+        let row = |cell: &dyn Fn(usize) -> String| (0..count).map(cell).collect::<Vec<_>>().join(",") + "\n";
+        row(&|column| format!("c{column}")) + &row(&|column| format!("x{column}"))
+    };
+    let read = |count| csv::placements_of(rows(count).as_bytes(), &columns).map_err(told);
+    assert_eq!(read(64).map(|placements| placements.len()), Ok(1));
+    assert_eq!(read(65), Err(vec!["1: 65 columns; 64 is the most, take out those that nobody needs".into()]));
+    let ranges = |count: usize| "c0,c1\n".to_string() + &"R1-R2000,P\n".repeat(count);
+    let read = |count| csv::placements_of(ranges(count).as_bytes(), &columns).map_err(told);
+    assert_eq!(read(50).map(|placements| placements.len()), Ok(100_000));
+    assert_eq!(read(51), Err(vec!["52: more than 100000 placements; split the file".into()]));
+    let element = |count: usize| {
+        let attributes: String = (0..count).map(|number| format!(" a{number}=\"1\"")).collect();
+        Element::read(format!("<a{attributes}/>").as_bytes()).map_err(|fault| told(vec![fault]))
+    };
+    assert!(element(64).is_ok());
+    assert_eq!(element(65), Err(vec!["1: more than 64 attributes in a; OpenPnP writes fewer".into()]));
+    assert!(element(200_000).is_err());
+    let elements = format!("<a>{}</a>", "<b/>".repeat(500_000));
+    let why = "1: more than 500000 elements; OpenPnP writes fewer";
+    assert_eq!(Element::read(elements.as_bytes()).map_err(|fault| told(vec![fault])), Err(vec![why.into()]));
+}
+
+#[test]
 fn parts_have_255_placements_at_most_and_lists_2048() {
     let list = |count: usize| {
         let placements = placed((0..count).map(|number| format!("R{number}")));
@@ -167,8 +258,8 @@ fn mistakes_of_a_table_have_their_lines() {
     assert_eq!(
         faults("rack 4\nA x2 : 0\n: 1\nskip\nskip A B\nA : 5\n"),
         [
-            "4: unknown words in `skip`; write `skip PATTERN`, one pattern a line",
-            "5: unknown words in `skip A B`; write `skip PATTERN`, one pattern a line",
+            "4: unknown words in `skip`; write `skip PATTERN` or `skip value PATTERN`, one pattern a line",
+            "5: unknown words in `skip A B`; write `skip PATTERN` or `skip value PATTERN`, one pattern a line",
             "6: tip 5 is outside the rack, whose tips are 0 to 3; take it out, or name a larger rack",
         ]
     );
@@ -191,10 +282,12 @@ fn mistakes_of_a_table_have_their_lines() {
 fn mistakes_of_the_text_of_kicad_have_their_lines() {
     let faults = |text: &str| told(kicad::placements_of(text.as_bytes()).unwrap_err());
     assert_eq!(faults(&POS.replace("## End\n", "")), ["18: no `## End`; the file is cut, export it again"]);
-    assert_eq!(
-        faults(&POS.replace("10uF  ", "10 uF ").replace("# Ref ", "#_Ref ").replace("## End", "## End\n\nC9")).len(),
-        14
-    );
+    let behind = faults(&POS.replace("## End", "## End\n\nC9"));
+    let why = "no line `# Ref Val Package PosX PosY Rot Side` above it; export the file again";
+    assert_eq!(behind, [format!("21: {why}")]);
+    // Without that line anywhere it is told once.
+    let why = "1: no line `# Ref Val Package PosX PosY Rot Side`; name a position file of KiCad, or export it again";
+    assert_eq!(faults(&POS.replace("# Ref ", "#_Ref ")), [why]);
     assert_eq!(
         faults(
             &POS.replace("10uF  ", "10 uF ")
@@ -240,8 +333,18 @@ fn range_of_references_has_each_of_them() {
     assert_eq!(references("R08-R11"), names("R08 R09 R10 R11"));
     let why = "2: `R1-R99999999999999999999` is more than 2048 references; correct it";
     assert_eq!(references("R1-R99999999999999999999"), Err(vec![why.to_string()]));
-    // A part of a second board on a panel, a name with a dash, and a range that runs backwards or stands still.
-    for field in ["R1-2", "J-A", "X1-Y2", "R4-R1", "R1-R1", "1-4"] {
+    // Backwards, standing still, with other signs between, and with letters in two sizes.
+    assert_eq!(references("R8-R5"), names("R5 R6 R7 R8"));
+    assert_eq!(references("R11-R08"), names("R08 R09 R10 R11"));
+    assert_eq!(references("R1-R1"), names("R1"));
+    for between in ["..", "...", "~", "\u{2013}", "\u{2014}", "\u{2011}"] {
+        assert_eq!(references(&format!("R8{between}R5")), names("R5 R6 R7 R8"), "{between}");
+    }
+    assert_eq!(references("r1-R2"), names("r1 r2"));
+    let why = "2: `-` alone is no reference; write a range as one word, as R1-R4";
+    assert_eq!(references("R1 - R4"), Err(vec![why.to_string()]));
+    // A part of a second board on a panel, and names with a dash.
+    for field in ["R1-2", "J-A", "X1-Y2", "1-4"] {
         assert_eq!(references(field), Ok(vec![field.to_string()]));
     }
     let counted = Columns::of("ref=1,package=2,quantity=3").unwrap();
@@ -256,7 +359,6 @@ fn list_without_a_placement_says_so() {
     let list = |rows: &str, sides| kicad_list(&format!("{head}{rows}"), "rack 1\nskip F\n* : 0\n", sides);
     let none = "rack 1\n# no placement is left\n";
     assert_eq!(list("", Sides::Unsaid), Ok(none.into()));
-    assert_eq!(list("A,1,P,0,0,0,top\n", Sides::of(Some("bottom")).unwrap()), Ok(none.into()));
     let left_out = "rack 1\n# left out: F 1: A\n# no placement is left\n";
     assert_eq!(list("A,1,F,0,0,0,top\n", Sides::Unsaid), Ok(left_out.into()));
 }

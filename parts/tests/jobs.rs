@@ -184,12 +184,13 @@ fn every_refusal_says_what_to_do() {
         (with(6, 2), "refused 9: the file names 514 lines and 512 is the most; split the parts list"),
         (
             EXAMPLE[..20].to_vec(),
-            "refused 10: the file names 2 lines, which take 24 bytes, and has 20; hand over the whole file and no more",
+            "refused 10: the file names 2 lines, which take 24 bytes, and has 20; hand over the whole file and no more, \
+             or mend it: parts mend",
         ),
         (
             with(4, 2),
             "refused 10: the file names 2 lines with quantities, which take 26 bytes, and has 24; hand over the whole \
-             file and no more",
+             file and no more, or mend it: parts mend",
         ),
         (without_placement, "refused 15: line 1 has quantity 0; write 1 to 255, or take the line out"),
         (too_many, "refused 30: 2052 placements with line 8; 2048 is the most, split the parts list"),

@@ -36,7 +36,7 @@ fn each_change_is_told_with_its_line() {
                 line 2: tip 3 cleared, outside the rack of 3\n\
                 line 3: dropped, it has no tip\n\
                 the file: 4 lines said, 2 written\n\
-                lines 2 rack 3, 6 changes\n";
+                lines 2 rack 3, 6 changes, 2 PARTS LOST\n";
     assert_eq!(text_of(&file), (text.into(), 26));
     let all = counted(1, 1, &[(u64::MAX, 1)]);
     assert_eq!(text_of(&all).0, "line 0: tips 1-63 cleared, outside the rack of 1\nlines 1 rack 1, 1 change\n");
@@ -49,7 +49,7 @@ fn lines_behind_the_placements_are_told() {
     let text = "line 8: dropped, with it there are more than 2048 placements\n\
                 line 9: dropped, it comes after line 8\n\
                 the file: 10 lines said, 8 written\n\
-                lines 8 rack 1, 3 changes\n";
+                lines 8 rack 1, 3 changes, 2 PARTS LOST\n";
     assert_eq!(text_of(&counted(1, 10, &lines)), (text.into(), 8 + 72));
 }
 
@@ -62,6 +62,22 @@ fn bytes_behind_are_counted() {
     assert_eq!(told(&file).as_deref(), Some("the file: 16 bytes after the first 8 left out"));
     file[7] = 9;
     assert_eq!(told(&file).as_deref(), Some("the file: 9 lines said, 2 written"));
+}
+
+#[test]
+fn lost_parts_are_counted() {
+    let lost = |file: &[u8]| mend(file).map(|mended| mended.lost);
+    assert_eq!(lost(&EXAMPLE), Ok(0));
+    // Tips and quantities are changes, and no part is lost with them.
+    assert_eq!(lost(&counted(3, 2, &[(0b1010, 1), (1, 0)])), Ok(0));
+    // A line without a tip, and lines that are said and not there.
+    assert_eq!(lost(&counted(3, 2, &[(0, 1), (1, 1)])), Ok(1));
+    assert_eq!(lost(&counted(3, 9, &[(1, 1), (1, 1)])), Ok(7));
+    // A whole line behind the last one is a part, unless it has no tip or one outside the rack.
+    assert_eq!(lost(&counted(3, 1, &[(1, 1), (2, 1), (4, 1)])), Ok(2));
+    assert_eq!(lost(&counted(3, 0, &[(1, 1), (2, 1), (4, 1)])), Ok(3));
+    assert_eq!(lost(&counted(3, 1, &[(1, 1), (0, 0), (8, 1)])), Ok(0));
+    assert_eq!(lost(&[&counted(3, 1, &[(1, 1)])[..], &[0; 8]].concat()), Ok(0));
 }
 
 #[test]

@@ -72,7 +72,7 @@ fn page_has_three_drawings_side_by_side() {
 fn refusals_stand_on_the_page() {
     let gap = page("rack 3\nA : 1\nB : 0 2\n", None);
     assert_eq!(
-        count(&gap, "<p class=\"refused\">There is no best plan: B is no run: it lacks tip 1, which A has.</p>\n"),
+        count(&gap, "<p class=\"refused\">There is no best plan: B is no run: it lacks tip 1, which A has (with the tips in the order 0 2 1 every part is a run).</p>\n"),
         1
     );
     assert_eq!(count(&gap, "<td>pairs</td><td class=\"number\">0</td><td class=\"number\">-</td>"), 1);

@@ -101,7 +101,7 @@ fn plan_names_both_tips_and_sums_up() {
 #[test]
 fn plan_names_the_line_that_is_no_run() {
     let text =
-        "lines 4 rack 3\noff 2 tips 0 1 2\nquick 1\nbest none, D is no run: it lacks tip 1, which A has\nA quick 1 best -\nB quick 2 best -\n\
+        "lines 4 rack 3\noff 2 tips 0 1 2\nquick 1\nbest none, D is no run: it lacks tip 1, which A has (with the tips in the order 1 0 2 every part is a run)\nA quick 1 best -\nB quick 2 best -\n\
          C quick 0 best -\nD quick 0 best -\n\n\
          tips used quick 3 best -\nparts on tip 0 quick 2 best -\nparts on tip 1 quick 1 best -\n\
          parts on tip 2 quick 1 best -\npairs quick 1 best -\ntip changes quick 2 best -, parts placed tip by tip\n";
@@ -118,9 +118,9 @@ fn tip_that_no_part_has_may_be_missing() {
     assert_eq!(named(board).plan(None), Ok(text.into()));
     // The first part that is no run, the lowest tip that it lacks, and the first part that has it.
     for (more, why) in [
-        ("E : 3\n", "A is no run: it lacks tip 3, which E has"),
-        (": 1 4\nF : 3\nG : 3\n", "A is no run: it lacks tip 3, which F has"),
-        (": 0-1\n: 0 4\n", "line 5 is no run: it lacks tip 1, which line 4 has"),
+        ("E : 3\n", "A is no run: it lacks tip 3, which E has (with the tips in the order 2 4 3 every part is a run)"),
+        (": 1 4\nF : 3\nG : 3\n", "A is no run: it lacks tip 3, which F has (with the tips in the order 1 4 2 3 every part is a run)"),
+        (": 0-1\n: 0 4\n", "line 5 is no run: it lacks tip 1, which line 4 has (with the tips in the order 1 0 4 2 every part is a run)"),
     ] {
         let plan = named(&(board.to_string() + more)).plan(None).unwrap();
         assert!(plan.contains(&format!("\nbest none, {why}\nA quick 4 best -\n")), "{plan}");
@@ -227,7 +227,7 @@ fn summary_without_parts_has_no_tip_change() {
 fn damaged_files_are_refused_in_words() {
     let damaged = Named { file: b"TIP\x00\x01\x03\x00\x02\x00".to_vec(), list: None };
     let why =
-        "refused 10: the file names 2 lines, which take 24 bytes, and has 9; hand over the whole file and no more";
+        "refused 10: the file names 2 lines, which take 24 bytes, and has 9; hand over the whole file and no more, or mend it: parts mend";
     assert_eq!(damaged.keep(1).err(), Some(why.into()));
     assert_eq!(damaged.plan(None), Err(why.into()));
     assert_eq!(damaged.picture(), Err(why.into()));

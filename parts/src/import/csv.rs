@@ -1,6 +1,7 @@
 //! Comma-separated text: a row of column names, then a row for each placement or for several of one kind.
 
 use crate::import::{fault, Faults, Placement, Side};
+use crate::limits::{self, MOST_COLUMNS};
 use crate::list::{lines_of, number_of, text_of};
 use crate::{counted, MOST_PLACEMENTS};
 
@@ -55,9 +56,12 @@ struct Row {
     fields: Vec<String>,
 }
 
+/// What takes the fields of a row that has more of them than it should, if it can.
+pub(super) type Apart = fn(&str) -> Option<Vec<String>>;
+
 /// The names of the columns, in the first row; none where something is wrong up to there.
 pub fn names_of(bytes: &[u8]) -> Option<Vec<String>> {
-    let (rows, faults) = rows_of(bytes);
+    let (rows, faults) = rows_of(bytes, |_| None);
     let head = rows.into_iter().next()?;
     (!is_above(&faults, head.line)).then_some(head.fields)
 }
@@ -68,15 +72,21 @@ fn is_above(faults: &Faults, line: usize) -> bool {
 }
 
 /// The rows that are not blank, the first with the names of the columns, and what is wrong with the others.
-fn rows_of(bytes: &[u8]) -> (Vec<Row>, Faults) {
+fn rows_of(bytes: &[u8], apart: Apart) -> (Vec<Row>, Faults) {
     let (mut rows, mut faults) = (Vec::new(), Vec::new());
-    let mut separator = None;
+    let mut head: Option<(char, usize)> = None;
     for (line, bytes) in (1..).zip(lines_of(bytes)) {
         let fields = text_of(bytes).map_err(|what| what.to_string()).and_then(|text| {
             if text.trim().is_empty() {
                 return Ok(Vec::new());
             }
-            fields_of(text, *separator.get_or_insert_with(|| separator_of(text)))
+            if let Some((separator, columns)) = head {
+                return row_of(text, separator, columns, apart);
+            }
+            let separator = separator_of(text);
+            let fields = fields_of(text, separator)?;
+            head = Some((separator, fields.len()));
+            Ok(fields)
         });
         match fields {
             Ok(fields) if fields.is_empty() => {}
@@ -92,6 +102,42 @@ fn separator_of(text: &str) -> char {
     let count = |separator: char| text.split('"').step_by(2).map(|part| part.matches(separator).count()).sum::<usize>();
     // Of equal counts the first one.
     SEPARATORS.into_iter().rev().max_by_key(|&separator| count(separator)).unwrap_or(',')
+}
+
+/// The fields of a row below the names of the columns. KiCad 6 leaves quotation marks inside a field as they are, and its
+/// bills of materials have empty fields behind the last column.
+fn row_of(text: &str, separator: char, columns: usize, apart: Apart) -> Result<Vec<String>, String> {
+    let fitting = |mut fields: Vec<String>| {
+        let is_longer = fields.len() > columns && fields[columns..].iter().all(String::is_empty);
+        fields.truncate(if is_longer { columns } else { fields.len() });
+        (fields.len() == columns).then_some(fields)
+    };
+    let fields = fields_of(text, separator);
+    let fits = fields.clone().ok().and_then(fitting);
+    let unescaped = || unescaped_fields_of(text, separator).and_then(fitting).or_else(|| apart(text).and_then(fitting));
+    fits.or_else(unescaped).map_or(fields, Ok)
+}
+
+/// The fields where a quotation mark closes one only before a separator or the end; nothing where one is not closed.
+fn unescaped_fields_of(text: &str, separator: char) -> Option<Vec<String>> {
+    let mut fields = Vec::new();
+    let mut rest = Some(text);
+    while let Some(text) = rest {
+        let (field, behind) = match text.trim_start_matches(' ').strip_prefix('"') {
+            Some(inside) => {
+                let is_closing = |place: &usize| {
+                    let behind = inside[place + 1..].trim_start_matches(' ');
+                    behind.is_empty() || behind.starts_with(separator)
+                };
+                let place = inside.match_indices('"').map(|(place, _)| place).find(is_closing)?;
+                (&inside[..place], inside[place + 1..].trim_start_matches(' ').strip_prefix(separator))
+            }
+            None => text.split_once(separator).map_or((text, None), |(field, behind)| (field, Some(behind))),
+        };
+        fields.push(field.trim().into());
+        rest = behind;
+    }
+    Some(fields)
 }
 
 fn fields_of(text: &str, separator: char) -> Result<Vec<String>, String> {
@@ -168,7 +214,12 @@ impl Found {
 
 /// The placements of the rows, or what is wrong, at most one fault a line.
 pub fn placements_of(bytes: &[u8], columns: &Columns) -> Result<Vec<Placement>, Faults> {
-    let (rows, mut faults) = rows_of(bytes);
+    placements_apart(bytes, columns, |_| None)
+}
+
+/// The same, with what takes rows apart that have too many fields.
+pub(super) fn placements_apart(bytes: &[u8], columns: &Columns, apart: Apart) -> Result<Vec<Placement>, Faults> {
+    let (rows, mut faults) = rows_of(bytes, apart);
     let Some((head, rows)) = rows.split_first() else {
         if faults.is_empty() {
             faults.push(fault(1, "no row; the first row has the names of the columns"));
@@ -178,10 +229,19 @@ pub fn placements_of(bytes: &[u8], columns: &Columns) -> Result<Vec<Placement>, 
     if is_above(&faults, head.line) {
         return Err(faults);
     }
+    if head.fields.len() > MOST_COLUMNS {
+        let what =
+            format!("{} columns; {MOST_COLUMNS} is the most, take out those that nobody needs", head.fields.len());
+        return Err(vec![fault(head.line, what)]);
+    }
     let found = Found::of(columns, &head.fields).map_err(|what| vec![fault(head.line, what)])?;
     let mut placements = Vec::new();
     for row in rows {
         match placements_in(row, &found, head.fields.len()) {
+            Ok(more) if placements.len() + more.len() > limits::MOST_PLACEMENTS => {
+                let what = format!("more than {} placements; split the file", limits::MOST_PLACEMENTS);
+                return Err(vec![fault(row.line, what)]);
+            }
             Ok(more) => placements.extend(more),
             Err(what) => faults.push(fault(row.line, what)),
         }
@@ -229,18 +289,23 @@ fn placements_in(row: &Row, found: &Found, columns: usize) -> Result<Vec<Placeme
     Ok(references.into_iter().map(placement).collect())
 }
 
+/// What may stand between both ends of a range.
+const RANGES: [&str; 8] = ["...", "..", "-", "\u{2010}", "\u{2011}", "\u{2013}", "\u{2014}", "~"];
+
 /// The references of a field, those of ranges as `R1-R4` too.
 fn references_in(field: &str) -> Result<Vec<String>, String> {
     let mut references = Vec::new();
     for word in field.split([',', ';', ' ', '\t']).filter(|word| !word.is_empty()) {
-        match range_of(word) {
+        if RANGES.contains(&word) {
+            return Err(format!("`{word}` alone is no reference; write a range as one word, as R1-R4"));
+        }
+        match Range::of(word) {
             None => references.push(word.into()),
-            Some((_, first, last)) if last - first >= MOST_PLACEMENTS => {
+            Some(range) if range.last - range.first >= MOST_PLACEMENTS => {
                 return Err(format!("`{word}` is more than {MOST_PLACEMENTS} references; correct it"));
             }
-            Some((letters, first, last)) => {
+            Some(Range { letters, digits, first, last }) => {
                 // Zeros in front stay, as in R01-R12.
-                let digits = word.find('-').unwrap_or_default() - letters.len();
                 references.extend((first..=last).map(|number| format!("{letters}{number:0digits$}")));
             }
         }
@@ -248,13 +313,26 @@ fn references_in(field: &str) -> Result<Vec<String>, String> {
     Ok(references)
 }
 
-/// The letters and both numbers of a range; `R1-2` is one reference, as on the second board of a panel.
-fn range_of(word: &str) -> Option<(&str, usize, usize)> {
-    let parted = |reference: &'_ str| reference.trim_end_matches(|c: char| c.is_ascii_digit()).len();
-    let (first, last) = word.split_once('-')?;
-    let ((letters, first), (others, last)) = (first.split_at(parted(first)), last.split_at(parted(last)));
-    let (first, last) = (number_of(first)?, number_of(last)?);
-    (!letters.is_empty() && letters == others && first < last).then_some((letters, first, last))
+/// References with the same letters and rising numbers.
+struct Range<'a> {
+    letters: &'a str,
+    /// The digits of the first number.
+    digits: usize,
+    first: usize,
+    last: usize,
+}
+
+impl Range<'_> {
+    /// The range of a word, whichever of its ends is first; `R1-2` is one reference, as on the second board of a panel.
+    fn of(word: &str) -> Option<Range<'_>> {
+        let (one, other) = RANGES.iter().find_map(|between| word.split_once(between))?;
+        let digits = |reference: &str| reference.trim_end_matches(|c: char| c.is_ascii_digit()).len();
+        let ((letters, one), (others, other)) = (one.split_at(digits(one)), other.split_at(digits(other)));
+        let (first, last) = (number_of(one)?, number_of(other)?);
+        let (digits, first, last) = if first <= last { (one.len(), first, last) } else { (other.len(), last, first) };
+        let is_range = !letters.is_empty() && letters.eq_ignore_ascii_case(others);
+        is_range.then_some(Range { letters, digits, first, last })
+    }
 }
 
 fn quantity_of(field: &str) -> Result<usize, String> {

@@ -29,13 +29,34 @@ pub fn placements_of(bytes: &[u8]) -> Result<Vec<Placement>, Faults> {
             return Err(vec![fault(1, what + ", and `parts import csv` takes other files")]);
         }
     }
-    csv::placements_of(bytes, &COLUMNS)
+    csv::placements_apart(bytes, &COLUMNS, fields_apart)
 }
+
+/// The fields of a row whose value has quotation marks and commas that KiCad 6 leaves as they are: the three fields in front
+/// have marks around them, and the four behind have none.
+fn fields_apart(row: &str) -> Option<Vec<String>> {
+    let mut behind = row.trim().rsplitn(5, ',');
+    let mut numbers: Vec<&str> = behind.by_ref().take(4).collect();
+    numbers.reverse();
+    let words = behind.next()?.trim().strip_prefix('"')?.strip_suffix('"')?;
+    let (reference, rest) = words.split_once(BETWEEN)?;
+    let (value, package) = rest.rsplit_once(BETWEEN)?;
+    Some([reference, value, package].into_iter().chain(numbers).map(|field| field.trim().into()).collect())
+}
+
+/// What is between two fields with marks around them.
+const BETWEEN: &str = "\",\"";
 
 /// The placements of the text with aligned columns, which has a line of names above them and `## End` below.
 fn aligned(bytes: &[u8]) -> Result<Vec<Placement>, Faults> {
     let (mut placements, mut faults) = (Vec::new(), Vec::new());
     let lines = lines_of(bytes);
+    if !lines.iter().any(|line| text_of(line).is_ok_and(is_line_of_names)) {
+        return Err(vec![fault(
+            1,
+            format!("no line `# {}`; name a position file of KiCad, or export it again", NAMES.join(" ")),
+        )]);
+    }
     // Where the packages begin, from the line of names up to the end.
     let mut packages = None;
     let mut is_ended = false;
@@ -51,7 +72,7 @@ fn aligned(bytes: &[u8]) -> Result<Vec<Placement>, Faults> {
             continue;
         }
         if let Some(comment) = text.strip_prefix('#') {
-            if comment.split_whitespace().eq(NAMES) {
+            if is_line_of_names(text) {
                 (packages, is_ended) = (text.find("Package"), false);
             } else if comment.split_whitespace().eq(["#", "End"]) {
                 (packages, is_ended) = (None, true);
@@ -74,6 +95,11 @@ fn aligned(bytes: &[u8]) -> Result<Vec<Placement>, Faults> {
     } else {
         Err(faults)
     }
+}
+
+/// Whether a line is the one with the names of the columns.
+fn is_line_of_names(text: &str) -> bool {
+    text.strip_prefix('#').is_some_and(|comment| comment.split_whitespace().eq(NAMES))
 }
 
 /// The placement of a line, in which packages begin at this column; KiCad writes `_` for the spaces in names.

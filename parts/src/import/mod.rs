@@ -2,6 +2,7 @@
 
 use std::collections::{HashMap, HashSet};
 
+use crate::letters::{is_invisible, shown};
 use crate::list::{is_taken, lines_of, Fault};
 use crate::{quantity_in_words, tips_in_words, MOST_LINES, MOST_PLACEMENTS, MOST_QUANTITY};
 
@@ -66,12 +67,12 @@ pub enum Sides {
 impl Sides {
     /// The sides of the option `--side`.
     pub fn of(word: Option<&str>) -> Result<Sides, String> {
-        match word {
-            None => Ok(Sides::Unsaid),
-            Some("top") => Ok(Sides::One(Side::Top)),
-            Some("bottom") => Ok(Sides::One(Side::Bottom)),
-            Some("both") => Ok(Sides::Both),
-            Some(word) => Err(format!("a side is top, bottom or both, and not {word}")),
+        let Some(word) = word else { return Ok(Sides::Unsaid) };
+        match word.to_ascii_lowercase().as_str() {
+            "top" => Ok(Sides::One(Side::Top)),
+            "bottom" => Ok(Sides::One(Side::Bottom)),
+            "both" => Ok(Sides::Both),
+            _ => Err(format!("a side is top, bottom or both, and not {}", shown(word))),
         }
     }
 
@@ -83,14 +84,28 @@ impl Sides {
         }
     }
 
-    /// The placements on these sides.
-    fn of_placements(self, placements: Vec<Placement>) -> Result<Vec<Placement>, Faults> {
+    /// The placements on these sides. Something else may be on a side too.
+    fn of_placements(
+        self,
+        placements: Vec<Placement>,
+        has_others: impl Fn(Side) -> bool,
+    ) -> Result<Vec<Placement>, Faults> {
         match self {
             Sides::Both => Ok(placements),
-            Sides::One(side) => match placements.iter().find(|placement| placement.side.is_none()) {
-                Some(placement) => Err(vec![fault(placement.line, "no side; take --side out, or name the sides")]),
-                None => Ok(placements.into_iter().filter(|placement| placement.side == Some(side)).collect()),
-            },
+            Sides::One(side) => {
+                if let Some(placement) = placements.iter().find(|placement| placement.side.is_none()) {
+                    return Err(vec![fault(placement.line, "no side; take --side out, or name the sides")]);
+                }
+                let line = placements.first().map_or(1, |placement| placement.line);
+                let on_side: Vec<Placement> =
+                    placements.into_iter().filter(|placement| placement.side == Some(side)).collect();
+                if on_side.is_empty() && !has_others(side) {
+                    let what =
+                        format!("no placement is on the {0}; take --side {0} out, or name another file", side.name());
+                    return Err(vec![fault(line, what)]);
+                }
+                Ok(on_side)
+            }
             Sides::Unsaid => {
                 let mut sided = placements.iter().filter_map(|placement| Some((placement, placement.side?)));
                 let Some((first, side)) = sided.next() else { return Ok(placements) };
@@ -167,13 +182,14 @@ fn list_of<'a>(
     let mut parts = Vec::new();
     for group in groups_of(placements.iter(), true) {
         match known(&group) {
-            Known::Nothing => _ = strange.insert(group.package),
+            Known::Nothing => _ = strange.insert((group.package, group.value)),
             Known::Skipped => text += &format!("# left out: {}\n", described(&group, &distinct(&group.references))),
             Known::Picked(picked) => parts.push((group, picked)),
         }
     }
     if !strange.is_empty() {
-        let strange = placements.iter().filter(|placement| strange.contains(placement.package.as_str()));
+        let is_strange = |placement: &&Placement| strange.contains(&(&placement.package[..], &placement.value[..]));
+        let strange = placements.iter().filter(is_strange);
         return Err(groups_of(strange, false).iter().map(|group| fault(group.line, unknown(group))).collect());
     }
     if parts.is_empty() {
@@ -235,8 +251,8 @@ fn distinct<'a>(words: &[&'a str]) -> Vec<&'a str> {
 }
 
 /// A reference as a name of a list: one word, with `_` for what no name has.
-fn name_of(reference: &str) -> String {
-    let is_foreign = |c: char| c.is_whitespace() || ":=#".contains(c);
+pub(crate) fn name_of(reference: &str) -> String {
+    let is_foreign = |c: char| c.is_whitespace() || is_invisible(c) || ":=#".contains(c);
     let name: String = reference.chars().map(|c| if is_foreign(c) { '_' } else { c }).collect();
     if is_taken(&name) {
         return name + "_";

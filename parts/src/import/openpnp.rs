@@ -45,15 +45,15 @@ impl Packages {
 
     /// The package of a part whose id begins with it, as R0402-10k, the longest where there are several.
     fn of_part(&self, part: &str) -> Option<&str> {
-        let begins = |package: &&String| {
-            part.strip_prefix(package.as_str()).is_some_and(|rest| rest.is_empty() || rest.starts_with('-'))
-        };
-        self.tips.keys().filter(begins).max_by_key(|package| package.len()).map(String::as_str)
+        let ends = part.match_indices('-').map(|(place, _)| place).chain([part.len()]);
+        let mut beginnings = ends.map(|end| &part[..end]).collect::<Vec<_>>().into_iter().rev();
+        beginnings.find_map(|beginning| self.tips.get_key_value(beginning)).map(|(package, _)| package.as_str())
     }
 
     /// The text of the parts list of a board, on these sides.
     pub fn list(&self, board: Board, parts: Option<&Parts>, sides: Sides) -> Result<String, Faults> {
-        let mut placements = sides.of_placements(board.placements)?;
+        let mut placements = sides
+            .of_placements(board.placements, |side| board.left_out.iter().any(|other| other.side == Some(side)))?;
         for placement in &mut placements {
             let part = &placement.value;
             let package = match parts {
@@ -106,6 +106,13 @@ impl Packages {
 
 /// The number of each tip of the rack.
 fn numbers_of<'a>(rack: &[&'a str], all: &[&str]) -> Result<HashMap<&'a str, usize>, String> {
+    if rack.len() > MOST_TIPS {
+        let tips = rack.len();
+        return Err(format!("{tips} tips; a rack has {MOST_TIPS} at most, name those of yours with --rack"));
+    }
+    if rack.is_empty() {
+        return Err("no package has a tip; give each its compatible nozzle tips in OpenPnP".into());
+    }
     let mut numbers = HashMap::new();
     for (number, tip) in rack.iter().enumerate().filter(|(_, tip)| **tip != EMPTY) {
         if !all.contains(tip) {
@@ -117,11 +124,7 @@ fn numbers_of<'a>(rack: &[&'a str], all: &[&str]) -> Result<HashMap<&'a str, usi
             return Err(format!("the tip {tip} stands twice in --rack; name each tip once"));
         }
     }
-    match rack.len() {
-        1..=MOST_TIPS => Ok(numbers),
-        0 => Err("no package has a tip; give each its compatible nozzle tips in OpenPnP".into()),
-        tips => Err(format!("{tips} tips; a rack has {MOST_TIPS} at most, name those of yours with --rack")),
-    }
+    Ok(numbers)
 }
 
 /// The parts, by their ids.

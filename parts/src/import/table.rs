@@ -1,11 +1,14 @@
 //! The table from packages to tips: a parts list with patterns for names, as `R_0402* height=0.5 : 0-1`, and lines as
-//! `skip Fiducial*` for packages that are left out. The first row that matches counts.
+//! `skip Fiducial*` for packages and `skip value DNP` for values that are left out. The first row that matches a package
+//! counts; a value is left out wherever its row stands.
 
 use crate::import::{distinct, fault, list_of, Faults, Group, Known, Picked, Placement, Sides};
 use crate::list::{lines_of, List, Part};
 
 /// The word that begins a row for packages that are left out.
 const SKIP: &str = "skip";
+/// The word behind it where the pattern is for values.
+const VALUE: &str = "value";
 
 /// A table without faults.
 #[derive(Clone, PartialEq, Eq, Debug)]
@@ -13,6 +16,14 @@ pub struct Table {
     pub rack: usize,
     /// In the order of the text.
     rows: Vec<Row>,
+    /// The patterns of the values that are left out.
+    skipped_values: Vec<String>,
+}
+
+/// What is left out by a row.
+enum Skipped {
+    Package(String),
+    Value(String),
 }
 
 #[derive(Clone, PartialEq, Eq, Debug)]
@@ -26,13 +37,14 @@ struct Row {
 impl Table {
     /// Reads a table, or gives what is wrong, at most one fault a line.
     pub fn read(bytes: &[u8]) -> Result<Table, Faults> {
-        let (mut rows, mut faults) = (Vec::new(), Vec::new());
+        let (mut rows, mut faults, mut skipped_values) = (Vec::new(), Vec::new(), Vec::new());
         // The rest keeps its line numbers.
         let mut rest = Vec::new();
         for (line, text) in (1..).zip(lines_of(bytes)) {
             match skipped_in(text) {
                 None => rest.extend_from_slice(text),
-                Some(Ok(pattern)) => rows.push(Row { pattern, picked: None, line }),
+                Some(Ok(Skipped::Package(pattern))) => rows.push(Row { pattern, picked: None, line }),
+                Some(Ok(Skipped::Value(pattern))) => skipped_values.push(pattern),
                 Some(Err(what)) => faults.push(fault(line, what)),
             }
             rest.push(b'\n');
@@ -57,7 +69,7 @@ impl Table {
         faults.sort_by_key(|fault| fault.line);
         rows.sort_by_key(|row| row.line);
         if faults.is_empty() {
-            Ok(Table { rack: list.rack, rows })
+            Ok(Table { rack: list.rack, rows, skipped_values })
         } else {
             Err(faults)
         }
@@ -74,9 +86,22 @@ impl Table {
 
     /// The text of the parts list of these placements, on these sides.
     pub fn list(&self, placements: Vec<Placement>, sides: Sides) -> Result<String, Faults> {
-        let placements = sides.of_placements(placements)?;
+        if let (false, Some(first)) = (self.skipped_values.is_empty(), placements.first()) {
+            if placements.iter().all(|placement| placement.value.is_empty()) {
+                let what = "no placement has a value, and the table leaves values out; add value=COLUMN to --columns";
+                return Err(vec![fault(first.line, what)]);
+            }
+        }
+        let placements = sides.of_placements(placements, |_| false)?;
         let head = format!("rack {}\n", self.rack);
-        list_of(&placements, head, |group| self.known(group.package), unknown)
+        list_of(&placements, head, |group| self.known_of(group), unknown)
+    }
+
+    fn known_of(&self, group: &Group) -> Known<'_> {
+        match self.skipped_values.iter().any(|pattern| matches(pattern, group.value)) {
+            true => Known::Skipped,
+            false => self.known(group.package),
+        }
     }
 }
 
@@ -94,16 +119,19 @@ fn pattern_of(package: &str) -> String {
     package.chars().map(|c| if c.is_whitespace() || ":=#".contains(c) { '?' } else { c }).collect()
 }
 
-/// The pattern of a line for packages that are left out, where it is one; other rows have a colon.
-fn skipped_in(line: &[u8]) -> Option<Result<String, String>> {
+/// What a line leaves out, where it leaves something out; other rows have a colon.
+fn skipped_in(line: &[u8]) -> Option<Result<Skipped, String>> {
     let content = std::str::from_utf8(line).ok()?.split('#').next().unwrap_or_default().trim();
     let mut words = content.split_whitespace();
     if words.next() != Some(SKIP) || content.contains(':') {
         return None;
     }
-    match (words.next(), words.next()) {
-        (Some(pattern), None) => Some(Ok(pattern.into())),
-        _ => Some(Err(format!("unknown words in `{content}`; write `{SKIP} PATTERN`, one pattern a line"))),
+    match (words.next(), words.next(), words.next()) {
+        (Some(pattern), None, None) => Some(Ok(Skipped::Package(pattern.into()))),
+        (Some(VALUE), Some(pattern), None) => Some(Ok(Skipped::Value(pattern.into()))),
+        _ => Some(Err(format!(
+            "unknown words in `{content}`; write `{SKIP} PATTERN` or `{SKIP} {VALUE} PATTERN`, one pattern a line"
+        ))),
     }
 }
 

@@ -1,8 +1,11 @@
 //! The XML that OpenPnP writes: elements, attributes, text, the five named entities, numbered characters and comments.
 
 use crate::import::fault;
+use crate::limits::{MOST_COLUMNS, MOST_ELEMENTS};
 use crate::list::Fault;
 
+/// The most letters of a text that are told with a mistake.
+const MOST_WORDS: usize = 40;
 /// The most elements inside one another.
 const MOST_DEPTH: usize = 64;
 
@@ -57,12 +60,16 @@ impl<'a> Reader<'a> {
             self.pass_behind("?>")?;
         }
         let mut open: Vec<Element> = Vec::new();
+        let mut count = 0;
         loop {
             let text = self.pass(self.rest.find('<').unwrap_or(self.rest.len()));
             match open.last_mut() {
                 Some(element) => element.text += &unescaped(text)?,
                 None if text.trim().is_empty() => {}
-                None => return Err(format!("`{}` is in no element; save the file as XML", text.trim())),
+                None => {
+                    let words: String = text.trim().chars().take(MOST_WORDS).collect();
+                    return Err(format!("`{words}` is in no element; save the file as XML"));
+                }
             }
             if self.rest.starts_with("<!--") {
                 self.pass_behind("-->")?;
@@ -77,6 +84,10 @@ impl<'a> Reader<'a> {
                 let name = open.pop().map_or("element".into(), |element| format!("`</{}>`", element.name));
                 return Err(format!("no {name} up to the end; the file is cut, copy it again"));
             } else {
+                count += 1;
+                if count > MOST_ELEMENTS {
+                    return Err(format!("more than {MOST_ELEMENTS} elements; OpenPnP writes fewer"));
+                }
                 let (element, is_whole) = self.element()?;
                 if is_whole {
                     Some(element)
@@ -147,6 +158,9 @@ impl<'a> Reader<'a> {
             let (attribute, value) = self.attribute()?;
             if attributes.iter().any(|(other, _)| *other == attribute) {
                 return Err(format!("a second {attribute} in {name}; take one out"));
+            }
+            if attributes.len() == MOST_COLUMNS {
+                return Err(format!("more than {MOST_COLUMNS} attributes in {name}; OpenPnP writes fewer"));
             }
             attributes.push((attribute, value));
         }
