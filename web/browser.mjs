@@ -123,7 +123,7 @@ async function drive() {
   // A job file, and a second board.
   await pick("file", listed);
   await same("a list that was picked", "plan", native("plan", listed));
-  await pick("second", example);
+  await pick("others", example, example);
   await holds("a panel is told", "at('panel-text').textContent.includes('first ')");
 
   // Names that would be markup are text.
@@ -142,6 +142,7 @@ async function drive() {
   await pick("file", big);
   await same("the largest board", "plan", native("plan", big));
   await holds("nothing is left to do", "at('busy').hidden");
+  await sleep(1000);
   const took = await value(`new Promise(done => { const begun = performance.now(), before = at('keep-text').textContent;
     const look = () => at('keep-text').textContent !== before ? done(performance.now() - begun) : setTimeout(look, 1);
     at('k').value = 1990; at('k').dispatchEvent(new Event('input')); look(); })`);

@@ -3,8 +3,8 @@ const at = id => document.getElementById(id);
 const words = bytes => new TextDecoder().decode(bytes);
 const WASM = "WASM_BASE64", EXAMPLE = EXAMPLE_TEXT, CALLS_SOURCE = CALLS_TEXT;
 const KEPT_TABLE = "tipshare-table";
-// What the page shows: the bytes of a job file that was opened, the second board, and the last answer.
-let opened_job = null, second = null, last = null;
+// What the page shows: the bytes of a job file that was opened, the other boards of a panel, and the last answer.
+let opened_job = null, others = [], last = null;
 
 // ---- the module runs in a worker, so that typing and scrolling never wait for it
 
@@ -46,20 +46,35 @@ const ask = (() => {
 
 // ---- what is planned
 
-let asked = 0;
+let asked = 0, moved = 0;
 async function plan(is_new) {
   const mine = ++asked;
   const list = await ask("list", at("name").textContent, opened_job ?? at("list").value, at("tips").value, columns(), at("side").value);
   if (mine !== asked) return;
   if (!list.ok) return refuse(list.why);
   const text = opened_job ?? list.fields[0];
-  const made = await ask("plan", text, at("mounted").value, is_new ? "" : at("k").value, is_new ? "" : at("goal").value);
+  const made = await ask("plan", text, at("mounted").value);
   if (mine !== asked) return;
   if (!made.ok) return refuse(made.why);
   show(text, made.fields, is_new);
-  if (is_new) {
-    await more(mine, text);
-  }
+  await struck();
+  if (mine === asked && is_new) await more(mine, text);
+}
+
+// What the sliders strike. Only the last of many steps is shown.
+async function struck() {
+  const mine = ++moved, { text, has_best } = last;
+  at("k-is").textContent = at("k").value;
+  at("goal-is").textContent = has_best ? at("goal").value : "-";
+  const kept = await ask("keep", text, at("k").value);
+  if (mine !== moved) return;
+  at("keep-text").textContent = kept.ok ? words(kept.fields[0]) : kept.why;
+  last.kept = kept.ok ? kept.fields[1] : null;
+  mark(last.kept);
+  const goal = has_best ? await ask("goal", text, at("goal").value) : { ok: false, why: "A goal needs a best plan." };
+  if (mine !== moved) return;
+  at("goal-text").textContent = goal.ok ? words(goal.fields[0]) : goal.why;
+  last.goal = goal.ok ? goal.fields[1] : null;
 }
 
 // What does not depend on a slider.
@@ -73,11 +88,55 @@ async function more(mine, text) {
 }
 
 async function panel(mine, text) {
-  if (!second) return;
-  const told = await ask("panel", text, second);
+  if (!others.length) return;
+  const told = await ask("panel", text, ...others.map(([, bytes]) => bytes));
   if (mine !== asked) return;
   at("panel-text").textContent = told.ok ? words(told.fields[0]) : told.why;
   last.panel = told.ok && told.fields[1].length ? told.fields[1] : null;
+}
+
+// ---- which tips are kept: a mark for each tip of each part, made of two paths, so that a slider's step is drawn at once
+
+const CELL = 22, HEAD = 26;
+
+// The sets of a job file, a bit a tip.
+function sets_of(job) {
+  const view = new DataView(job.buffer, job.byteOffset), line = view.getUint16(3) === 1 ? 8 : 9;
+  return Array.from({ length: view.getUint16(6) }, (_, at) => view.getBigUint64(8 + at * line));
+}
+
+function marks_of(sets, rack, shape) {
+  const found = [];
+  sets.forEach((set, row) => {
+    for (let tip = 0; tip < rack; tip++) if (set >> BigInt(tip) & 1n) found.push(shape(tip * CELL + 3, row * CELL + HEAD));
+  });
+  return found.join("");
+}
+
+function drawn(name, attributes, text = "") {
+  const made = document.createElementNS("http://www.w3.org/2000/svg", name);
+  for (const [key, value] of Object.entries(attributes)) made.setAttribute(key, value);
+  made.textContent = text;
+  return made;
+}
+
+function draw_kept(names, rack) {
+  const letters = Math.max(4, ...names.map(name => name.length)), left = 12 + 9 * letters;
+  const size = { width: left + rack * CELL + 8, height: HEAD + names.length * CELL + 8 };
+  const svg = drawn("svg", { ...size, viewBox: `0 0 ${size.width} ${size.height}` });
+  for (let tip = 0; tip < rack; tip++) svg.append(drawn("text", { x: left + tip * CELL + 11, y: 17, "text-anchor": "middle" }, tip));
+  names.forEach((name, row) => svg.append(drawn("text", { x: 6, y: HEAD + row * CELL + 15 }, name)));
+  const grid = drawn("g", { transform: `translate(${left} 0)` });
+  grid.append(drawn("path", { id: "stays", class: "stays" }), drawn("path", { id: "struck", class: "struck" }));
+  svg.append(grid);
+  at("kept").replaceChildren(svg);
+}
+
+function mark(kept) {
+  const before = sets_of(last.job), rack = last.job[5];
+  const after = kept ? sets_of(kept) : before;
+  at("stays").setAttribute("d", marks_of(after, rack, (x, y) => `M${x} ${y + 3}h16v16h-16z`));
+  at("struck").setAttribute("d", marks_of(before.map((set, row) => set & ~after[row]), rack, (x, y) => `M${x + 3} ${y + 6}l10 10m0-10l-10 10`));
 }
 
 function row(body, cells) {
@@ -90,19 +149,10 @@ function show(text, fields, is_new) {
   const [rack, parts, placements, least] = told.slice(0, 4).map(Number);
   const [quick, best] = [told.slice(4, 8), told.slice(8, 12)];
   const [no_best, drawing] = [told[12], told[13]];
-  const best_pairs = best[0] === "-" ? null : Number(best[0]);
+  const has_best = best[0] !== "-";
   at("faults").replaceChildren();
   at("shown").hidden = false;
-  if (is_new) {
-    Object.assign(at("k"), { min: 0, max: placements, value: least });
-    Object.assign(at("goal"), { min: 0, max: best_pairs ?? 0, disabled: best_pairs === null, value: best_pairs ?? 0 });
-    const tips = Array.from({ length: rack }, (_, tip) => tip), chosen = at("mounted").value;
-    at("mounted").replaceChildren(new Option("none", ""), ...tips.map(tip => new Option(tip, tip)));
-    at("mounted").value = rack > Number(chosen) ? chosen : "";
-    at("if-tip").replaceChildren(...tips.map(tip => new Option(tip, tip)));
-  }
-  at("k-is").textContent = at("k").value;
-  at("goal-is").textContent = best_pairs === null ? "-" : at("goal").value;
+  at("counts").textContent = `${parts} parts, ${placements} placements, a rack of ${rack} tips`;
   const body = at("numbers").tBodies[0];
   body.replaceChildren();
   row(body, ["quick", ...quick]);
@@ -110,14 +160,18 @@ function show(text, fields, is_new) {
   at("no-best").textContent = no_best ? `There is no best plan: ${no_best}.` : "";
   at("picture").innerHTML = drawing;
   at("plan").textContent = told[16];
-  at("keep-text").textContent = told[17];
-  at("goal-text").textContent = best_pairs === null ? "A goal needs a best plan." : told[19];
-  last = { text, job: fields[14], csv: fields[15], kept: fields[18], drawing, numbers: { quick, best }, panel: null };
-  if (is_new) {
-    const names = rows_of(last.csv).map(cells => cells[0]);
-    at("if-part").replaceChildren(...names.map((name, line) => new Option(name, line)));
-    at("if").tBodies[0].replaceChildren();
-  }
+  last = { text, job: fields[14], csv: fields[15], kept: null, drawing, numbers: { quick, best }, has_best, panel: null };
+  if (!is_new) return;
+  Object.assign(at("k"), { min: 0, max: placements, value: least });
+  Object.assign(at("goal"), { min: 0, max: has_best ? best[0] : 0, disabled: !has_best, value: has_best ? best[0] : 0 });
+  const tips = Array.from({ length: rack }, (_, tip) => tip), chosen = at("mounted").value;
+  at("mounted").replaceChildren(new Option("none", ""), ...tips.map(tip => new Option(tip, tip)));
+  at("mounted").value = rack > Number(chosen) ? chosen : "";
+  at("if-tip").replaceChildren(...tips.map(tip => new Option(tip, tip)));
+  const names = rows_of(last.csv).map(cells => cells[0]);
+  at("if-part").replaceChildren(...names.map((name, line) => new Option(name, line)));
+  at("if").tBodies[0].replaceChildren();
+  draw_kept(names, rack);
 }
 
 // The rows of the plan as CSV, without its head.
@@ -245,29 +299,16 @@ function save(name, bytes, type) {
   setTimeout(() => URL.revokeObjectURL(link.href), 10000);
 }
 
-// The drawing has a piece for each part of a page: one picture has them one above the other.
-function whole_drawing() {
-  const pieces = [...at("picture").querySelectorAll("svg")].map(piece => piece.cloneNode(true));
-  let height = 0, width = 0;
-  for (const piece of pieces) {
-    piece.setAttribute("y", height);
-    height += Number(piece.getAttribute("height"));
-    width = Math.max(width, Number(piece.getAttribute("width")));
-  }
-  const inside = pieces.map(piece => new XMLSerializer().serializeToString(piece)).join("\n");
-  const size = `width="${width}" height="${height}" viewBox="0 0 ${width} ${height}"`;
-  return { width, height, text: `<svg xmlns="http://www.w3.org/2000/svg" ${size}>\n${inside}\n</svg>\n` };
-}
-
 function save_png() {
-  const { width, height, text } = whole_drawing(), image = new Image();
+  const shown = at("picture").querySelector("svg"), image = new Image();
+  const [width, height] = ["width", "height"].map(name => Number(shown.getAttribute(name)));
   image.onload = () => {
     const canvas = document.createElement("canvas");
     Object.assign(canvas, { width, height });
     canvas.getContext("2d").drawImage(image, 0, 0);
     canvas.toBlob(png => save(stem() + ".png", png, "image/png"));
   };
-  image.src = "data:image/svg+xml;base64," + btoa(String.fromCharCode(...new TextEncoder().encode(text)));
+  image.src = "data:image/svg+xml;base64," + btoa(Array.from(new TextEncoder().encode(last.drawing), byte => String.fromCharCode(byte)).join(""));
 }
 
 function plan_as_json() {
@@ -280,11 +321,12 @@ function plan_as_json() {
 
 const SAVES = {
   job: () => save(stem() + ".job", last.job, "application/octet-stream"),
-  kept: () => last.kept.length && save(stem() + "-kept.job", last.kept, "application/octet-stream"),
+  kept: () => last.kept && save(stem() + "-kept.job", last.kept, "application/octet-stream"),
+  goal: () => last.goal && save(stem() + "-goal.job", last.goal, "application/octet-stream"),
   text: () => save(stem() + ".txt", opened_job ? at("list").value : last.text, "text/plain"),
   csv: () => save(stem() + "-plan.csv", last.csv, "text/csv"),
   json: () => save(stem() + "-plan.json", plan_as_json(), "application/json"),
-  svg: () => save(stem() + ".svg", whole_drawing().text, "image/svg+xml"),
+  svg: () => save(stem() + ".svg", last.drawing, "image/svg+xml"),
   png: save_png,
   page: async () => save(stem() + ".html", (await ask("page", at("name").textContent, last.text)).fields[0], "text/html"),
   panel: () => last.panel && save(stem() + "-panel.job", last.panel, "application/octet-stream"),
@@ -307,14 +349,13 @@ async function what_if(rack, line, tip) {
 function begin() {
   at("list").oninput = () => { opened_job = null; plan(true); };
   at("tips").oninput = table_changed;
-  at("k").oninput = at("goal").oninput = at("mounted").onchange = () => plan(false);
+  at("k").oninput = at("goal").oninput = struck;
+  at("mounted").onchange = () => plan(false);
   for (const id of ["side", "c-reference", "c-package", "c-value"]) at(id).onchange = () => plan(true);
   at("file").onchange = event => load(event.target.files, "list");
-  at("second").onchange = async event => {
-    const file = event.target.files[0];
-    if (!file) return;
-    second = new Uint8Array(await file.arrayBuffer());
-    at("second-name").textContent = file.name;
+  at("others").onchange = async event => {
+    others = await Promise.all(Array.from(event.target.files, async file => [file.name, new Uint8Array(await file.arrayBuffer())]));
+    at("others-names").textContent = others.map(([name]) => name).join(", ") || "none";
     if (last) await panel(asked, last.text);
   };
   for (const area of document.querySelectorAll(".drop")) {

@@ -41,6 +41,8 @@ const walk = folder => {
 walk("checklist");
 for (const file of files) {
   const bytes = fs.readFileSync(file);
+  // Of a file without bytes the program tells by its name what it should be; these calls have no name.
+  if (!bytes.length) continue;
   for (const command of ["plan", "picture", "make", "order", "junior"]) {
     if (command === "make" && bytes.subarray(0, 3).toString() === "TIP") continue;
     same(`${command} ${file}`, native(command, file), call(command === "plan" ? "text" : command, bytes));

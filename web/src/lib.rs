@@ -11,9 +11,10 @@ use parts::import::openpnp::{Board, Packages, Parts};
 use parts::import::table::Table;
 use parts::import::{is_foreign, kicad, Sides};
 use parts::job::{has_mark, job_of, list_in_words};
+use parts::limits::too_large;
 use parts::list::{Fault, List};
-use parts::panel::Panel;
-use parts::planning::{Named, Plan, Plans};
+use parts::panel::{Merged, Panel};
+use parts::planning::{Kept, Named, Plan, Plans};
 use parts::tips_in_words;
 
 /// What is wrong is told of this many lines.
@@ -94,16 +95,17 @@ fn answer_of(fields: &[&[u8]]) -> Result<Vec<Vec<u8>>, String> {
         [b"list", name, bytes, table, columns, side] => text(list(name, bytes, table, columns, side)?),
         [b"columns", bytes] => text(csv::names_of(bytes).unwrap_or_default().join("\n")),
         [b"openpnp", packages, board, parts, side] => text(openpnp(packages, board, parts, side)?),
-        [b"plan", list, mounted, k, goal] => planned(&named(list)?, number_of(mounted), number_of(k), number_of(goal)),
+        [b"plan", list, mounted] => planned(&named(list)?, number_of(mounted)),
         [b"changed", list, rack, line, tip] => changed(read(list)?, number_of(rack), number_of(line), number_of(tip)),
         [b"text", list] => text(named(list)?.plan(None)?),
-        [b"keep", list, k] => text(named(list)?.keep(number_of(k).ok_or("k is a number from 0 to 65535")?)?.text),
+        [b"keep", list, k] => kept(named(list)?.keep(number_of(k).ok_or("k is a number from 0 to 65535")?)?),
+        [b"goal", list, goal] => kept(named(list)?.goal(number_of(goal).ok_or("a goal is a number of pairs")?)?),
         [b"picture", list] => text(named(list)?.picture()?),
         [b"page", name, list] => text(named(list)?.page(&String::from_utf8_lossy(name), None)?),
         [b"make", list] => Ok(vec![named(list)?.file]),
         [b"order", list] => text(read(list)?.order()?),
         [b"junior", list] => text(named(list)?.junior()?),
-        [b"panel", first, second] => panel(&named(first)?, &named(second)?),
+        [b"panel", boards @ ..] => panel(&boards.iter().map(|list| named(list)).collect::<Result<Vec<_>, _>>()?),
         _ => Err("an unknown command".into()),
     }
 }
@@ -124,6 +126,9 @@ fn faulty<W: Display>(name: &str, faults: &[Fault<W>]) -> String {
 /// The parts list of a file: a list, a job file, a file of KiCad, or a table with named columns.
 fn list(name: &[u8], bytes: &[u8], table: &[u8], columns: &[u8], side: &[u8]) -> Result<String, String> {
     let [name, columns, side] = [name, columns, side].map(String::from_utf8_lossy);
+    if let Some(why) = too_large(bytes).or_else(|| too_large(table)) {
+        return Err(format!("{name}: {why}"));
+    }
     if has_mark(bytes) {
         return Ok(list_in_words(&job_of(bytes)?));
     }
@@ -195,32 +200,27 @@ fn changes_along(mounted: Option<usize>, tips: &[u8]) -> usize {
     first + between
 }
 
-/// Without a k it is the least that is not refused, without a goal the pairs of a best plan. In this order: rack, parts, placements, the least k, the numbers of both plans, why there is no best plan, the drawing, the
-/// job file, the plan as CSV, the plan in words, what keep leaves in words, its job file, what the goal leaves in words.
-fn planned(named: &Named, mounted: Option<usize>, k: Option<u16>, goal: Option<u32>) -> Result<Vec<Vec<u8>>, String> {
+/// In this order: rack, parts, placements, the least k, the numbers of both plans, why there is no best plan, the drawing, the
+/// job file, the plan as CSV, the plan in words.
+fn planned(named: &Named, mounted: Option<usize>) -> Result<Vec<Vec<u8>>, String> {
     let plans = named.plans(mounted)?;
-    let least = u16::try_from(plans.common.off).unwrap_or(u16::MAX);
-    let k = k.unwrap_or(least);
-    let kept = named.keep(k);
-    let kept_job = kept.as_ref().ok().and_then(|kept| job_of(&kept.file).ok());
-    let sizes = [plans.job.rack, plans.job.lines.len(), plans.job.placements(), least.into()];
+    let sizes = [plans.job.rack, plans.job.lines.len(), plans.job.placements(), plans.common.off as usize];
     let mut answer: Vec<Vec<u8>> = sizes.iter().map(|size| size.to_string().into_bytes()).collect();
     answer.extend(numbers_of(&plans));
     let no_best = plans.best.as_ref().err().map_or(String::new(), |&line| named.no_run(&plans.job, line));
-    let goal = goal.or(plans.best.as_ref().ok().and_then(|best| u32::try_from(best.pairs).ok()));
-    let struck = goal.map_or(String::new(), |goal| named.goal(goal).map_or_else(|why| why, |left| left.text));
-    let (kept_text, kept_file) = kept.map_or_else(|why| (why, Vec::new()), |kept| (kept.text, kept.file));
     answer.extend([
         no_best.into_bytes(),
-        named.pieces(&plans, k, kept_job.as_ref()).0.into_bytes(),
+        named.drawing_of(&plans).into_bytes(),
         named.file.clone(),
         table_of(named, &plans).into_bytes(),
         named.plan(mounted)?.into_bytes(),
-        kept_text.into_bytes(),
-        kept_file,
-        struck.into_bytes(),
     ]);
     Ok(answer)
+}
+
+/// What is left in words, and its job file.
+fn kept(kept: Kept) -> Result<Vec<Vec<u8>>, String> {
+    Ok(vec![kept.text.into_bytes(), kept.file])
 }
 
 /// The plans of the list as it is and of another one: with this rack, or with this line allowed on one more tip.
@@ -235,11 +235,13 @@ fn changed(list: List, rack: Option<usize>, line: Option<usize>, tip: Option<usi
     Ok([numbers_of(&before), numbers_of(&after)].concat())
 }
 
-/// What is said of two boards, and the job file of their panel.
-fn panel(first: &Named, second: &Named) -> Result<Vec<Vec<u8>>, String> {
-    let Panel { alone, merged } = Panel::of(first, second)?;
-    let (words, file) = merged.unwrap_or_else(|why| (why + "\n", Vec::new()));
-    Ok(vec![(alone + &words).into_bytes(), file])
+/// What is said of the boards, the job file of their panel and its list; nothing of either where there is no panel.
+fn panel(boards: &[Named]) -> Result<Vec<Vec<u8>>, String> {
+    let Panel { alone, merged } = Panel::of(&boards.iter().collect::<Vec<_>>())?;
+    Ok(match merged {
+        Ok(Merged { text, file, list }) => vec![(alone + &text).into_bytes(), file, list.into_bytes()],
+        Err(why) => vec![(alone + &why + "\n").into_bytes(), Vec::new(), Vec::new()],
+    })
 }
 
 /// The plan as a table, a row a part.
