@@ -135,3 +135,4 @@ clean:
 	rm -rf target target-rust crates/*/out
 
 include targets/rules.mk
+include web/rules.mk

@@ -359,23 +359,23 @@ pub mod on_slices {
     // Safety of every call below: a slice is a valid pointer with its length, and no two slices overlap.
 
     pub fn read(file: &[u8], answer: &mut [u64]) -> u32 {
-        unsafe { declared::tipshare_read(file.as_ptr(), file.len(), answer.as_mut_ptr(), answer.len()) }
+        unsafe { declared::tipshare_read(file.as_ptr(), file.len() as u64, answer.as_mut_ptr(), answer.len() as u64) }
     }
 
     pub fn common(file: &[u8], answer: &mut [u64]) -> u32 {
-        unsafe { declared::tipshare_common(file.as_ptr(), file.len(), answer.as_mut_ptr(), answer.len()) }
+        unsafe { declared::tipshare_common(file.as_ptr(), file.len() as u64, answer.as_mut_ptr(), answer.len() as u64) }
     }
 
     pub fn keep(file: &[u8], k: u16, out: &mut [u8], answer: &mut [u64]) -> u32 {
         unsafe {
             declared::tipshare_keep(
                 file.as_ptr(),
-                file.len(),
+                file.len() as u64,
                 k,
                 out.as_mut_ptr(),
-                out.len(),
+                out.len() as u64,
                 answer.as_mut_ptr(),
-                answer.len(),
+                answer.len() as u64,
             )
         }
     }
@@ -384,12 +384,12 @@ pub mod on_slices {
         unsafe {
             declared::tipshare_goal(
                 file.as_ptr(),
-                file.len(),
+                file.len() as u64,
                 goal,
                 out.as_mut_ptr(),
-                out.len(),
+                out.len() as u64,
                 answer.as_mut_ptr(),
-                answer.len(),
+                answer.len() as u64,
             )
         }
     }
@@ -398,12 +398,12 @@ pub mod on_slices {
         unsafe {
             declared::tipshare_quick(
                 file.as_ptr(),
-                file.len(),
-                mounted,
+                file.len() as u64,
+                of_tip(mounted),
                 plan.as_mut_ptr(),
-                plan.len(),
+                plan.len() as u64,
                 answer.as_mut_ptr(),
-                answer.len(),
+                answer.len() as u64,
             )
         }
     }
@@ -412,14 +412,14 @@ pub mod on_slices {
         unsafe {
             declared::tipshare_best(
                 file.as_ptr(),
-                file.len(),
-                mounted,
+                file.len() as u64,
+                of_tip(mounted),
                 plan.as_mut_ptr(),
-                plan.len(),
+                plan.len() as u64,
                 table.as_mut_ptr(),
-                table.len(),
+                table.len() as u64,
                 answer.as_mut_ptr(),
-                answer.len(),
+                answer.len() as u64,
             )
         }
     }
@@ -428,14 +428,14 @@ pub mod on_slices {
         unsafe {
             declared::tipshare_check(
                 file.as_ptr(),
-                file.len(),
+                file.len() as u64,
                 plan.as_ptr(),
-                plan.len(),
+                plan.len() as u64,
                 claim,
                 table.as_ptr(),
-                table.len(),
+                table.len() as u64,
                 answer.as_mut_ptr(),
-                answer.len(),
+                answer.len() as u64,
             )
         }
     }
@@ -444,11 +444,11 @@ pub mod on_slices {
         unsafe {
             declared::tipshare_junior(
                 file.as_ptr(),
-                file.len(),
+                file.len() as u64,
                 plan.as_mut_ptr(),
-                plan.len(),
+                plan.len() as u64,
                 answer.as_mut_ptr(),
-                answer.len(),
+                answer.len() as u64,
             )
         }
     }
@@ -457,13 +457,13 @@ pub mod on_slices {
         unsafe {
             declared::tipshare_merge(
                 first.as_ptr(),
-                first.len(),
+                first.len() as u64,
                 second.as_ptr(),
-                second.len(),
+                second.len() as u64,
                 out.as_mut_ptr(),
-                out.len(),
+                out.len() as u64,
                 answer.as_mut_ptr(),
-                answer.len(),
+                answer.len() as u64,
             )
         }
     }
@@ -472,13 +472,13 @@ pub mod on_slices {
         unsafe {
             declared::tipshare_alone(
                 first.as_ptr(),
-                first.len(),
+                first.len() as u64,
                 second.as_ptr(),
-                second.len(),
+                second.len() as u64,
                 plan.as_mut_ptr(),
-                plan.len(),
+                plan.len() as u64,
                 answer.as_mut_ptr(),
-                answer.len(),
+                answer.len() as u64,
             )
         }
     }
@@ -487,13 +487,13 @@ pub mod on_slices {
         unsafe {
             declared::tipshare_mend(
                 file.as_ptr(),
-                file.len(),
+                file.len() as u64,
                 out.as_mut_ptr(),
-                out.len(),
+                out.len() as u64,
                 report.as_mut_ptr(),
-                report.len(),
+                report.len() as u64,
                 answer.as_mut_ptr(),
-                answer.len(),
+                answer.len() as u64,
             )
         }
     }
@@ -502,124 +502,138 @@ pub mod on_slices {
         unsafe {
             declared::tipshare_order(
                 parts.as_ptr(),
-                parts.len(),
+                parts.len() as u64,
                 rules.as_ptr(),
-                rules.len(),
+                rules.len() as u64,
                 order.as_mut_ptr(),
-                order.len(),
+                order.len() as u64,
                 answer.as_mut_ptr(),
-                answer.len(),
+                answer.len() as u64,
             )
         }
     }
 
     pub fn report(file: &[u8], out: &mut [u8]) -> usize {
-        unsafe { declared::tipshare_report(file.as_ptr(), file.len(), out.as_mut_ptr(), out.len()) }
+        unsafe {
+            declared::tipshare_report(file.as_ptr(), file.len() as u64, out.as_mut_ptr(), out.len() as u64) as usize
+        }
+    }
+
+    /// The mounted tip as the library takes it; none is all ones there, whatever the width of a usize here.
+    fn of_tip(mounted: usize) -> u64 {
+        if mounted == super::NO_TIP {
+            u64::MAX
+        } else {
+            mounted as u64
+        }
     }
 }
 
 /// The declarations of include/tipshare.h.
 mod declared {
+    /// A length or a tip: 64 bits on every processor, as the proved module has them.
+    pub type Size = u64;
+
     extern "C" {
-        pub fn tipshare_read(file: *const u8, file_len: usize, answer: *mut u64, answer_len: usize) -> u32;
-        pub fn tipshare_common(file: *const u8, file_len: usize, answer: *mut u64, answer_len: usize) -> u32;
+        pub fn tipshare_read(file: *const u8, file_len: Size, answer: *mut u64, answer_len: Size) -> u32;
+        pub fn tipshare_common(file: *const u8, file_len: Size, answer: *mut u64, answer_len: Size) -> u32;
         pub fn tipshare_keep(
             file: *const u8,
-            file_len: usize,
+            file_len: Size,
             k: u16,
             out: *mut u8,
-            out_len: usize,
+            out_len: Size,
             answer: *mut u64,
-            answer_len: usize,
+            answer_len: Size,
         ) -> u32;
         pub fn tipshare_goal(
             file: *const u8,
-            file_len: usize,
+            file_len: Size,
             goal: u32,
             out: *mut u8,
-            out_len: usize,
+            out_len: Size,
             answer: *mut u64,
-            answer_len: usize,
+            answer_len: Size,
         ) -> u32;
         pub fn tipshare_quick(
             file: *const u8,
-            file_len: usize,
-            mounted: usize,
+            file_len: Size,
+            mounted: Size,
             plan: *mut u8,
-            plan_len: usize,
+            plan_len: Size,
             answer: *mut u64,
-            answer_len: usize,
+            answer_len: Size,
         ) -> u32;
         pub fn tipshare_best(
             file: *const u8,
-            file_len: usize,
-            mounted: usize,
+            file_len: Size,
+            mounted: Size,
             plan: *mut u8,
-            plan_len: usize,
+            plan_len: Size,
             table: *mut u32,
-            table_len: usize,
+            table_len: Size,
             answer: *mut u64,
-            answer_len: usize,
+            answer_len: Size,
         ) -> u32;
         pub fn tipshare_check(
             file: *const u8,
-            file_len: usize,
+            file_len: Size,
             plan: *const u8,
-            plan_len: usize,
+            plan_len: Size,
             claim: u32,
             table: *const u32,
-            table_len: usize,
+            table_len: Size,
             answer: *mut u64,
-            answer_len: usize,
+            answer_len: Size,
         ) -> u32;
         pub fn tipshare_junior(
             file: *const u8,
-            file_len: usize,
+            file_len: Size,
             plan: *mut u8,
-            plan_len: usize,
+            plan_len: Size,
             answer: *mut u64,
-            answer_len: usize,
+            answer_len: Size,
         ) -> u32;
         pub fn tipshare_merge(
             first: *const u8,
-            first_len: usize,
+            first_len: Size,
             second: *const u8,
-            second_len: usize,
+            second_len: Size,
             out: *mut u8,
-            out_len: usize,
+            out_len: Size,
             answer: *mut u64,
-            answer_len: usize,
+            answer_len: Size,
         ) -> u32;
         pub fn tipshare_alone(
             first: *const u8,
-            first_len: usize,
+            first_len: Size,
             second: *const u8,
-            second_len: usize,
+            second_len: Size,
             plan: *mut u8,
-            plan_len: usize,
+            plan_len: Size,
             answer: *mut u64,
-            answer_len: usize,
+            answer_len: Size,
         ) -> u32;
         pub fn tipshare_mend(
             file: *const u8,
-            file_len: usize,
+            file_len: Size,
             out: *mut u8,
-            out_len: usize,
+            out_len: Size,
             report: *mut u8,
-            report_len: usize,
+            report_len: Size,
             answer: *mut u64,
-            answer_len: usize,
+            answer_len: Size,
         ) -> u32;
         pub fn tipshare_order(
             parts: *const u32,
-            parts_len: usize,
+            parts_len: Size,
             rules: *const u32,
-            rules_len: usize,
+            rules_len: Size,
             order: *mut u8,
-            order_len: usize,
+            order_len: Size,
             answer: *mut u64,
-            answer_len: usize,
+            answer_len: Size,
         ) -> u32;
-        pub fn tipshare_report(file: *const u8, file_len: usize, out: *mut u8, out_len: usize) -> usize;
+        pub fn tipshare_report(file: *const u8, file_len: Size, out: *mut u8, out_len: Size) -> Size;
     }
 }

@@ -232,8 +232,12 @@ fn beginning_of(comment: &str) -> String {
 impl Named {
     /// The drawing of the list and both plans.
     pub fn picture(&self) -> Result<String, String> {
-        let plans = self.plans(None)?;
-        Ok(self.drawing(&plans, None, 0..plans.job.lines.len()).0)
+        Ok(self.drawing_of(&self.plans(None)?))
+    }
+
+    /// The drawing of the list and these plans.
+    pub fn drawing_of(&self, plans: &Plans) -> String {
+        self.drawing(plans, None, 0..plans.job.lines.len()).0
     }
 
     /// The drawing in pieces, each as high as a page, with what a keep within k leaves; and how wide each is.

@@ -205,7 +205,7 @@ impl Plans {
     }
 
     /// The tip changes where parts are placed tip by tip, a used tip that is mounted first.
-    pub(crate) fn changes(&self, plan: &Plan) -> usize {
+    pub fn changes(&self, plan: &Plan) -> usize {
         let used = plan.tips_used(self.job.rack);
         match self.mounted {
             Some(tip) if plan.on_tip(tip) == 0 => used,

@@ -60,7 +60,7 @@ struct Row {
 pub(super) type Apart = fn(&str) -> Option<Vec<String>>;
 
 /// The names of the columns, in the first row; none where something is wrong up to there.
-pub(crate) fn names_of(bytes: &[u8]) -> Option<Vec<String>> {
+pub fn names_of(bytes: &[u8]) -> Option<Vec<String>> {
     let (rows, faults) = rows_of(bytes, |_| None);
     let head = rows.into_iter().next()?;
     (!is_above(&faults, head.line)).then_some(head.fields)

@@ -1,0 +1,269 @@
+//! The calls of the planner's page. A request and its answer are fields, each a length of four bytes, lowest byte first, and as
+//! many bytes. A request is a command and its arguments; an answer is `ok` or `refused`, and then what was asked for or why not.
+//! There are two buffers, and no pointer comes in from outside.
+
+use std::cell::RefCell;
+use std::fmt::Display;
+use std::panic;
+
+use parts::import::csv::{self, Columns};
+use parts::import::openpnp::{Board, Packages, Parts};
+use parts::import::table::Table;
+use parts::import::{is_foreign, kicad, Sides};
+use parts::job::{has_mark, job_of, list_in_words};
+use parts::limits::too_large;
+use parts::list::{Fault, List};
+use parts::panel::{Merged, Panel};
+use parts::planning::{Kept, Named, Plan, Plans};
+use parts::tips_in_words;
+
+/// What is wrong is told of this many lines.
+const MOST_FAULTS: usize = 20;
+
+thread_local! {
+    static REQUEST: RefCell<Vec<u8>> = const { RefCell::new(Vec::new()) };
+    static ANSWER: RefCell<Vec<u8>> = const { RefCell::new(Vec::new()) };
+}
+
+/// Makes room for a request of this many bytes; gives where it begins.
+#[no_mangle]
+pub extern "C" fn request(length: usize) -> *mut u8 {
+    REQUEST.with_borrow_mut(|bytes| {
+        bytes.clear();
+        bytes.resize(length, 0);
+        bytes.as_mut_ptr()
+    })
+}
+
+/// Answers the request; gives the length of the answer.
+#[no_mangle]
+pub extern "C" fn run() -> usize {
+    panic::set_hook(Box::new(|info| {
+        ANSWER.with(|answer| answer.replace(info.to_string().into_bytes()));
+    }));
+    let answer = REQUEST.with_borrow(|bytes| answer_to(bytes));
+    ANSWER.with_borrow_mut(|bytes| {
+        *bytes = answer;
+        bytes.len()
+    })
+}
+
+/// Where the answer begins.
+#[no_mangle]
+pub extern "C" fn answer() -> *const u8 {
+    ANSWER.with_borrow(|bytes| bytes.as_ptr())
+}
+
+/// The length of the answer; after a trap that of the words of the panic.
+#[no_mangle]
+pub extern "C" fn answer_length() -> usize {
+    ANSWER.with_borrow(Vec::len)
+}
+
+/// The answer to a request, both as bytes.
+pub fn answer_to(request: &[u8]) -> Vec<u8> {
+    let answer = fields_of(request).ok_or("a broken request".to_string()).and_then(|fields| answer_of(&fields));
+    match answer {
+        Ok(fields) => joined([b"ok".to_vec()].iter().chain(&fields)),
+        Err(why) => joined([b"refused".to_vec(), why.into_bytes()].iter()),
+    }
+}
+
+fn fields_of(mut bytes: &[u8]) -> Option<Vec<&[u8]>> {
+    let mut fields = Vec::new();
+    while !bytes.is_empty() {
+        let (length, rest) = bytes.split_first_chunk::<4>()?;
+        let (field, rest) = rest.split_at_checked(u32::from_le_bytes(*length) as usize)?;
+        fields.push(field);
+        bytes = rest;
+    }
+    Some(fields)
+}
+
+fn joined<'a>(fields: impl Iterator<Item = &'a Vec<u8>>) -> Vec<u8> {
+    let mut bytes = Vec::new();
+    for field in fields {
+        bytes.extend_from_slice(&(field.len() as u32).to_le_bytes());
+        bytes.extend_from_slice(field);
+    }
+    bytes
+}
+
+fn answer_of(fields: &[&[u8]]) -> Result<Vec<Vec<u8>>, String> {
+    let text = |words: String| Ok(vec![words.into_bytes()]);
+    match fields {
+        [b"list", name, bytes, table, columns, side] => text(list(name, bytes, table, columns, side)?),
+        [b"columns", bytes] => text(csv::names_of(bytes).unwrap_or_default().join("\n")),
+        [b"openpnp", packages, board, parts, side] => text(openpnp(packages, board, parts, side)?),
+        [b"plan", list, mounted] => planned(&named(list)?, number_of(mounted)),
+        [b"changed", list, rack, line, tip] => changed(read(list)?, number_of(rack), number_of(line), number_of(tip)),
+        [b"text", list] => text(named(list)?.plan(None)?),
+        [b"keep", list, k] => kept(named(list)?.keep(number_of(k).ok_or("k is a number from 0 to 65535")?)?),
+        [b"goal", list, goal] => kept(named(list)?.goal(number_of(goal).ok_or("a goal is a number of pairs")?)?),
+        [b"picture", list] => text(named(list)?.picture()?),
+        [b"page", name, list] => text(named(list)?.page(&String::from_utf8_lossy(name), None)?),
+        [b"make", list] => Ok(vec![named(list)?.file]),
+        [b"order", list] => text(read(list)?.order()?),
+        [b"junior", list] => text(named(list)?.junior()?),
+        [b"panel", boards @ ..] => panel(&boards.iter().map(|list| named(list)).collect::<Result<Vec<_>, _>>()?),
+        _ => Err("an unknown command".into()),
+    }
+}
+
+fn number_of<N: std::str::FromStr>(digits: &[u8]) -> Option<N> {
+    std::str::from_utf8(digits).ok()?.parse().ok()
+}
+
+fn faulty<W: Display>(name: &str, faults: &[Fault<W>]) -> String {
+    let mut lines: Vec<String> =
+        faults.iter().take(MOST_FAULTS).map(|fault| format!("{name}:{}: {}", fault.line, fault.what)).collect();
+    if faults.len() > MOST_FAULTS {
+        lines.push(format!("{name}: {} more lines are wrong", faults.len() - MOST_FAULTS));
+    }
+    lines.join("\n")
+}
+
+/// The parts list of a file: a list, a job file, a file of KiCad, or a table with named columns.
+fn list(name: &[u8], bytes: &[u8], table: &[u8], columns: &[u8], side: &[u8]) -> Result<String, String> {
+    let [name, columns, side] = [name, columns, side].map(String::from_utf8_lossy);
+    if let Some(why) = too_large(bytes).or_else(|| too_large(table)) {
+        return Err(format!("{name}: {why}"));
+    }
+    if has_mark(bytes) {
+        return Ok(list_in_words(&job_of(bytes)?));
+    }
+    if columns.is_empty() && !is_foreign(bytes) {
+        return String::from_utf8(bytes.to_vec()).map_err(|_| format!("{name}: this is no UTF-8 text"));
+    }
+    let table = Table::read(table).map_err(|faults| faulty("tips", &faults))?;
+    let placements = match &*columns {
+        "" => kicad::placements_of(bytes),
+        columns => csv::placements_of(bytes, &Columns::of(columns)?),
+    };
+    let placements = placements.map_err(|faults| faulty(&name, &faults))?;
+    table.list(placements, sides_of(&side)?).map_err(|faults| faulty(&name, &faults))
+}
+
+fn sides_of(side: &str) -> Result<Sides, String> {
+    Sides::of(Some(side).filter(|side| !side.is_empty()))
+}
+
+/// The parts list of an OpenPnP board, by its packages and, where they are given, its parts.
+fn openpnp(packages: &[u8], board: &[u8], parts: &[u8], side: &[u8]) -> Result<String, String> {
+    let known = Packages::read(packages, None).map_err(|faults| faulty("packages", &faults))?;
+    let parts = match parts {
+        [] => None,
+        parts => Some(Parts::read(parts).map_err(|faults| faulty("parts", &faults))?),
+    };
+    let board = Board::read(board).map_err(|faults| faulty("board", &faults))?;
+    let side = String::from_utf8_lossy(side);
+    known.list(board, parts.as_ref(), sides_of(&side)?).map_err(|faults| faulty("board", &faults))
+}
+
+fn read(list: &[u8]) -> Result<List, String> {
+    if has_mark(list) {
+        return Err("this is a job file and no parts list; `parts show` turns it into one".into());
+    }
+    List::read(list).map_err(|faults| match is_foreign(list) {
+        true => "this is no parts list; `parts import` makes one of it".into(),
+        false => faulty("list", &faults),
+    })
+}
+
+fn named(list: &[u8]) -> Result<Named, String> {
+    if has_mark(list) {
+        return Ok(Named { file: list.to_vec(), list: None });
+    }
+    Ok(Named::of_list(read(list)?))
+}
+
+/// What is told of each plan: pairs, tips in use, changes in the list's order, changes tip by tip; `-` where there is none.
+fn numbers_of(plans: &Plans) -> Vec<Vec<u8>> {
+    let of = |plan: Option<&Plan>| {
+        plan.map_or(["-"; 4].map(String::from), |plan| {
+            let tips = plan.tips_used(plans.job.rack);
+            let along = changes_along(plans.mounted, &plan.tips);
+            [plan.pairs.to_string(), tips.to_string(), along.to_string(), plans.changes(plan).to_string()]
+        })
+    };
+    let both = [of(Some(&plans.quick)), of(plans.best.as_ref().ok())];
+    both.into_iter().flatten().map(String::into_bytes).collect()
+}
+
+/// How often the head changes its tip along these tips. Without a mounted tip the first is on the head at the start.
+fn changes_along(mounted: Option<usize>, tips: &[u8]) -> usize {
+    let between = tips.windows(2).filter(|pair| pair[0] != pair[1]).count();
+    let first = match (mounted, tips.first()) {
+        (Some(mounted), Some(&first)) => usize::from(mounted != usize::from(first)),
+        _ => 0,
+    };
+    first + between
+}
+
+/// In this order: rack, parts, placements, the least k, the numbers of both plans, why there is no best plan, the drawing, the
+/// job file, the plan as CSV, the plan in words.
+fn planned(named: &Named, mounted: Option<usize>) -> Result<Vec<Vec<u8>>, String> {
+    let plans = named.plans(mounted)?;
+    let sizes = [plans.job.rack, plans.job.lines.len(), plans.job.placements(), plans.common.off as usize];
+    let mut answer: Vec<Vec<u8>> = sizes.iter().map(|size| size.to_string().into_bytes()).collect();
+    answer.extend(numbers_of(&plans));
+    let no_best = plans.best.as_ref().err().map_or(String::new(), |&line| named.no_run(&plans.job, line));
+    answer.extend([
+        no_best.into_bytes(),
+        named.drawing_of(&plans).into_bytes(),
+        named.file.clone(),
+        table_of(named, &plans).into_bytes(),
+        named.plan(mounted)?.into_bytes(),
+    ]);
+    Ok(answer)
+}
+
+/// What is left in words, and its job file.
+fn kept(kept: Kept) -> Result<Vec<Vec<u8>>, String> {
+    Ok(vec![kept.text.into_bytes(), kept.file])
+}
+
+/// The plans of the list as it is and of another one: with this rack, or with this line allowed on one more tip.
+fn changed(list: List, rack: Option<usize>, line: Option<usize>, tip: Option<usize>) -> Result<Vec<Vec<u8>>, String> {
+    let mut job = list.job();
+    let before = Named::of_list(list).plans(None)?;
+    job.rack = rack.unwrap_or(job.rack);
+    if let (Some(line), Some(tip)) = (line.and_then(|line| job.lines.get_mut(line)), tip) {
+        line.set |= u64::try_from(tip).ok().and_then(|_| 1u64.checked_shl(tip as u32)).unwrap_or(0);
+    }
+    let after = Named { file: job.write(), list: None }.plans(None)?;
+    Ok([numbers_of(&before), numbers_of(&after)].concat())
+}
+
+/// What is said of the boards, the job file of their panel and its list; nothing of either where there is no panel.
+fn panel(boards: &[Named]) -> Result<Vec<Vec<u8>>, String> {
+    let Panel { alone, merged } = Panel::of(&boards.iter().collect::<Vec<_>>())?;
+    Ok(match merged {
+        Ok(Merged { text, file, list }) => vec![(alone + &text).into_bytes(), file, list.into_bytes()],
+        Err(why) => vec![(alone + &why + "\n").into_bytes(), Vec::new(), Vec::new()],
+    })
+}
+
+/// The plan as a table, a row a part.
+fn table_of(named: &Named, plans: &Plans) -> String {
+    let best = |line: usize| plans.best.as_ref().map_or("-".into(), |best| best.tips[line].to_string());
+    let mut table = "part,quantity,tips,quick,best,comment\r\n".to_string();
+    for (line, of) in plans.job.lines.iter().enumerate() {
+        let cells = [
+            named.label(line),
+            of.quantity.to_string(),
+            tips_in_words(of.set),
+            plans.quick.tips[line].to_string(),
+            best(line),
+            named.comment(line).to_string(),
+        ];
+        table += &(cells.map(|cell| quoted(&cell)).join(",") + "\r\n");
+    }
+    table
+}
+
+/// A cell of a table; one that a spreadsheet would take for a formula gets an apostrophe.
+fn quoted(words: &str) -> String {
+    let risky = words.starts_with(['=', '+', '-', '@']) && words.len() > 1;
+    format!("\"{}{}\"", if risky { "'" } else { "" }, words.replace('"', "\"\""))
+}
