@@ -88,6 +88,13 @@ fn changed(what: &str, before: &str, after: &str) -> String {
 impl Named {
     /// What differs from this board to another one, and what that changes of the plans.
     pub fn compare(&self, other: &Named) -> Result<String, String> {
+        // A job file has no names; what is compared with one goes by its lines.
+        let without_names = |named: &Named| Named { file: named.file.clone(), list: None };
+        match (&self.list, &other.list) {
+            (Some(_), None) => return without_names(self).compare(other),
+            (None, Some(_)) => return self.compare(&without_names(other)),
+            _ => {}
+        }
         let mut text = self.entries()?.compare(&other.entries()?);
         let rules = |named: &Named| {
             let rule = |list: &crate::list::List| {

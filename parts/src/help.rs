@@ -29,8 +29,8 @@ pub const COMMANDS: [Command; 18] = [
                Package, value and references are its comment.\n\
                TABLE is a parts list with patterns for names, as R_0402* height=0.4 : 0-1, for the packages. A * stands\n\
                for any letters, a ? for one. The first row that matches counts; its columns, fine, tall and at= stand in\n\
-               the list. A line `skip Fiducial*` leaves packages out, `skip value DNP` values. Where no row matches a package, all such packages\n\
-               are told, and nothing is printed.\n\
+               the list. A line `skip Fiducial*` leaves packages out, `skip value DNP` values. Where no row matches a\n\
+               package, all such packages are told, and nothing is printed.\n\
                SIDE is top, bottom or both; it may be left out where the file is of one side.\n\
                --start-table prints a table to begin with instead, a row for each package; with TABLE the rows that it\n\
                lacks. Then TABLE may be left out.\n",
@@ -120,10 +120,12 @@ pub const COMMANDS: [Command; 18] = [
         name: "plan",
         arguments: "FILE [--mounted T] [--format FORMAT] [--plan PLAN]",
         does: "print the quick and the best plan, part by part, and a summary of both;\n\
-               tip T, which is on the head, wins where tips suit equally",
+               tip T, which is on the head, wins where tips suit equally;\n\
+               with a FORMAT one plan for other programs, a row for each reference designator",
         more: "Quick takes every list. Best has the most pairs of all plans, a pair being two placements on one tip;\n\
                it takes lists in which each part has every tip between its lowest and its highest, but for tips that\n\
-               no part of the list has. Where a part has a gap, it is named with an order of the rack that helps, if there is one.\n\
+               no part of the list has. Where a part has a gap, it is named with an order of the rack that helps, if\n\
+               there is one.\n\
                A quantity other than 1 stands behind the name, as x10; the summary then counts parts and placements.\n\
                Where several tips suit equally, the lowest is taken, or T where it is one of them. The pairs of the\n\
                best plan are the same with every T, those of the quick plan may be others.\n\
@@ -141,8 +143,8 @@ pub const COMMANDS: [Command; 18] = [
         does: "check a plan from other software, and compare its pairs with the best plan's;\n\
                PLAN is a text with its pairs and a tip for each part, and may have a table",
         more:
-            "As text, PLAN begins with `pairs N`, the number of pairs that it is said to have. Then each part stands on a line\n\
-               with its tip, as C1 : 3, in any order; : 3 is for the next part without a name. Below a line `table`\n\
+            "As text, PLAN begins with `pairs N`, the number of pairs that it is said to have. Then each part stands\n\
+               on a line with its tip, as C1 : 3, in any order; : 3 is for the next part without a name. Below a line `table`\n\
                its table may follow: for a rack of M, M rows of M numbers.\n\
                Each part must be on a tip of its own, the pairs must be those of the plan, and the table must show\n\
                that no plan has more. Without a table only the first two are checked, which is said.\n\
@@ -154,10 +156,11 @@ pub const COMMANDS: [Command; 18] = [
     Command {
         name: "compare",
         arguments: "FILE FILE",
-        does: "print what differs from one parts list, job file or table of tips to another, and what that changes of the plans",
-        more: "Parts are compared by their names, those without a name by their lines: tips, quantity, columns and words.\n\
-               Then come the pairs of both plans, and each part that has another tip. A file with patterns or a line\n\
-               `skip` is a table of tips; its rows are compared, and their order.\n",
+        does: "print what differs from one parts list, job file or table of tips to another,\n\
+               and what that changes of the plans",
+        more: "Parts are compared by their names, those without a name and those of job files by their lines: tips,\n\
+               quantity, columns and words. Then come the pairs of both plans, and each part that has another tip.\n\
+               A file with patterns or a line `skip` is a table of tips; its rows are compared, and their order.\n",
         example: "parts compare old.txt new.txt",
         run: commands::compare,
     },

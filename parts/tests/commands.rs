@@ -897,6 +897,8 @@ fn lists_job_files_and_tables_are_compared() {
     let job = typed(&folder, "old.job");
     fs::write(&job, EXAMPLE).unwrap();
     assert_eq!(run(&["compare", &job, "-"], &EXAMPLE), given(b"2 parts the same\n"));
+    assert_eq!(run(&["compare", &job, "-"], LIST.as_bytes()), given(b"2 parts the same\n"));
+    assert_eq!(run(&["compare", "-", &job], LIST.as_bytes()), given(b"2 parts the same\n"));
     let why = wrong_argument("-: this is both files; name a file for one of them");
     assert_eq!(run(&["compare", "-", "-"], b""), why);
     fs::write(&old, table).unwrap();

@@ -76,6 +76,26 @@ fn package_without_a_row_is_told_with_its_parts() {
 }
 
 #[test]
+fn row_that_is_told_can_be_written() {
+    // Whatever a package is called, the row that is told matches it and can be read.
+    for package in ["x10", "fine", "Lib:A B", "R\u{200b}1", "A=1#2", "skip", "rack", "before"] {
+        let file = format!("Ref,Val,Package,PosX,PosY,Rot,Side\nX1,1,\"{package}\",0,0,0,top\n");
+        let why = kicad_list(&file, "rack 1\n", Sides::Unsaid).unwrap_err().remove(0);
+        let row = why.split('`').nth(1).unwrap().replace("TIPS", "0");
+        let list = kicad_list(&file, &format!("rack 1\n{row}\n"), Sides::Unsaid);
+        assert_eq!(list.as_deref().map(|list| list.lines().nth(1).unwrap().starts_with("X1 : 0")), Ok(true), "{why}");
+    }
+}
+
+#[test]
+fn table_has_512_lines_that_leave_out() {
+    let table =
+        |count: usize| Table::read(("rack 1\n".to_string() + &"skip A\n".repeat(count)).as_bytes()).map_err(told);
+    assert!(table(512).is_ok());
+    assert_eq!(table(513), Err(vec!["514: more than 512 lines `skip`; a * stands for any letters".into()]));
+}
+
+#[test]
 fn first_row_that_matches_counts() {
     let file = "Ref,Val,Package,PosX,PosY,Rot,Side\nA,1,AB,0,0,0,top\nB,1,AC,0,0,0,top\nC,1,B,0,0,0,top\n";
     let list = |tips: &str| kicad_list(file, tips, Sides::Unsaid).unwrap();

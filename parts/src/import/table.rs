@@ -6,8 +6,9 @@ use std::collections::HashSet;
 
 use crate::comparing::{Entries, Entry};
 use crate::import::{distinct, fault, groups_of, list_of, on_one_line, Faults, Group, Known, Picked, Placement, Sides};
-use crate::list::{lines_of, List, Part};
-use crate::{counted, tips_in_words};
+use crate::letters::is_invisible;
+use crate::list::{is_taken, lines_of, List, Part};
+use crate::{counted, tips_in_words, MOST_LINES};
 
 /// The word that begins a row for packages that are left out.
 const SKIP: &str = "skip";
@@ -47,6 +48,13 @@ impl Table {
         for (line, text) in (1..).zip(lines_of(bytes)) {
             match skipped_in(text) {
                 None => rest.extend_from_slice(text),
+                Some(Ok(_)) if rows.len() + skipped_values.len() == MOST_LINES => {
+                    faults.push(fault(
+                        line,
+                        format!("more than {MOST_LINES} lines `{SKIP}`; a * stands for any letters"),
+                    ));
+                    return Err(faults);
+                }
                 Some(Ok(Skipped::Package(pattern))) => rows.push(Row { pattern, picked: None, line }),
                 Some(Ok(Skipped::Value(pattern))) => skipped_values.push(pattern),
                 Some(Err(what)) => faults.push(fault(line, what)),
@@ -151,8 +159,12 @@ pub fn beginning(placements: Vec<Placement>, sides: Sides, table: Option<&Table>
     let new: HashSet<&str> =
         groups_of(placements.iter(), true).iter().filter(|group| is_new(group)).map(|group| group.package).collect();
     let groups = groups_of(placements.iter(), false);
+    let mut patterns = HashSet::new();
     for group in groups.iter().filter(|group| new.contains(group.package)) {
         let (pattern, package) = (pattern_of(group.package), group.package.to_ascii_lowercase());
+        if !patterns.insert(pattern.clone()) {
+            continue;
+        }
         let references = distinct(&group.references);
         let more = if references.len() > MOST_REFERENCES { " .." } else { "" };
         let named = &references[..references.len().min(MOST_REFERENCES)];
@@ -180,7 +192,13 @@ fn unknown(group: &Group) -> String {
 
 /// A pattern for this package, with `?` for what no pattern has.
 fn pattern_of(package: &str) -> String {
-    package.chars().map(|c| if c.is_whitespace() || ":=#".contains(c) { '?' } else { c }).collect()
+    let is_foreign = |c: char| c.is_whitespace() || is_invisible(c) || ":=#".contains(c);
+    let pattern: String = package.chars().map(|c| if is_foreign(c) { '?' } else { c }).collect();
+    // A word as x10 is no pattern either.
+    match is_taken(&pattern) {
+        true => pattern.chars().skip(1).fold("?".into(), |pattern, c| pattern + &c.to_string()),
+        false => pattern,
+    }
 }
 
 /// What a line leaves out, where it leaves something out; other rows have a colon.
