@@ -95,10 +95,10 @@ module _ (file : List ℕ) (plain : counted (version_in file) ≡ false) where
   abbrev lines : List ℕ
   lines = sets_in file
 
-  read_is : r ≡ file_refusal_before file
+  pub read_is : r ≡ file_refusal_before file
   read_is = read_before file plain ∙ file-refusal file
 
-  sets_are : lines ≡ sets_found file
+  pub sets_are : lines ≡ sets_found file
   sets_are = sets_before file plain ∙ sets-found file
 
   rack_is : m ≡ rack_found file
