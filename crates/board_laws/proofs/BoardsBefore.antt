@@ -3,14 +3,13 @@ use Prim.Native.Nat.{ℕ}
 use mathlib.Core.Path.{◌≡◌, refl, ap, ◌∙◌}
 use mathlib.Core.Bool.{false}
 use mathlib.Core.List.{List}
-use lib.ListN.{length, replicate}
+use lib.ListN.{replicate}
 use Rattle.model.specs.Plan.{rack_ok}
 use Rattle.model.proofs.Lists.{all_same}
 use Rattle.job.specs.Job.{counted, version_in, count_in, quantities_in}
 use Rattle.job.proofs.Reading.{length-quantities_in, plain_quantities}
 use Rattle.board.specs.Board.{no_sets, no_quantities, open_of}
 use Rattle.board.specs.JobFile.{read_of}
-use Rattle.board_laws.specs.Format.{count_found}
 use Rattle.board_laws.specs.Before.{nothing, opened_before, board_read}
 use Rattle.board_laws.proofs.Format.{found_is}
 use Rattle.board_laws.proofs.FilesBefore.{read_is, sets_are}
