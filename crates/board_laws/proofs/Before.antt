@@ -4,17 +4,16 @@
 use Prim.Native.Nat.{ℕ, ◌+◌, ◌*◌, ◌<◌, ◌≤◌, zero-le}
 use mathlib.Core.Path.{◌≡◌, refl, sym, ap, ap₂, ◌∙◌}
 use mathlib.Core.Logic.{⊎_elim}
-use mathlib.Core.Bool.{Bool, true, false, not, cond}
+use mathlib.Core.Bool.{Bool, true, false, cond}
 use mathlib.Core.List.{List, [], ◌∷◌, map}
 use native.Mathlib.Omega.{arith}
 use lib.Dec.{T, T_not, ltb}
-use lib.IntN.{ℤ}
 use lib.ListN.{length, get_or, length-take}
 use Rattle.std.specs.Int.Count.{count_leading_zeros, count_trailing_zeros}
 use borrow.Author.Tests.{lt-ltb}
 use Rattle.model.specs.Count.{All, count, every, list_of, first_fail}
 use Rattle.model.specs.Plan.{has, occ, Domain, pairs}
-use Rattle.model.specs.Limits.{most_tips, most_lines, most_placements}
+use Rattle.model.specs.Limits.{most_tips, most_placements}
 use Rattle.model.specs.Choice.{bare}
 use Rattle.model.specs.Interval.{low, high, named, fills, is_run, is_run_of}
 use Rattle.model.specs.Before.{lowest_of, highest_of, margin_before, prune_before, quick_before, low_before, high_before, is_run_before}
@@ -33,20 +32,18 @@ use Rattle.refusal.proofs.Laws.{scan_passes}
 use Rattle.board_laws.specs.Format.{file_before}
 use Rattle.call_refusals.specs.declared.Stage.{Stage}
 use Rattle.call_refusals.specs.declared.Stage.TheVariants.{Open, Closed}
-use Rattle.call_refusals.specs.Calls.{add_refusal, mounted_refusal, run_refusal}
+use Rattle.call_refusals.specs.Calls.{mounted_refusal, run_refusal}
 use Rattle.call_refusals.specs.Before.{told_before, Plain, add_refusal_before, keep_refusal_before, quick_refusal_before}
 use Rattle.call_refusals.specs.Before.{best_refusal_before, write_refusal_before}
 use Rattle.call_refusals.proofs.Before.{told_accepts, state-before, add-same, add-told, keep-told, quick-told, best-told, write-told, broken_before}
-use Rattle.line_calls.specs.Answers.{PlanAnswer}
 use Rattle.board.specs.declared.Board.{Board}
-use Rattle.board.specs.Answers.{Answer}
 use Rattle.board.specs.Board.{lines_of, quantities_of, state_refusal, answer, add_of, close_of}
 use Rattle.board.specs.Common.{common_of, keep_of}
 use Rattle.board.specs.Sharing.{shared, quick_of, quick_buffer, best_of, best_buffer, best_table}
 use Rattle.board.specs.JobFile.{write_of, write_buffer}
 use Rattle.board.proofs.Sets.{Full, same_size, ready, lines-count}
-use Rattle.board_laws.specs.Before.{common_lines, keep_lines, sets_lines, pairs_lines, quick_lines, quick_plan_lines}
-use Rattle.board_laws.specs.Before.{best_lines, best_plan_lines, best_table_lines, write_lines, written_lines}
+use Rattle.board_laws.specs.Before.{common_lines, keep_lines, sets_lines, pairs_lines, quick_plan_lines}
+use Rattle.board_laws.specs.Before.{best_plan_lines, best_table_lines, write_lines, written_lines}
 use Rattle.board_laws.specs.Before.{state, added, shut, added_before, closed_before, common_answer, common_before, kept_answer, kept_before}
 use Rattle.board_laws.specs.Before.{quick_answer_before, best_answer_before, written_answer, written_before}
 use Rattle.board_laws.specs.Before.{answer_told, common_told, kept_told, shared_told, written_told}

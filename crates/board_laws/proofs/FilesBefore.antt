@@ -22,13 +22,12 @@ use Rattle.job.proofs.Before.{sets_before, read_before}
 use Rattle.call_refusals.specs.Calls.{mounted_refusal, write_refusal}
 use Rattle.call_refusals.specs.Before.{keep_refusal_before, write_refusal_before}
 use Rattle.line_calls.specs.Lines
-use Rattle.file_calls.specs.Outcomes.{Outcome}
 use Rattle.file_calls.specs.Calls.{common_outcome, plan_outcome, keep_outcome, read_in, common_in, keep_in, keep_file_in, quick_in, quick_plan_in}
 use Rattle.file_calls.specs.Calls.{best_in, best_plan_in, best_table_in}
 use Rattle.board_laws.specs.Before.{common_lines, keep_lines, quick_lines, quick_plan_lines, best_lines, best_plan_lines, best_table_lines}
 use Rattle.board_laws.specs.Before.{write_lines, written_lines, read_file, common_file, keep_file, kept_file, quick_file, quick_plan_file}
 use Rattle.board_laws.specs.Before.{best_file, best_plan_file, best_table_file}
-use Rattle.board_laws.specs.Format.{rack_found, count_found, sets_found, file_refusal_before}
+use Rattle.board_laws.specs.Format.{rack_found, sets_found, file_refusal_before}
 use Rattle.board_laws.proofs.Format.{found_is, sets-found, file-refusal}
 use Rattle.board_laws.proofs.LinesBefore.{common-lines, keep-lines, kept-lines, quick-lines, quick-plan-lines, write-lines, written-lines}
 use Rattle.board_laws.proofs.LinesBefore.{best-lines, best-plan-lines, best-table-lines}
@@ -95,10 +94,10 @@ module _ (file : List ℕ) (plain : counted (version_in file) ≡ false) where
   abbrev lines : List ℕ
   lines = sets_in file
 
-  read_is : r ≡ file_refusal_before file
+  pub read_is : r ≡ file_refusal_before file
   read_is = read_before file plain ∙ file-refusal file
 
-  sets_are : lines ≡ sets_found file
+  pub sets_are : lines ≡ sets_found file
   sets_are = sets_before file plain ∙ sets-found file
 
   rack_is : m ≡ rack_found file

@@ -6,6 +6,7 @@ pub mod Unmounted
 pub mod Mounted
 pub mod Before
 pub mod FilesBefore
+pub mod BoardsBefore
 pub mod Checked
 pub mod GoalOfNone
 pub mod PanelCalls

@@ -2,12 +2,10 @@
 -- that are unbroken runs, whatever their quantities.
 use Prim.Native.Nat.{ℕ, ◌-◌, ◌*◌}
 use mathlib.Core.Path.{◌≡◌, refl, sym, ap, ◌∙◌}
-use mathlib.Core.Bool.{Bool, true, false, cond}
 use mathlib.Core.List.{List, map}
 use native.Mathlib.Omega.{arith}
 use lib.Dec.{T}
 use lib.ListN.{length, length-map}
-use borrow.Author.Tests.{eqb-true}
 use Rattle.model.specs.Count.{All}
 use Rattle.model.specs.Plan.{pairs, Domain}
 use Rattle.model.specs.Choice.{bare}
@@ -25,14 +23,13 @@ use Rattle.placements.proofs.Plans.{quick_repeated, quick_ones, best-repeated, l
 use Rattle.placements.proofs.Ones.{prune_ones}
 use Rattle.placements.proofs.Renumbered.{repeated_same}
 use Rattle.refusal.specs.Told.{Refusal}
-use Rattle.refusal.specs.Refusal.{accepts, or_else, when, told}
 use Rattle.job.specs.Job.{line_length}
 use Rattle.job.proofs.Writing.{version_one}
 use Rattle.job.proofs.Before.{written-before}
 use Rattle.call_refusals.specs.Calls.{keep_refusal, best_refusal, write_refusal}
 use Rattle.call_refusals.specs.Before.{keep_refusal_before, best_refusal_before, write_refusal_before}
 use Rattle.call_refusals.proofs.Calls.{keep-none, best_none}
-use Rattle.call_refusals.proofs.Before.{keep-same, quick-same, write-same, best-same}
+use Rattle.call_refusals.proofs.Before.{keep-same, quick-same, best-same}
 use Rattle.line_calls.specs.Lines
 use Rattle.line_calls.proofs.KeepWithin.{not_negative}
 use Rattle.board_laws.specs.Before.{common_lines, keep_lines, sets_lines, quick_lines, quick_plan_lines, best_lines, best_plan_lines}

@@ -26,7 +26,7 @@ use Rattle.board.specs.Board.{lines_of, quantities_of, state_refusal}
 use Rattle.board.specs.Sharing.{shared, quick_of, quick_buffer, best_of, best_buffer, best_table}
 use Rattle.board.proofs.Sets.{Full, ready}
 use Rattle.file_calls.specs.Calls.{plan_outcome, quick_in, quick_plan_in, best_in, best_plan_in, best_table_in}
-use Rattle.board_laws.specs.Unmounted.{best_refusal_unmounted, quick_unmounted, named_C}
+use Rattle.board_laws.specs.Unmounted.{best_refusal_unmounted, named_C}
 use Rattle.board_laws.specs.Unmounted.{quick_then, quick_plan_then, best_then, best_plan_then, best_table_then}
 use Rattle.board_laws.proofs.Ones.{lent_same, told_same}
 use Rattle.board_laws.proofs.Unmounted.{refusal_unmounted, quick-unmounted, named-C, named-table, best-unmounted}

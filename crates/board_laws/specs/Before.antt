@@ -1,10 +1,10 @@
 -- What the calls of the base answered and left, by its rules and its refusals: for the sets of lines after an earlier refusal, for a board of sets
 -- alone, and for a file of version 1. For laws that say 'as before': no call's contract speaks of these.
-use Rattle.std.specs.Prelude.{ℕ, ◌+◌, ◌*◌, cond, List, map, pos, length, set}
+use Rattle.std.specs.Prelude.{ℕ, ◌+◌, ◌*◌, cond, ◌&&◌, List, map, ◌++◌, leb, pos, length, drop, set, replicate}
 use Rattle.model.specs.Plan.{pairs}
 use Rattle.model.specs.Before.{top_before, off_before, W_before, margin_before, prune_before, quick_before, C_before, best_tip_before, table_before}
 use Rattle.refusal.specs.Told.{Refusal}
-use Rattle.refusal.specs.Refusal.{none, accepts, told, lent_by}
+use Rattle.refusal.specs.Refusal.{none, refuse, accepts, told, lent_by}
 use Rattle.call_refusals.specs.declared.Stage.{Stage}
 use Rattle.call_refusals.specs.declared.Stage.TheVariants.{Open, Closed}
 use Rattle.call_refusals.specs.Before.{state_before, add_refusal_before, keep_refusal_before, quick_refusal_before, best_refusal_before}
@@ -69,6 +69,18 @@ written_lines r m lines out = lent_by (write_refusal_before r (length lines) (le
 -- the refusals of the board's state
 abbrev pub state : Stage → Board → Refusal
 state asked b = state_before asked b.rack b.stage b.count b.sets
+
+-- empty sets, or quantities 0, a place for each line of the longest board
+unfoldable pub nothing : List ℕ
+nothing = replicate 512 0
+
+-- an open board without lines
+abbrev pub bare_board : ℕ → Board
+bare_board m = record { rack = m; stage = Open; count = 0; sets = nothing; quantities = nothing }
+
+-- a rack of 1 to 64 tips; a refused open gave an open board of rack 1
+unfoldable pub opened_before : ℕ → Answer
+opened_before m = cond (leb 1 m && leb m 64) (answer (bare_board m) none) (answer (bare_board 1) (refuse 1))
 
 -- the board with one more line at the end, whose quantity is 1
 abbrev pub added : Board → ℕ → Board
@@ -147,6 +159,23 @@ written_told r =
     record { board = r.board; number = d.number; place = d.place; bytes = r.bytes }
 
 -- ---- a file of version 1
+
+-- the board of the file: closed, and each line has quantity 1
+abbrev pub board_found : List ℕ → Board
+board_found file =
+    let n = count_found file in
+    record {
+      rack = rack_found file;
+      stage = Closed;
+      count = n;
+      sets = sets_found file ++ drop n nothing;
+      quantities = replicate n 1 ++ drop n nothing;
+    }
+
+abbrev pub board_read : List ℕ → Answer
+board_read file =
+    let r = file_refusal_before file in
+    cond (accepts r) (answer (board_found file) none) (answer (bare_board 1) r)
 
 abbrev pub read_file : List ℕ → Outcome
 read_file file =
