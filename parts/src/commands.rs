@@ -504,7 +504,7 @@ fn faults_in_words<W: Display>(path: &OsStr, faults: &[Fault<W>]) -> Vec<String>
 
 pub fn print(bytes: &[u8]) -> Result<(), Failure> {
     let mut out = io::stdout();
-    let result = out.write_all(bytes).and_then(|()| out.flush());
+    let result = system::standard_output_is_open().and_then(|()| out.write_all(bytes)).and_then(|()| out.flush());
     result.map_err(lost)
 }
 

@@ -330,7 +330,7 @@ pub fn page() -> String {
 
 const ENDS: &str = "\
 -o OUT writes what a command makes to the file OUT: what it prints, for keep, goal and panel the job file JOB.
-A job file replaces a job file of its name. Any other file that is there stays, but with --force.
+A job file replaces a job file of its name. Any other existing file is replaced only with --force.
 Exit 0: done. Exit 1: a file was refused, or could not be read or written. Exit 2: wrong arguments.
 Exit 3: a file was mended, and parts are lost.
 `parts COMMAND --help` says more of a command, `parts --version` names the version.

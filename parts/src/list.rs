@@ -298,8 +298,8 @@ impl Part {
     }
 
     /// Its line on a panel, with this behind its name and its references; a position in the order of one board is left out.
-    pub(crate) fn on_panel(&self, label: &str, board: &str) -> String {
-        let mut words = vec![format!("{label}{board}")];
+    pub(crate) fn on_panel(&self, board: &str) -> String {
+        let mut words: Vec<String> = self.name.iter().map(|name| format!("{name}{board}")).collect();
         words.extend(Some(quantity_in_words(self.quantity).trim().to_string()).filter(|word| !word.is_empty()));
         words.extend(self.columns.iter().map(|(column, number)| format!("{column}={number}")));
         words.extend(self.fine.then(|| FINE.into()));
@@ -310,7 +310,7 @@ impl Part {
             _ if self.comment().is_empty() => String::new(),
             _ => format!(" # {}", self.comment()),
         };
-        format!("{} : {}{comment}\n", words.join(" "), tips_in_words(self.tips))
+        format!("{} : {}{comment}\n", words.join(" "), tips_in_words(self.tips)).trim_start().into()
     }
 
     /// Its number to sort by: in a column, or its quantity by any word for it.

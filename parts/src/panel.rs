@@ -139,12 +139,11 @@ impl Boards<'_> {
                 }
                 continue;
             };
-            let label = |part: usize| list.parts[part].name.clone().unwrap_or_else(|| format!("line{part}"));
-            for (part, listed) in list.parts.iter().enumerate() {
-                text += &listed.on_panel(&label(part), &behind);
-            }
+            text += &list.parts.iter().map(|part| part.on_panel(&behind)).collect::<String>();
+            // Only parts with a name have a rule.
+            let label = |part: usize| list.parts[part].name.clone().unwrap_or_default() + &behind;
             for rule in &list.rules {
-                text += &format!("before {}{behind} {}{behind}\n", label(rule.earlier), label(rule.later));
+                text += &format!("before {} {}\n", label(rule.earlier), label(rule.later));
             }
         }
         text

@@ -508,6 +508,22 @@ fn lost_output_is_a_failure() {
 }
 
 #[test]
+fn output_that_is_closed_from_the_start_is_told() {
+    let closed = |words: &[&str]| {
+        let mut program = Command::new("sh");
+        program.args(["-c", "exec \"$0\" \"$@\" >&-", env!("CARGO_BIN_EXE_parts")]).args(words);
+        run_with(program.stdin(Stdio::piped()).stdout(Stdio::piped()).stderr(Stdio::piped()), LIST.as_bytes())
+    };
+    let why = "standard output: Bad file descriptor (os error 9); let it lead to a file or a pipe that takes all of it";
+    for words in [&["plan", "-"][..], &["--help"]] {
+        assert_eq!(closed(words), refused(why), "{words:?}");
+    }
+    // Where nothing is printed, nothing is lost.
+    let job = typed(&folder("closed"), "out.job");
+    assert_eq!(closed(&["make", "-", "-o", &job]), given(b""));
+}
+
+#[test]
 fn lost_messages_leave_the_exit_status() {
     for (arguments, status) in [(&["make", "no-such-list"][..], 1), (&["make"], 2), (&[], 2)] {
         assert_eq!(run_with(program(arguments).stderr(full_disk()), b""), (Vec::new(), String::new(), status));

@@ -91,7 +91,7 @@ fn panel_of_three_boards_keeps_names() {
     assert!(merged.text.contains("\nsecond line 1 x3 alone 0 quick 0 best 0\n"), "{}", merged.text);
     assert!(merged.text.contains("\nthird C1 x2 alone 2 quick 2 best 2\n"), "{}", merged.text);
     let list = "rack 3\nC1-1 : 0\nC2-1 x2 : 0-1\n0-2 : 1\n1-2 x3 : 0\n\
-                C1-3 x2 h=1 tall : 2 # P 1k: C1-3 C9-3\nline1-3 : 1 # free\nU1-3 fine : 0 # its place: left\n\
+                C1-3 x2 h=1 tall : 2 # P 1k: C1-3 C9-3\n: 1 # free\nU1-3 fine : 0 # its place: left\n\
                 before U1-3 C1-3\n";
     assert_eq!(merged.list, list);
     // The list and the job file are the same panel.

@@ -1,5 +1,5 @@
 //! What parts needs of the system and the standard library does not give: an end with a sentence where memory runs out,
-//! temporary files that a signal removes, and whether standard output was closed without a loss.
+//! temporary files that a signal removes, and whether standard output is lost: closed from the start, or when it is closed.
 //!
 //! The calls are those of the C library that the standard library links. Every unsafe line of parts is in this file.
 
@@ -9,11 +9,12 @@ use std::io;
 use std::os::unix::ffi::OsStrExt;
 use std::path::Path;
 use std::ptr;
-use std::sync::atomic::{AtomicPtr, Ordering::SeqCst};
+use std::sync::atomic::{AtomicBool, AtomicPtr, Ordering::SeqCst};
 
 extern "C" {
     fn write(file: c_int, bytes: *const c_void, count: usize) -> isize;
     fn close(file: c_int) -> c_int;
+    fn fcntl(file: c_int, command: c_int, ...) -> c_int;
     fn unlink(path: *const c_char) -> c_int;
     fn signal(number: c_int, action: usize) -> usize;
     fn raise(number: c_int) -> c_int;
@@ -25,6 +26,8 @@ const SENT: [c_int; 4] = [1, 2, 3, 15];
 const DEFAULT: usize = 0;
 const IGNORED: usize = 1;
 const STANDARD_OUTPUT: c_int = 1;
+const GET_FLAGS: c_int = 1;
+const NOT_OPEN: i32 = 9;
 
 const STANDARD_ERROR: c_int = 2;
 const REFUSED: c_int = 1;
@@ -135,6 +138,29 @@ fn remove_all() {
             // Safety: it is a path that ends with a zero, and stays while it stands there.
             unsafe { unlink(path) };
         }
+    }
+}
+
+/// Whether standard output was closed before the program began.
+static WAS_CLOSED: AtomicBool = AtomicBool::new(false);
+
+/// The standard library puts a device that takes everything in the place of a closed standard output, before main begins.
+/// So this looks before that.
+#[used]
+#[link_section = ".init_array"]
+static BEFORE_MAIN: extern "C" fn() = look_at_standard_output;
+
+extern "C" fn look_at_standard_output() {
+    // Safety: it only asks.
+    let flags = unsafe { fcntl(STANDARD_OUTPUT, GET_FLAGS) };
+    WAS_CLOSED.store(flags < 0, SeqCst);
+}
+
+/// That what is printed goes somewhere.
+pub fn standard_output_is_open() -> io::Result<()> {
+    match WAS_CLOSED.load(SeqCst) {
+        false => Ok(()),
+        true => Err(io::Error::from_raw_os_error(NOT_OPEN)),
     }
 }
 
