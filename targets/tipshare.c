@@ -41,10 +41,14 @@ static int failed(const char *what, const char *to_do)
     return 1;
 }
 
-/* Prints the text: the exit status. Some file systems only say at the end that a write failed. */
+/*
+ * Prints the text: the exit status. Some file systems only say at the end that a write failed. The text goes out in one piece, so
+ * that nothing is left to write when a reader takes its first lines and leaves.
+ */
 static int print(const void *text, size_t length)
 {
-    if (fwrite(text, 1, length, stdout) != length || fclose(stdout) != 0) {
+    static char piece[2 * TIPSHARE_REPORT_SPACE];
+    if (setvbuf(stdout, piece, _IOFBF, sizeof piece) != 0 || fwrite(text, 1, length, stdout) != length || fclose(stdout) != 0) {
         return failed("write to standard output", "let it lead to a file or a pipe that takes the whole text");
     }
     return 0;
