@@ -3,7 +3,8 @@ use Rattle.std.specs.Prelude.{ℕ, suc, ◌≤◌, ◌<◌, ◌≡◌, ◌⊎◌
 use Rattle.model.specs.Plan.{has}
 use Rattle.model.specs.Limits.{most_tips, most_lines, most_placements}
 use Rattle.placements.specs.Repeated.{total}
-use Rattle.refusal.specs.declared.Reason.TheVariants.{EmptyLine, TipOutside, ZeroQuantity, UnsoundBoard, UnsoundLine, HeldBehind, BoardClosed, BoardOpen}
+use Rattle.refusal.specs.declared.Reason.TheVariants.{EmptyLine, TipOutside, ZeroQuantity}
+use Rattle.refusal.specs.declared.Reason.TheVariants.{UnsoundBoard, UnsoundLine, HeldBehind, BoardClosed, BoardOpen}
 use Rattle.cases.specs.Cases.{Case, plain, placed}
 use Rattle.call_refusals.specs.declared.Stage.{Stage}
 use Rattle.call_refusals.specs.declared.Stage.TheVariants.{Open, Closed}
