@@ -6,6 +6,7 @@
 
 #include <errno.h>
 #include <signal.h>
+#include <stdbool.h>
 #include <stdio.h>
 #include <string.h>
 #ifdef _WIN32
@@ -48,7 +49,9 @@ static int failed(const char *what, const char *to_do)
 static int print(const void *text, size_t length)
 {
     static char piece[2 * TIPSHARE_REPORT_SPACE];
-    if (setvbuf(stdout, piece, _IOFBF, sizeof piece) != 0 || fwrite(text, 1, length, stdout) != length || fclose(stdout) != 0) {
+    bool is_whole = setvbuf(stdout, piece, _IOFBF, sizeof piece) == 0 && fwrite(text, 1, length, stdout) == length;
+    /* Closing alone does not say on Windows that the write failed. */
+    if (!is_whole || fflush(stdout) != 0 || fclose(stdout) != 0) {
         return failed("write to standard output", "let it lead to a file or a pipe that takes the whole text");
     }
     return 0;
