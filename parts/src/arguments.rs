@@ -1,9 +1,9 @@
 //! The words behind the name of a command: files, options and what is behind each option.
 
 use std::ffi::{OsStr, OsString};
-use std::os::unix::ffi::OsStrExt;
 
 use parts::letters::shown;
+use system::parted;
 
 /// The file that a command writes; every command takes it.
 pub const OUTPUT: &str = "-o";
@@ -67,7 +67,7 @@ impl Arguments {
         while let Some(word) = rest.next() {
             // A word with two dashes is never a file, so that a mistyped option is not taken for one.
             let (name, behind) = parted(word);
-            if !word.as_bytes().starts_with(b"--") && name != OUTPUT {
+            if !word.as_encoded_bytes().starts_with(b"--") && name != OUTPUT {
                 arguments.files.push(word.clone());
                 continue;
             }
@@ -82,7 +82,7 @@ impl Arguments {
                 (None, Some(_)) => return Err(format!("{} takes nothing behind it", option.name)),
                 (Some(_), Some(value)) => value,
                 (Some(value), None) => {
-                    let next = rest.next().filter(|next| !next.as_bytes().starts_with(b"--"));
+                    let next = rest.next().filter(|next| !next.as_encoded_bytes().starts_with(b"--"));
                     next.ok_or_else(|| format!("{} needs {value} behind it", option.name))?
                 }
             };
@@ -128,14 +128,5 @@ impl Arguments {
 
     pub fn has(&self, switch: &str) -> bool {
         self.option(switch).is_some()
-    }
-}
-
-/// The name of an option, and what is behind its `=` where there is one.
-fn parted(word: &OsStr) -> (&OsStr, Option<&OsStr>) {
-    let bytes = word.as_bytes();
-    match bytes.iter().position(|&byte| byte == b'=') {
-        None => (word, None),
-        Some(place) => (OsStr::from_bytes(&bytes[..place]), Some(OsStr::from_bytes(&bytes[place + 1..]))),
     }
 }

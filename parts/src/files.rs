@@ -1,15 +1,14 @@
 //! Files that are read, and files that are written whole or not at all.
 
 use std::ffi::OsStr;
-use std::fs::{self, File, Metadata, OpenOptions, Permissions};
+use std::fs::{self, File, OpenOptions, Permissions};
 use std::io::{self, Read, Write};
-use std::os::fd::AsFd;
-use std::os::unix::fs::{MetadataExt, OpenOptionsExt};
 use std::path::{Path, PathBuf};
 use std::process;
 
 use job_file::has_mark;
-use system::Removed;
+pub use system::Identity;
+use system::{identity_of, new_file, standard_input, standard_output, Removed};
 
 use crate::limits::MOST_BYTES;
 
@@ -17,15 +16,6 @@ use crate::limits::MOST_BYTES;
 const MODE: u32 = 0o666;
 /// The mode of a file that its owner alone may read and write.
 const OWN_MODE: u32 = 0o600;
-
-/// Which file it is, by device and inode, whatever path or link leads to it.
-#[derive(Clone, Copy, PartialEq, Eq, Debug)]
-pub struct Identity(u64, u64);
-
-/// The identity of a plain file; a pipe, a terminal or a device has none.
-fn identity_of(data: &Metadata) -> Option<Identity> {
-    data.is_file().then(|| Identity(data.dev(), data.ino()))
-}
 
 /// What was read, and from which file.
 pub struct Input {
@@ -36,8 +26,8 @@ pub struct Input {
 impl Input {
     /// Reads a file, or standard input for `-`.
     pub fn read(path: &OsStr) -> io::Result<Input> {
-        let mut file = if path == "-" { opened(&io::stdin())? } else { File::open(path)? };
-        let identity = identity_of(&file.metadata()?);
+        let mut file = if path == "-" { standard_input()? } else { File::open(path)? };
+        let identity = identity_of(&file)?;
         let mut bytes = Vec::new();
         // One byte too many shows that the file is too large, whatever its length.
         Read::take(&mut file, MOST_BYTES as u64 + 1).read_to_end(&mut bytes)?;
@@ -47,11 +37,7 @@ impl Input {
 
 /// The identity of the file that standard output goes to.
 pub fn of_standard_output() -> io::Result<Option<Identity>> {
-    Ok(identity_of(&opened(&io::stdout())?.metadata()?))
-}
-
-fn opened(stream: &impl AsFd) -> io::Result<File> {
-    stream.as_fd().try_clone_to_owned().map(File::from)
+    identity_of(&standard_output()?)
 }
 
 /// Where something is to be written.
@@ -79,7 +65,7 @@ impl Output {
                     return Ok(Output::Stream(file));
                 }
                 let old = Old {
-                    identity: identity_of(&data),
+                    identity: identity_of(&file)?,
                     permissions: data.permissions(),
                     is_job: File::open(path).and_then(begins_with_mark).unwrap_or(false),
                 };
@@ -181,7 +167,7 @@ impl Temporary {
         let mut number = 0;
         loop {
             let path = place.with_file_name(format!(".parts-{}-{number}.tmp", process::id()));
-            match OpenOptions::new().write(true).create_new(true).mode(mode).open(&path) {
+            match new_file(&path, mode) {
                 Ok(file) => {
                     let temporary = Temporary { _removed: Removed::on_signal(&path), path, place, is_new };
                     permissions.map_or(Ok(()), |permissions| file.set_permissions(permissions))?;

@@ -3,7 +3,7 @@
 pub mod checking;
 pub mod comparing;
 pub mod exporting;
-#[cfg(unix)]
+#[cfg(any(unix, windows))]
 pub mod files;
 pub mod goal;
 pub mod handed;

@@ -1,0 +1,175 @@
+//! The calls of Linux and of other systems like Unix.
+
+use std::ffi::{c_char, c_int, c_void, CString, OsStr};
+use std::fs::{File, OpenOptions};
+use std::io;
+use std::os::fd::AsFd;
+use std::os::unix::ffi::OsStrExt;
+use std::os::unix::fs::{MetadataExt, OpenOptionsExt};
+use std::path::Path;
+use std::ptr;
+use std::sync::atomic::{AtomicBool, AtomicPtr, Ordering::SeqCst};
+
+use crate::Identity;
+
+extern "C" {
+    fn write(file: c_int, bytes: *const c_void, count: usize) -> isize;
+    fn close(file: c_int) -> c_int;
+    fn fcntl(file: c_int, command: c_int, ...) -> c_int;
+    fn unlink(path: *const c_char) -> c_int;
+    fn signal(number: c_int, action: usize) -> usize;
+    fn raise(number: c_int) -> c_int;
+    fn _exit(status: c_int) -> !;
+}
+
+/// The signals that end a program and that someone sends: SIGHUP, SIGINT, SIGQUIT and SIGTERM.
+const SENT: [c_int; 4] = [1, 2, 3, 15];
+const DEFAULT: usize = 0;
+const IGNORED: usize = 1;
+const STANDARD_OUTPUT: c_int = 1;
+const GET_FLAGS: c_int = 1;
+const NOT_OPEN: i32 = 9;
+const STANDARD_ERROR: c_int = 2;
+
+/// Ends the program with a sentence. Nothing is allocated any more.
+pub fn end(sentence: &[u8], status: c_int) -> ! {
+    remove_all();
+    // Safety: the bytes are there, with their length.
+    unsafe {
+        write(STANDARD_ERROR, sentence.as_ptr().cast(), sentence.len());
+        _exit(status)
+    }
+}
+
+/// The most files that are removed.
+const MOST_FILES: usize = 8;
+/// The paths of the files that are removed when the program ends early.
+static PATHS: [AtomicPtr<c_char>; MOST_FILES] = [const { AtomicPtr::new(ptr::null_mut()) }; MOST_FILES];
+
+/// A file that a signal removes, until this goes out of use.
+pub struct Removed {
+    place: usize,
+}
+
+impl Removed {
+    /// Has a signal that ends the program remove this file first; nothing where there are too many already.
+    pub fn on_signal(path: &Path) -> Option<Removed> {
+        let path = CString::new(path.as_os_str().as_bytes()).ok()?.into_raw();
+        let taken = |at: &AtomicPtr<c_char>| at.compare_exchange(ptr::null_mut(), path, SeqCst, SeqCst).is_ok();
+        match PATHS.iter().position(taken) {
+            Some(place) => {
+                SENT.into_iter().for_each(catch);
+                Some(Removed { place })
+            }
+            None => {
+                // Safety: it was made by into_raw above, and nothing else has it.
+                drop(unsafe { CString::from_raw(path) });
+                None
+            }
+        }
+    }
+}
+
+impl Drop for Removed {
+    fn drop(&mut self) {
+        let path = PATHS[self.place].swap(ptr::null_mut(), SeqCst);
+        if !path.is_null() {
+            // Safety: it was made by into_raw, and no signal finds it any more. A signal that has it ends the program.
+            drop(unsafe { CString::from_raw(path) });
+        }
+    }
+}
+
+/// Has a signal remove the files, unless it is ignored, as under nohup.
+fn catch(number: c_int) {
+    let action = on_signal as extern "C" fn(c_int);
+    // Safety: the action calls nothing but unlink, signal and raise, which a signal may call.
+    unsafe {
+        if signal(number, action as usize) == IGNORED {
+            signal(number, IGNORED);
+        }
+    }
+}
+
+extern "C" fn on_signal(number: c_int) {
+    remove_all();
+    // Safety: the signal then ends the program as it would have done without this.
+    unsafe {
+        signal(number, DEFAULT);
+        raise(number);
+    }
+}
+
+fn remove_all() {
+    for path in &PATHS {
+        let path = path.load(SeqCst);
+        if !path.is_null() {
+            // Safety: it is a path that ends with a zero, and stays while it stands there.
+            unsafe { unlink(path) };
+        }
+    }
+}
+
+/// Whether standard output was closed before the program began.
+static WAS_CLOSED: AtomicBool = AtomicBool::new(false);
+
+/// The standard library puts a device that takes everything in the place of a closed standard output, before main begins.
+/// So this looks before that.
+#[used]
+#[link_section = ".init_array"]
+static BEFORE_MAIN: extern "C" fn() = look_at_standard_output;
+
+extern "C" fn look_at_standard_output() {
+    // Safety: it only asks.
+    let flags = unsafe { fcntl(STANDARD_OUTPUT, GET_FLAGS) };
+    WAS_CLOSED.store(flags < 0, SeqCst);
+}
+
+/// That what is printed goes somewhere.
+pub fn standard_output_is_open() -> io::Result<()> {
+    match WAS_CLOSED.load(SeqCst) {
+        false => Ok(()),
+        true => Err(io::Error::from_raw_os_error(NOT_OPEN)),
+    }
+}
+
+/// Closes standard output. Some file systems tell only then that something was not written.
+pub fn close_standard_output() -> io::Result<()> {
+    // Safety: nothing is written to it any more.
+    match unsafe { close(STANDARD_OUTPUT) } {
+        0 => Ok(()),
+        _ => Err(io::Error::last_os_error()),
+    }
+}
+
+pub fn standard_input() -> io::Result<File> {
+    opened(&io::stdin())
+}
+
+pub fn standard_output() -> io::Result<File> {
+    opened(&io::stdout())
+}
+
+fn opened(stream: &impl AsFd) -> io::Result<File> {
+    stream.as_fd().try_clone_to_owned().map(File::from)
+}
+
+/// The identity of a plain file; a pipe, a terminal or a device has none.
+pub fn identity_of(file: &File) -> io::Result<Option<Identity>> {
+    let data = file.metadata()?;
+    Ok(data.is_file().then(|| Identity(data.dev(), data.ino())))
+}
+
+/// Makes a file that is not there yet, with this mode, of which the mask of the process takes something away.
+pub fn new_file(path: &Path, mode: u32) -> io::Result<File> {
+    OpenOptions::new().write(true).create_new(true).mode(mode).open(path)
+}
+
+/// What is before the first `=` of a word, and what is behind it where there is one.
+pub fn parted(word: &OsStr) -> (&OsStr, Option<&OsStr>) {
+    let bytes = word.as_bytes();
+    match bytes.iter().position(|&byte| byte == b'=') {
+        None => (word, None),
+        Some(place) => (OsStr::from_bytes(&bytes[..place]), Some(OsStr::from_bytes(&bytes[place + 1..]))),
+    }
+}
