@@ -33,6 +33,7 @@
  * - Each pointer is good for its length. Every length counts elements, not
  *   bytes.
  * - No two buffers of one call overlap, except two that are only read.
+ *
  * A call keeps nothing after it returns, so calls on different buffers may run
  * at the same time. The rules in full are in docs/RULES.md.
  *
@@ -319,6 +320,7 @@ uint32_t tipshare_best(const uint8_t *file, size_t file_len, size_t mounted,
  *   and for c + 1 to b (0 for an interval without a tip), where p is the number
  *   of placements of the lines that have c and no tip outside a to b. The sums
  *   do not wrap.
+ *
  * Then no plan has more pairs. What tipshare_best leaves in plan and table is
  * accepted, with its pairs as the claim.
  * file: file_len bytes, any number. plan: at least n bytes, plan[i] the tip of
