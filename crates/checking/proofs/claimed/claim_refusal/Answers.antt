@@ -4,8 +4,9 @@ use Rattle.model.specs.Plan.{has, uses, pairs}
 use Rattle.model.proofs.Tests.{false_not}
 use Rattle.model.proofs.Sets.{has-below}
 use Rattle.placements.specs.Repeated.{repeated}
-use Rattle.checking.specs.Checking.{on_tips}
-use Rattle.checking.proofs.Claim.{foreign, own_more, own_all, placed-all, Joined, joined}
+use Rattle.plan_pairs.specs.OnTips.{on_tips}
+use Rattle.plan_pairs.proofs.Joined.{placed-all, Joined, joined}
+use Rattle.checking.proofs.Claim.{foreign, own_more, own_all}
 use Rattle.checking.proofs.Turn.{Over, At, turn, turns}
 use Rattle.checking.proofs.claimed.claim_refusal.Goals.{After-into_iter-tip-iterator, In-Some, In-None, After-from}
 use Rattle.checking.proofs.claimed.claim_refusal.Goals.{then-tip-ge-MOST_TIPS-via-then-tip-ge-MOST_TIPS}
@@ -25,7 +26,8 @@ here c o = turn o c.loop-tip.yielded c.loop-tip.tip-iterator c.next.new.self c.n
 -- and what they find
 found : (c : After-from) → At c.args.plan.now c.args.lines.now c.args.quantities.now (length c.loop-tip.yielded)
     ((c.in-Some.tip, c.in-Some.line), c.in-Some.quantity)
-    → Joined c.args.quantities.now c.args.plan.now (length c.loop-tip.yielded) c.loop-tip.on c.loop-tip.shared c.from-tip.result c.from.result
+    → Joined c.args.quantities.now c.args.plan.now (length c.loop-tip.yielded) c.loop-tip.on c.loop-tip.shared c.from-tip.result
+    c.in-Some.quantity.now
 found c h =
     joined c.args.quantities.now c.args.plan.now (search rules) c.requires.few h.below (search rules) (search rules) (search rules)
     c.loop-tip.invariant.1 c.loop-tip.invariant.2
@@ -57,35 +59,16 @@ returns-then-tip-ge-MOST_TIPS c =
     rw c.at.ensures (foreign c.args.quantities.now c.args.lines.now c.args.plan.now c.args.claim c.requires.planned i c.loop-tip.invariant.0
     (omega (arith, h, c.requires)) not_in)
 
-pub overflow_add-after : goal.overflow_add-after
-overflow_add-after c =
-    let at = goal.at.overflow_add-after c in
-    let f = found at.After-from (here at.In-Some (over at.After-into_iter-tip-iterator)) in
-    record { fits = omega arith }
-
-pub pairs_among-requires : goal.pairs_among-requires
-pairs_among-requires c =
-    let at = goal.at.pairs_among-requires c in
-    let f = found at.After-from (here at.In-Some (over at.After-into_iter-tip-iterator)) in
-    f.few
-
-pub pairs_among-requires-in-loop-tip : goal.pairs_among-requires-in-loop-tip
-pairs_among-requires-in-loop-tip c =
-    let at = goal.at.pairs_among-requires-in-loop-tip c in
-    let f = found at.After-from (here at.In-Some (over at.After-into_iter-tip-iterator)) in
-    omega arith
-
-pub overflow_sub-shared : goal.overflow_sub-shared
-overflow_sub-shared c =
-    let at = goal.at.overflow_sub-shared c in
-    let f = found at.After-from (here at.In-Some (over at.After-into_iter-tip-iterator)) in
-    omega (arith, c.pairs_among.ensures, c.pairs_among-in-loop-tip.ensures)
+pub join-requires-clause-few : goal.join-requires-clause-few
+join-requires-clause-few c =
+    let at = goal.at.join-requires-clause-few c in
+    (found at.After-from (here at.In-Some (over at.After-into_iter-tip-iterator))).few
 
 pub overflow_add-shared : goal.overflow_add-shared
 overflow_add-shared c =
     let at = goal.at.overflow_add-shared c in
     let f = found at.After-from (here at.In-Some (over at.After-into_iter-tip-iterator)) in
-    record { fits = omega (arith, c.pairs_among.ensures, c.pairs_among-in-loop-tip.ensures) }
+    record { fits = omega (arith, c.join.ensures.pairs) }
 
 pub loop-tip-preserved : goal.loop-tip-preserved
 loop-tip-preserved c =
@@ -98,7 +81,7 @@ loop-tip-preserved c =
     = rw (← h.first, ← h.second) (ap (has c.in-Some.line.now) (sym c.from-tip.ensures) ∙ sym c.has_tip.ensures ∙ c.if-not-has_tip.false) in
     let more = own_more c.args.quantities.now c.args.lines.now c.args.plan.now c.args.claim c.requires.planned (length c.loop-tip.yielded)
     c.loop-tip.invariant.0 (omega (arith, h, c.requires)) own in
-    rw n (more, f.counted, omega (arith, f, c.pairs_among.ensures, c.pairs_among-in-loop-tip.ensures))
+    rw (n, c.join.ensures.on, c.join.ensures.pairs) (more, f.counted, f.grown)
 
 pub returns : goal.returns
 returns c =
