@@ -74,6 +74,7 @@ module _ (earlier : Refusal) (mounted : Mounted) (qs lines old : List ℕ) where
         (record { fewest = λ _. rw front rule; counted = λ _. rw front refl }, pairs_bound qs laid (good.same ∙ sym size) good.few)
 
     pub along_holds : RuleOf (along_of earlier mounted qs lines (length old)) (along_buffer earlier mounted lines old)
+    unfolding counts_of
     along_holds = by (accepts decision) refl
       where
         by : (b : Bool) → accepts decision ≡ b → RuleOf (along_of earlier mounted qs lines (length old)) (along_buffer earlier mounted lines old)

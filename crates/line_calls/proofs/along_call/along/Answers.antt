@@ -21,6 +21,9 @@ returns-in_err-plan_refusal c =
 pub slice_bounds-plan_lines-end : goal.slice_bounds-plan_lines-end
 slice_bounds-plan_lines-end c = (plan_none none _ _ (ap (λ r. r.number) (sym c.in_ok-plan_refusal.ensures))).1
 
+pub slice_bounds-plan_lines-end-2 : goal.slice_bounds-plan_lines-end-2
+slice_bounds-plan_lines-end-2 c = sym (length-take-le _ _ (plan_none none _ _ (ap (λ r. r.number) (sym c.in_ok-plan_refusal.ensures))).1)
+
 pub plan_lines-requires : goal.plan_lines-requires
 plan_lines-requires c =
     let room = (plan_none none _ _ (ap (λ r. r.number) (sym c.in_ok-plan_refusal.ensures))).1 in
