@@ -38,14 +38,14 @@ returns-clause-answer c =
     let q = c.along in
     let l = c.in_ok-lines.ensures in
     (along_answer c.args.self.now _ c.in_ok-lines.ensures.refusal c.in_ok-mounted_refusal.ensures _
-    (rw (l.quantities, l.sets) at q.ensures.answer) (rw (l.quantities, l.sets) at q.ensures.plan)).0
+    (rw (l.quantities, l.sets) at q.ensures.answer) (rw l.sets at q.ensures.plan)).0
 
 pub returns-clause-buffer : goal.returns-clause-buffer
 returns-clause-buffer c =
     let q = c.along in
     let l = c.in_ok-lines.ensures in
     (along_answer c.args.self.now _ c.in_ok-lines.ensures.refusal c.in_ok-mounted_refusal.ensures _
-    (rw (l.quantities, l.sets) at q.ensures.answer) (rw (l.quantities, l.sets) at q.ensures.plan)).1
+    (rw (l.quantities, l.sets) at q.ensures.answer) (rw l.sets at q.ensures.plan)).1
 
 full : (c : After-lines) → Full c.args.self.now
 full c = record { sets_full = search rules; quantities_full = search rules }
