@@ -356,6 +356,26 @@ uint32_t tipshare_junior(const uint8_t *file, size_t file_len,
                          uint64_t *answer, size_t answer_len);
 
 /*
+ * Plans for a machine that places the lines in the order of the list, with the
+ * fewest tip changes. A change is counted wherever two neighbouring lines are on
+ * different tips, and before the first line where a tip is mounted and that line
+ * is on another. No other plan has fewer changes. The lines are split into
+ * segments: while some tips are common to the lines from the segment's first on,
+ * the segment goes on, and all of its lines are on the lowest of them. Where a
+ * tip is mounted, it alone is common before the first line.
+ * file: file_len bytes, any number. mounted: the tip on the head, 0 to m - 1,
+ * or TIPSHARE_NO_TIP. plan: at least n bytes. answer: at least 4 places.
+ * Accepted: plan[i] is the tip of line i, for i below n, the rest of plan is
+ * untouched; answer is 0, the number of changes, the number of pairs in the plan
+ * (2096128 at most), 0.
+ * Refused (1, 2, 3, 6 to 10, 15, 30, then 16, 4): plan is untouched; answer is
+ * the line, 0, 0, 0.
+ */
+uint32_t tipshare_along(const uint8_t *file, size_t file_len, size_t mounted,
+                        uint8_t *plan, size_t plan_len,
+                        uint64_t *answer, size_t answer_len);
+
+/*
  * Merges two boards of one rack into one, for two boards on one panel, and
  * writes it as a job file: the lines of the first, then those of the second. The
  * file is of version 1 if all quantities are 1, else of version 2, whichever
