@@ -244,7 +244,7 @@ pub fn best(file: &[u8], mounted: Option<usize>, plan: &mut [u8], table: &mut [u
     Ok(answer_of(|answer| on_slices::best(file, number_of(mounted), plan, table, answer))?[1])
 }
 
-/// Checks a plan from other software, with its claimed pairs and its table, for lines that are runs. An accepted plan has
+/// Checks a plan from other software, with its claimed pairs and its table, for lines that are runs; what is accepted has
 /// the most pairs of placements.
 ///
 /// ```
