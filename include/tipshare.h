@@ -42,13 +42,22 @@
  * WebAssembly, and compared on each with the second implementation by 200,000
  * calls (docs/TARGETS.md). WebAssembly is for JavaScript: lengths have 64 bits
  * there, so the prototypes below do not fit it. The library needs nothing but
- * memset and memcpy from the C library; it has no heap and no global state. The
- * stack that a call needs on Linux, in KB, the most of the three processors,
- * measured and rounded up (docs/TARGETS.md); the first call of a process may need
- * 2 KB more, to look up those two functions:
+ * memset and memcpy from the C library; it has no heap and no global state.
  *
- *   read 1, common 7, keep 7, goal 91, quick 18, best 32, check 22, junior 5,
- *   merge 14, alone 22, mend 1, order 15, report 48
+ * The stack that a call needs on Linux, in KB of 1,024 bytes, measured on three
+ * processors, 1 KB or more added, rounded up (docs/PERFORMANCE.md):
+ *
+ *   read 5, common 10, keep 10, goal 95, quick 20, best 33, check 26, junior 9,
+ *   merge 18, alone 25, mend 5, order 20, report 49
+ *
+ * These are for a program that looks functions up at their first calls (-z lazy),
+ * which saves the registers of the processor, 3.2 KB with AVX-512: of the shared
+ * library it looks up the call itself, of the static one memset and memcpy, each at
+ * its own first call, perhaps within a call made later. A program linked with
+ * -z now needs up to 3 KB less. A thread needs 5 KB more of the size that
+ * pthread_attr_setstacksize sets, and room for the program's thread-local
+ * variables. A signal handler on a stack of its own needs
+ * sysconf(_SC_MINSIGSTKSZ) bytes more.
  *
  * All but tipshare_words and tipshare_version are proved. The two are tables in
  * C, in libtipshare.a and libtipshare.so; libtipshare_c.a, which make leaves in

@@ -94,7 +94,7 @@ _library = _load()
 
 
 def _lent(kind, count):
-    """An array with at least one place, so that its address is good."""
+    """An array with this many places, at least one, so that its address is good."""
     return (kind * max(count, 1))()
 
 

@@ -268,7 +268,7 @@ pub fn along(file: &[u8], mounted: Option<usize>, plan: &mut [u8]) -> Result<Alo
     Ok(Along { changes: answer[1], pairs: answer[2] })
 }
 
-/// Checks a plan from other software, with its claimed pairs and its table, for lines that are runs. An accepted plan has
+/// Checks a plan from other software, with its claimed pairs and its table, for lines that are runs; what is accepted has
 /// the most pairs of placements.
 ///
 /// ```
