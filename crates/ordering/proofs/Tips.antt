@@ -109,12 +109,17 @@ module _ (tips : List ℕ) where
       by true = refl
       by false = refl
 
+  -- and after the last part none
+  pub changes_end : (mounted : Mounted) → changes tips mounted [] ≡ 0
+  unfolding Along.changes Along.changes_after
+  changes_end bare = refl
+  changes_end (tip h) = refl
+
   -- the changes are as many as the positions at which the tip is changed
   pub changes_number : (mounted : Mounted) (order : List ℕ)
       → changes tips mounted order ≡ number (λ p. is_change tips (head_at tips mounted order p) (get_or order p 0)) (length order)
-  unfolding number Along.changes Along.changes_after
-  changes_number bare [] = refl
-  changes_number (tip h) [] = refl
+  unfolding number
+  changes_number mounted [] = changes_end mounted
   changes_number mounted (x ∷ order) =
       let here : ℕ → Bool = λ p. is_change tips (head_at tips mounted (x ∷ order) p) (get_or (x ∷ order) p 0) in
       let later : ℕ → Bool = λ p. is_change tips (head_at tips (head_after tips x) order p) (get_or order p 0) in

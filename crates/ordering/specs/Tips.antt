@@ -38,10 +38,14 @@ order_by_tips tips mounted t = best_order (choose_by_tip tips) (head_after tips)
 unfoldable pub placing_by_tips : List Part → List Rule → List ℕ → Mounted → Option (List ℕ)
 placing_by_tips parts rules tips mounted = order_by_tips tips mounted (task_of parts rules)
 
--- part x needs another tip than the one on the head; to mount a tip on a bare head is no change
+-- the head has another tip on it than t; to mount t on a bare head is no change
+abbrev pub has_other : Mounted → ℕ → Bool
+has_other bare t = false
+has_other (tip h) t = not (eqb h t)
+
+-- part x needs another tip than the one on the head
 abbrev pub is_change : List ℕ → Mounted → ℕ → Bool
-is_change tips bare x = false
-is_change tips (tip h) x = not (eqb h (tip_at tips x))
+is_change tips head x = has_other head (tip_at tips x)
 
 -- the tip that is on the head before position p of an order
 abbrev pub head_at : List ℕ → Mounted → List ℕ → ℕ → Mounted
