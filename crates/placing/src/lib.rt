@@ -8,6 +8,7 @@ ghost use Rattle.cases.specs.Cases.{Told};
 ghost use Rattle.order_cases.specs.Cases.{order_cases};
 
 mod flags;
+pub mod flat;
 mod marking;
 pub mod numbers;
 mod placement;
