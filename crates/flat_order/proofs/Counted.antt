@@ -19,4 +19,6 @@ module _ (plan order : List ℕ) (head : Mounted) (i : ℕ) where
 
   -- past the last part none
   pub changes_over : length order ≤ i → i ≤ length order → changes plan head (drop i order) ≡ 0
-  changes_over k l = let e : i ≡ length order = omega arith in ap (changes plan head) (ap (λ j. drop j order) e ∙ drop-length order) ∙ changes_end plan head
+  changes_over k l =
+      let e : i ≡ length order = omega arith in
+      ap (changes plan head) (ap (λ j. drop j order) e ∙ drop-length order) ∙ changes_end plan head

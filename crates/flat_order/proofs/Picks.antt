@@ -158,7 +158,8 @@ module _ (firsts lasts : List ℕ) (rows : List PartSet) (left : PartSet) (insid
       none_below g f = lowest_is g n n (le_refl n) (λ m. absurd (omega arith)) (λ i m w. f i w)
 
       -- the part chosen is the pick
-      pub chosen_is : (x : ℕ) → IsChosen (has_part on) test x → (x ≡ pick_by choose_ready t p on (has_part left)) × T (has_part left x) × (get_or lasts x 0 ≤ v)
+      pub chosen_is : (x : ℕ) → IsChosen (has_part on) test x
+          → (x ≡ pick_by choose_ready t p on (has_part left)) × T (has_part left x) × (get_or lasts x 0 ≤ v)
       chosen_is x (one_ready f) =
           let w = known x (and_left (test x) (has_part on x) f.passes) in
           let l = inside x w.0 in
@@ -176,7 +177,8 @@ module _ (firsts lasts : List ℕ) (rows : List PartSet) (left : PartSet) (insid
       pub none_is : ((x : ℕ) → T (test x) → ⊥) → n ≤ pick_by choose_ready t p on (has_part left)
       none_is f =
           let z = none_below test f in
-          let y = on_other (has_part on) test n n (none_below (λ y. test y && has_part on y) (λ x u. f x (and_left (test x) (has_part on x) u))) (le_refl n) in
+          let both = none_below (λ y. test y && has_part on y) (λ x u. f x (and_left (test x) (has_part on x) u)) in
+          let y = on_other (has_part on) test n n both (le_refl n) in
           omega (arith, z, y, pick_is on v k h e)
 
 and-true : (a : Bool) → (a && true) ≡ a

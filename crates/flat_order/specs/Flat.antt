@@ -95,10 +95,14 @@ pub data IsChosen (on f : ℕ → Bool) (x : ℕ) : Type 0 where
 abbrev pub InPlace : ℕ → List ℕ → Type 0
 InPlace n positions = (i : ℕ) → i < n → get_or positions i 0 < n
 
+-- each of the first n parts is at its place, one of m
+pub record AtPlaces (place : ℕ → ℕ) (m n : ℕ) (rows : List PartSet) : Type 0 where
+  pub size : length rows ≡ m
+  pub each : (w x : ℕ) → w < m → has_part (row_at rows w) x ≡ (ltb x n && eqb (place x) w)
+
 -- each of the first n parts is at the place after its position
-pub record PartsAt (positions : List ℕ) (n : ℕ) (rows : List PartSet) : Type 0 where
-  pub size : length rows ≡ 130
-  pub each : (w x : ℕ) → w < 130 → has_part (row_at rows w) x ≡ (ltb x n && eqb (get_or positions x 0 + 1) w)
+abbrev pub PartsAt : List ℕ → ℕ → List PartSet → Type 0
+PartsAt positions n rows = AtPlaces (λ x. get_or positions x 0 + 1) 130 n rows
 
 -- at each place up to n are those of the first n parts whose positions are before it
 pub record Below (positions : List ℕ) (n : ℕ) (rows : List PartSet) : Type 0 where
