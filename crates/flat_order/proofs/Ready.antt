@@ -1,11 +1,11 @@
--- The best order where a part that is ready is preferred: it is the best that obeys, and where no part is ever ready it is the least.
-use Prim.Native.Nat.{ℕ}
+-- The best order where a part that is ready is preferred: it obeys, and where no part is ever ready it is the least.
+use Prim.Native.Nat.{ℕ, ◌<◌}
 use native.Mathlib.Omega.{arith}
 use mathlib.Core.Path.{◌≡◌, refl}
 use lib.Dec.{T, ltb, ltb→lt}
-use lib.ListN.{get_or, replicate}
+use lib.ListN.{replicate}
 use mathlib.Core.Option.{some}
-use Rattle.ordering.specs.Order.{Task}
+use Rattle.ordering.specs.Order.{Task, Obeys}
 use Rattle.ordering.specs.Least.{choose_lowest, no_state, least_order}
 use Rattle.ordering.proofs.First.{on_alike, chooses_first}
 use Rattle.ordering.proofs.Best.{best-order, best_obeys}
@@ -25,9 +25,7 @@ never_ready t =
     nobody : (i : ℕ) → T (has_part no_parts i) → ⊥
     nobody i u = let v : T (ltb i 0) = rw (first-none i) at u in omega (arith, ltb→lt i 0 v)
 
--- the parts of an order that is found are among those to place
-pub ready_in : (start : PartSet) (after : List PartSet) (t : Task) → ((i : ℕ) → i < t.size → t.last i < t.size) → {order : List ℕ}
-    → some order ≡ ready_order start after t → (p : ℕ) → p < t.size → get_or order p 0 < t.size
-ready_in start after t below h p l =
-    let best = best-order (row_at after) (chooses_first has_part) start t below in
-    (best_obeys (rw h best)).parts p l
+-- an order that is found obeys
+pub ready_obeys : (start : PartSet) (after : List PartSet) (t : Task) → ((i : ℕ) → i < t.size → t.last i < t.size) → {order : List ℕ}
+    → some order ≡ ready_order start after t → Obeys t order
+ready_obeys start after t below h = best_obeys (rw h (best-order (row_at after) (chooses_first has_part) start t below))

@@ -1,16 +1,18 @@
 -- What the call by tips accepts is the best order that obeys; past the other refusals, 29 is told exactly when none obeys.
-use Prim.Native.Nat.{ℕ, ◌<◌}
+use Prim.Native.Nat.{ℕ, ◌≤◌, ◌<◌}
 use native.Mathlib.Omega.{arith}
 use mathlib.Core.Path.{◌≡◌, refl, ap, sym, ◌∙◌}
 use mathlib.Core.Bool.{Bool, true, false, not, cond}
 use mathlib.Core.List.{List, ◌++◌}
 use mathlib.Core.Option.{Option, none, some}
-use lib.Dec.{ltb}
+use lib.Dec.{T, ltb}
 use lib.ListN.{length, take, drop}
 use lib.Seq.{take_at}
-use borrow.Author.Tests.{eq-eqb}
+use borrow.Author.Tests.{eq-eqb, ltb-false}
 use Rattle.model.specs.Choice.{Mounted}
-use Rattle.model.specs.Count.{first_fail}
+use Rattle.model.specs.Count.{each, first_fail}
+use Rattle.model.proofs.Lists.{each_iff}
+use Rattle.model.proofs.Tests.{T_true}
 use Rattle.refusal.specs.Told.{Refusal}
 use Rattle.refusal.specs.Refusal as R
 use Rattle.refusal.proofs.Laws.{or_none, or_first, refused, accepted, lent_refused, lent_accepted}
@@ -120,6 +122,27 @@ module _ (parts : List Part) (rules : List Rule) (plan : List ℕ) (mounted : Mo
           let e = (best_none (passed (length buffer) (parts_given (length buffer) z))).1 f in
           sym (ap (λ (t : Refusal). t.number) (none_told (given (length buffer)) answer refl z (sym e)));
     }
+
+-- past 4, 3 and 16: each part has a tip, and so has the head or it is bare
+pub record TipsPassed (n : ℕ) (plan : List ℕ) (mounted : Mounted) : Type 0 where
+  pub long : n ≤ length plan
+  pub tips : T (each tip_ok (take n plan))
+  pub head : T (head_ok mounted)
+
+pub tips_passed : (n : ℕ) (plan : List ℕ) (mounted : Mounted) → (tips_refusal n plan mounted).number ≡ 0 → TipsPassed n plan mounted
+unfolding tips_refusal
+tips_passed n plan mounted z =
+    let (a, b) = or_none (R.when (ltb (length plan) n) 4) _ z in
+    let (d, e) = or_none (R.scan tip_ok (λ _. 3) (take n plan)) _ b in
+    record {
+      long = ltb-false (length plan) n (when-none (ltb (length plan) n) 4 (λ k. omega (arith, k)) a);
+      tips = (each_iff tip_ok (take n plan)).1 (scan-none tip_ok (λ _. 3) (take n plan) (λ _ k. omega (arith, k)) d);
+      head = kept (head_ok mounted) (when-none (not (head_ok mounted)) 16 (λ k. omega (arith, k)) e);
+    }
+  where
+    kept : (b : Bool) → not b ≡ false → T b
+    kept true e = tt
+    kept false e = absurd (T_true {b = false} (sym e))
 
 -- WITHOUT TIPS: where all parts are on one tip and no tip is refused, number, place and order buffer are those of the placing order by number
 module _ (parts : List Part) (rules : List Rule) (plan : List ℕ) (mounted : Mounted)

@@ -6,4 +6,5 @@ pub mod Numbered
 pub mod Readied
 pub mod Answers
 pub mod TipAnswers
+pub mod TipNumbered
 pub mod CasesTold

@@ -4,11 +4,11 @@ use native.Mathlib.Omega.{arith}
 use mathlib.Core.Path.{◌≡◌, refl, ap, sym, ◌∙◌}
 use mathlib.Core.Logic.{⊎_elim}
 use mathlib.Core.Bool.{not, cond, ◌&&◌}
-use mathlib.Core.List.{List}
+use mathlib.Core.List.{List, ◌++◌}
 use mathlib.Core.Option.{none, some}
 use lib.Dec.{T, ltb, eqb, ltb→lt}
-use lib.ListN.{length, get_or, take, set, length-set}
-use lib.Seq.{get_or-take, length-take-le}
+use lib.ListN.{length, get_or, take, drop, set, length-set}
+use lib.Seq.{get_or-take, length-take-le, take_at}
 use borrow.Author.Tests.{lt-ltb, eq-eqb, ne_eqb}
 use Rattle.std.proofs.Common as R
 use Rattle.std.proofs.Common.{IfSome, IfNone}
@@ -26,7 +26,7 @@ use Rattle.model.proofs.Tests.{le_or_lt}
 use Rattle.model.proofs.Pairs.{eqb_comm}
 use Rattle.ordering.specs.declared.Part.{Part}
 use Rattle.ordering.specs.declared.Rule.{Rule}
-use Rattle.ordering.specs.Order.{Task}
+use Rattle.ordering.specs.Order.{Task, Obeys}
 use Rattle.ordering.specs.Parts.{window_ok, task_of}
 use Rattle.ordering.specs.Tips.{tip_at, is_ready, head_after, choose_by_tip, order_by_tips, placing_by_tips}
 use Rattle.ordering.proofs.First.{first_asym, on_same}
@@ -35,8 +35,9 @@ use Rattle.ordering.proofs.Agree.{best_agree, best-alike}
 use Rattle.ordering.proofs.Tips.{order-by-tips, placing-by-tips}
 use Rattle.flat_order.specs.declared.sets.PartSet.{PartSet}
 use Rattle.flat_order.specs.Sets.{has_part}
-use Rattle.flat_order.specs.Flat.{row_at, flat_task, choose_ready, ready_order}
+use Rattle.flat_order.specs.Flat.{row_at, flat_task, choose_ready, ready_order, InPlace, Tipped}
 use Rattle.flat_order.proofs.Below.{row-set}
+use Rattle.flat_order.proofs.Ready.{ready_obeys}
 use Rattle.placing.specs.Rows.{RowsFor, PositionsOf}
 use Rattle.placing.specs.ByTips.{OnTips, AfterEach}
 use Rattle.placing.proofs.Windows.{parts_agree, size, below}
@@ -113,3 +114,24 @@ module _ (parts : List Part) (windows : T (each (window_ok (length parts)) parts
       (best_agree (parts_agree parts windows few firsts lasts p rules rows r)
       (order-by-tips plan mounted t (below parts windows few firsts lasts p rules rows r)))
       (placing-by-tips plan parts rules mounted windows)
+
+-- ---- the order that is found
+
+module _ (n : ℕ) (firsts lasts : List ℕ) (rows : List PartSet) (start : PartSet) (after : List PartSet) (size : length (take n lasts) ≡ n)
+    (within : InPlace n (take n lasts)) (found : List ℕ)
+    (is : some (take (length (take n lasts)) found) ≡ ready_order start after (flat_task firsts (take n lasts) rows)) where
+  found_obeys : Obeys (flat_task firsts (take n lasts) rows) (take n found)
+  found_obeys =
+      rw size at (ready_obeys start after (flat_task firsts (take n lasts) rows) (λ i l. omega (arith, size, within i (omega (arith, size)))) is)
+
+  pub found_size : length (take n found) ≡ n
+  found_size = found_obeys.count ∙ size
+
+  -- the front of the buffer is the order
+  pub found_front : (buffer out : List ℕ) → out ≡ take n found → take n (out ++ drop n buffer) ≡ take n found
+  found_front buffer out e = ap (λ o. take n (o ++ drop n buffer)) e ∙ take_at (take n found) (drop n buffer) n found_size
+
+  -- each of its parts has a byte in the plan
+  pub found_tipped : (plan buffer out : List ℕ) → n ≤ length plan → out ≡ take n found → Tipped plan (take n (out ++ drop n buffer))
+  found_tipped plan buffer out long e =
+      rw (found_front buffer out e) (λ p l. omega (arith, found_size, size, long, found_obeys.parts p (omega (arith, found_size, size))))
