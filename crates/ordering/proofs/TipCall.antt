@@ -15,7 +15,7 @@ use Rattle.model.proofs.Lists.{each_iff}
 use Rattle.model.proofs.Tests.{T_true}
 use Rattle.refusal.specs.Told.{Refusal}
 use Rattle.refusal.specs.Refusal as R
-use Rattle.refusal.proofs.Laws.{or_none, or_first, refused, accepted, lent_refused, lent_accepted}
+use Rattle.refusal.proofs.Laws.{or_none, or_first, when-none, scan-none, refused, accepted, lent_refused, lent_accepted}
 use Rattle.ordering.specs.declared.Part.{Part}
 use Rattle.ordering.specs.declared.Rule.{Rule}
 use Rattle.ordering.specs.Prefer.{Best}
