@@ -120,7 +120,7 @@ module _ (parts : List Part) (windows : T (each (window_ok (length parts)) parts
         before = λ a b k l. r.has a b (omega (arith, size)) (omega (arith, size));
       }
 
-      below : (i : ℕ) → i < t.size → t.last i < t.size
+      pub below : (i : ℕ) → i < t.size → t.last i < t.size
       below i l = omega (arith, size, lasts_in i (omega (arith, size)))
 
       -- the least order by the flat arrays is the placing order
