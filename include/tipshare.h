@@ -61,8 +61,8 @@
  * Where several refusals apply, the first in this order is given: 100, then
  * 6, 7, 8, 1, 9, 10, then 2, 3 or 15 of the first bad line, then 30, of two
  * files all of the first and then all of the second, then those of the call in
- * the order named with it. tipshare_order takes no file: there it is 100, 101, 12,
- * 13, 14, 29.
+ * the order named with it. tipshare_order and tipshare_windows take no file: there
+ * it is 100, 101, 12, 13, 14, 29.
  *
  *   No.  What is wrong                         What to do
  *   ---  ------------------------------------  --------------------------------
@@ -90,7 +90,8 @@
  *        below the number of parts n           last
  *    13  rule answer[0] names a part that is   name two different parts, 0 to
  *        not there, or one part twice          n - 1, in that rule
- *    14  order is shorter than n bytes         lend n; 128 always do
+ *    14  order, first or last is shorter than  lend n; 128 always do
+ *        n bytes
  *    15  line answer[0] has quantity 0         give that line 1 to 255
  *    16  mounted is no tip of the rack and     give 0 to m - 1, or
  *        not TIPSHARE_NO_TIP                   TIPSHARE_NO_TIP for none
@@ -442,6 +443,27 @@ uint32_t tipshare_order(const uint32_t *parts, size_t parts_len,
                         const uint32_t *rules, size_t rules_len,
                         uint8_t *order, size_t order_len,
                         uint64_t *answer, size_t answer_len);
+
+/*
+ * Finds the first and the last position that each part has in any placing order
+ * that obeys, as tipshare_order describes it. Both are exact: some order has the
+ * part there, and none has it earlier or later. Between them there may be
+ * positions that the part has in no order. No job file is read.
+ * parts, rules: as for tipshare_order. first, last: at least n bytes each.
+ * answer: at least 4 places.
+ * Accepted: part i has position first[i] in some order, last[i] in some order,
+ * and no earlier or later one, for i below n; the rest of both is untouched;
+ * answer is 0, the number of parts n, 0, 0. Without parts the call is accepted,
+ * and nothing is written to first and last.
+ * Refused (101, then 12, 13, 14, 29): first and last are untouched; answer is
+ * the first part with bad positions for 12 (0 where there are over 128 parts),
+ * the first bad rule for 13, else 0, then 0, 0, 0.
+ */
+uint32_t tipshare_windows(const uint32_t *parts, size_t parts_len,
+                          const uint32_t *rules, size_t rules_len,
+                          uint8_t *first, size_t first_len,
+                          uint8_t *last, size_t last_len,
+                          uint64_t *answer, size_t answer_len);
 
 /*
  * Writes the text that the program tipshare prints for the file: its plans are

@@ -9,7 +9,7 @@ use Rattle.ordering.specs.Call.{given_refusal, order_refusal}
 use Rattle.windows.specs.Bounds.{solvable, soonest, latest}
 use Rattle.part_windows.specs.Call.{soonest_of, latest_of, first_after, last_after}
 use Rattle.part_windows.specs.Rows.{run, rows, Gives}
-use Rattle.part_windows.specs.Rows.{B130, B131, B132, B133, B134, B135, B136_first, B136_last, B137_rule, B137_window, B138}
+use Rattle.part_windows.specs.Rows.{B130, B131, B132, B132_between, B133, B134, B135, B136_first, B136_last, B137_rule, B137_window, B138}
 
 pub starred : All Gives rows
 unfolding run first_after last_after soonest_of latest_of solvable soonest latest
@@ -19,6 +19,7 @@ starred =
     more {x = B130} refl
     (more {x = B131} refl
     (more {x = B132} refl
+    (more {x = B132_between} refl
     (more {x = B133} refl
     (more {x = B134} refl
     (more {x = B135} refl
@@ -26,4 +27,4 @@ starred =
     (more {x = B136_last} refl
     (more {x = B137_rule} refl
     (more {x = B137_window} refl
-    (more {x = B138} refl none))))))))))
+    (more {x = B138} refl none)))))))))))

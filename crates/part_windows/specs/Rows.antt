@@ -57,9 +57,13 @@ B130 = bounds [] [] (9 ∷ []) []
 abbrev pub B131 : Row
 B131 = bounds (plain 0 2 ∷ plain 0 2 ∷ plain 0 2 ∷ []) (rule 0 1 ∷ []) (0 ∷ 1 ∷ 0 ∷ 9 ∷ []) (1 ∷ 2 ∷ 2 ∷ 9 ∷ 9 ∷ [])
 
--- two parts take positions 1 and 2, so that the others are left with 0 and 3
+-- two parts take positions 1 and 2, so that part 3 is last
 abbrev pub B132 : Row
-B132 = bounds (plain 0 3 ∷ plain 1 2 ∷ plain 1 2 ∷ plain 0 3 ∷ []) [] (0 ∷ 1 ∷ 1 ∷ 0 ∷ []) (3 ∷ 2 ∷ 2 ∷ 3 ∷ [])
+B132 = bounds (plain 0 3 ∷ plain 1 2 ∷ plain 1 2 ∷ plain 1 3 ∷ []) [] (0 ∷ 1 ∷ 1 ∷ 3 ∷ []) (0 ∷ 2 ∷ 2 ∷ 3 ∷ [])
+
+-- here it may also be first, and so may part 0; neither is ever at 1 or 2
+abbrev pub B132_between : Row
+B132_between = bounds (plain 0 3 ∷ plain 1 2 ∷ plain 1 2 ∷ plain 0 3 ∷ []) [] (0 ∷ 1 ∷ 1 ∷ 0 ∷ []) (3 ∷ 2 ∷ 2 ∷ 3 ∷ [])
 
 -- two parts before a third, which is thus not at position 1
 abbrev pub B133 : Row
@@ -93,4 +97,4 @@ abbrev pub B138 : Row
 B138 = refused (replicate 129 (plain 0 0)) [] 0 0 12 0
 
 abbrev pub rows : List Row
-rows = B130 ∷ B131 ∷ B132 ∷ B133 ∷ B134 ∷ B135 ∷ B136_first ∷ B136_last ∷ B137_rule ∷ B137_window ∷ B138 ∷ []
+rows = B130 ∷ B131 ∷ B132 ∷ B132_between ∷ B133 ∷ B134 ∷ B135 ∷ B136_first ∷ B136_last ∷ B137_rule ∷ B137_window ∷ B138 ∷ []
