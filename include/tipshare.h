@@ -62,7 +62,8 @@
  * 6, 7, 8, 1, 9, 10, then 2, 3 or 15 of the first bad line, then 30, of two
  * files all of the first and then all of the second, then those of the call in
  * the order named with it. tipshare_order and tipshare_windows take no file: there
- * it is 100, 101, 12, 13, 14, 29.
+ * it is 100, 101, 12, 13, 14, 29. Nor does tipshare_order_by_tips: 100, 101, 12,
+ * 13, 14, 4, 3, 16, 29.
  *
  *   No.  What is wrong                         What to do
  *   ---  ------------------------------------  --------------------------------
@@ -70,7 +71,9 @@
  *        tipshare_junior also above 8          Junior 1 to 8
  *     2  line answer[0] has no tip             give that line a tip
  *     3  line answer[0] has a tip outside      take it out of that line, or
- *        the rack                              name a larger rack in byte 5
+ *        the rack; tipshare_order_by_tips:     name a larger rack in byte 5;
+ *        the tip of part answer[0] is above    give that part a tip from 0
+ *        63                                    to 63
  *     4  plan is shorter than n bytes, for     lend n; 512 always do, for
  *        tipshare_alone than those of both     tipshare_alone 1024
  *        plans
@@ -464,6 +467,32 @@ uint32_t tipshare_windows(const uint32_t *parts, size_t parts_len,
                           uint8_t *first, size_t first_len,
                           uint8_t *last, size_t last_len,
                           uint64_t *answer, size_t answer_len);
+
+/*
+ * Finds an order that obeys, as tipshare_order does, with few tip changes: at
+ * each position a part on the tip of the part before it comes before any other,
+ * at position 0 a part on the mounted tip, and among those alike the lowest part
+ * number. So a tip is changed only where every order that obeys and begins alike
+ * changes it; an order that begins otherwise may have fewer changes. Where all
+ * parts are on one tip, the order is that of tipshare_order.
+ * A change is counted wherever two neighbouring parts are on different tips, and
+ * before the first part where a tip is mounted and that part is on another.
+ * parts, rules, order: as for tipshare_order. plan: at least n bytes, plan[i] is
+ * the tip of part i, 0 to 63. mounted: the tip on the head, 0 to 63, or
+ * TIPSHARE_NO_TIP. answer: at least 4 places.
+ * Accepted: order[p] is the part at position p, for p below n, the rest of
+ * order is untouched; answer is 0, the number of parts n, the number of changes,
+ * 0. Without parts the call is accepted, and nothing is written to order.
+ * Refused (101, then 12, 13, 14, 4, 3, 16, 29): order is untouched; answer is
+ * the part for 12 and 3 (0 where there are over 128 parts), the rule for 13,
+ * else 0, then 0, 0, 0.
+ */
+uint32_t tipshare_order_by_tips(const uint32_t *parts, size_t parts_len,
+                                const uint32_t *rules, size_t rules_len,
+                                const uint8_t *plan, size_t plan_len,
+                                size_t mounted,
+                                uint8_t *order, size_t order_len,
+                                uint64_t *answer, size_t answer_len);
 
 /*
  * Writes the text that the program tipshare prints for the file: its plans are

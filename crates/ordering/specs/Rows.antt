@@ -34,7 +34,7 @@ fine a b = record { first = a; last = b; fine = true; tall = false }
 abbrev pub tall : ℕ → ℕ → Part
 tall a b = record { first = a; last = b; fine = false; tall = true }
 
-abbrev both : ℕ → ℕ → Part
+abbrev pub both : ℕ → ℕ → Part
 both a b = record { first = a; last = b; fine = true; tall = true }
 
 abbrev pub rule : ℕ → ℕ → Rule

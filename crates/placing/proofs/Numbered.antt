@@ -50,6 +50,13 @@ rule_in_record numbers i h =
     let e : i * 2 + 0 ≡ i * 2 = omega arith in
     rw (at 0 numbers h (omega arith), at 1 numbers h (omega arith), e) refl
 
+-- there is a record for each part
+pub records_size : (numbers : List ℕ) {records : List (List ℕ)} → records ≡ first_chunks 4 (length numbers / 4) numbers
+    → length records ≡ length (parts_in numbers)
+records_size numbers e =
+    let n = length numbers / 4 in
+    ap length e ∙ length-first_chunks 4 n numbers ∙ sym (listed (part_of_numbers numbers) n)
+
 -- what is told where the numbers are not four a part and two a rule
 abbrev pub misfit_told : Refusal
 misfit_told = R.refuse 101
@@ -79,12 +86,9 @@ module _ (parts rules : List ℕ) (room : ℕ) where
   fit_in passed e = or_next passed _ refl e
 
   -- over 128 parts, whatever they are
-  pub too_many : {records : List (List ℕ)} {r : Refusal} → records ≡ first_chunks 4 (length parts / 4) parts
+  pub many_given : {records : List (List ℕ)} {r : Refusal} → records ≡ first_chunks 4 (length parts / 4) parts
       → r ≡ R.when (ltb 128 (length records)) 12 → (r.number ≡ 0 → ⊥) → r ≡ given_refusal (parts_in parts) (rules_in rules) room
-  too_many {records} e is n =
-      let size : length records ≡ length (parts_in parts) =
-      ap length e ∙ length-first_chunks 4 (length parts / 4) parts ∙ sym (listed (part_of_numbers parts) (length parts / 4)) in
-      over_told (parts_in parts) (rules_in rules) room (rw size at is) n
+  many_given {records} e is n = over_told (parts_in parts) (rules_in rules) room (rw (records_size parts e) at is) n
 
 -- the answer of the placing order then
 module _ (parts rules buffer : List ℕ) where

@@ -9,6 +9,7 @@ use lib.Dec.{T, ltb, leb, ltb→lt, leb→le}
 use lib.ListN.{length, get_or, take, set, length-set}
 use lib.Seq.{get_or-take, length-take-le, get_or-set_same, get_or-set_other}
 use mathlib.Core.Option.{none, some}
+use mathlib.Core.Option as M
 use Rattle.std.proofs.Common as R
 use Rattle.std.proofs.Common.{IfSome, IfNone}
 use Rattle.std.specs.List.{position, position_or_len}
@@ -98,7 +99,7 @@ module _ (parts : List Part) (windows : T (each (window_ok (length parts)) parts
       )
 
   module _ (few : n ≤ 128) (firsts lasts : List ℕ) (p : PositionsOf parts n firsts lasts) where
-    size : length (take n lasts) ≡ n
+    pub size : length (take n lasts) ≡ n
     size = length-take-le n lasts (omega (arith, p.lasts_size))
 
     pub firsts_in : InPlace n firsts
@@ -124,17 +125,18 @@ module _ (parts : List Part) (windows : T (each (window_ok (length parts)) parts
       below i l = omega (arith, size, lasts_in i (omega (arith, size)))
 
       -- the least order by the flat arrays is the placing order
-      flat-order : least_order t ≡ placing_order parts rules
+      pub flat-order : least_order t ≡ placing_order parts rules
       flat-order = least_unique (least_agree parts_agree (least-order t below)) (placing-order parts rules windows)
 
-      pub order_some : (o : R.Option (List ℕ)) → IfSome o (λ order. some (take (length (take n lasts)) order) ≡ least_order t)
-          → IfSome o (λ order. some (take n order) ≡ placing_order parts rules)
-      order_some R.None h = tt
-      order_some (R.Some order) h = ap (λ k. some (take k order)) (sym size) ∙ h ∙ flat-order
+-- what the search answers, where the order of the flat arrays is that of the parts
+module _ {k n : ℕ} (size : k ≡ n) {flat whole : M.Option (List ℕ)} (e : flat ≡ whole) where
+  pub order_some : (o : R.Option (List ℕ)) → IfSome o (λ order. some (take k order) ≡ flat) → IfSome o (λ order. some (take n order) ≡ whole)
+  order_some R.None h = tt
+  order_some (R.Some order) h = ap (λ j. some (take j order)) (sym size) ∙ h ∙ e
 
-      pub order_none : (o : R.Option (List ℕ)) → IfNone o (none ≡ least_order t) → IfNone o (none ≡ placing_order parts rules)
-      order_none R.None h = h ∙ flat-order
-      order_none (R.Some order) h = tt
+  pub order_none : (o : R.Option (List ℕ)) → IfNone o (none ≡ flat) → IfNone o (none ≡ whole)
+  order_none R.None h = h ∙ e
+  order_none (R.Some order) h = tt
 
 -- the refusal of a call that ends with an error
 pub told_error : {A : Type 0} (r : Result A Refused) (e : Refused) → IsErrAnd r (λ x. x ≡ e) → refusal_of r ≡ told_of e

@@ -2,12 +2,15 @@
 ghost use Rattle.std.specs.Prelude.{◌≡◌, ℕ, ◌/◌, ◌≤◌, ◌<◌, [], length, get_or, ltb, IfOk};
 ghost use Rattle.std.specs.Simd.{first_chunks};
 ghost use Rattle.refusal.specs.Refusal.{when};
-ghost use Rattle.refusal.specs.Reasons.{refusal_of};
+ghost use Rattle.refusal.specs.Reasons.{refusal_of, count_in};
 ghost use Rattle.ordering.specs.Parts.{part_at};
 ghost use Rattle.placing.specs.Numbers.{part_of_numbers, rule_in, numbers_refusal, order_in, order_after_in, PlacingRuleIn};
 ghost use Rattle.cases.specs.Cases.{Told};
-ghost use Rattle.placing.specs.Cases.{numbers_cases};
+ghost use Rattle.placing.specs.Cases.{numbers_cases, numbers_by_tips_cases};
+ghost use Rattle.head.specs.OnHead.{on_head};
+ghost use Rattle.placing.specs.ByTips.{refusal_by_tips_in, buffer_by_tips_in, changes_by_tips_in, TipsRuleIn};
 
+use crate::by_tips::place_by_tips;
 use crate::placement::place;
 use flat_order::MOST_PARTS;
 use ordering::{Part, Rule};
@@ -91,6 +94,33 @@ pub fn order_numbers(parts: &[u32], rules: &[u32], order: &mut [u8]) -> Result<(
         &given[..records.len()],
         pairs.len(),
         |i| rule_of(&pairs[i]),
+        order,
+    )
+}
+
+// The placing order by tips of the parts and the rules that the numbers stand for.
+pub fn order_by_tips(
+    parts: &[u32],
+    rules: &[u32],
+    plan: &[u8],
+    mounted: Option<usize>,
+    order: &mut [u8],
+) -> Result<usize, Refused>
+    ensures refusal { refusal_of result ≡ refusal_by_tips_in parts.now rules.now plan.now (on_head mounted) (length order.old) }
+    ensures order { order.new ≡ buffer_by_tips_in parts.now rules.now plan.now (on_head mounted) order.old }
+    ensures changes { count_in result ≡ changes_by_tips_in parts.now rules.now plan.now (on_head mounted) (length order.old) }
+    ensures rule { TipsRuleIn parts.now rules.now plan.now (on_head mounted) (length order.old) order.new (refusal_of result)
+        (count_in result) }
+    ensures cases { Told (numbers_by_tips_cases parts.now rules.now plan.now (on_head mounted) (length order.old)) (refusal_of result) }
+{
+    let (records, pairs) = records_of(parts, rules)?;
+    let given = parts_of(records)?;
+    place_by_tips(
+        &given[..records.len()],
+        pairs.len(),
+        |i| rule_of(&pairs[i]),
+        plan,
+        mounted,
         order,
     )
 }

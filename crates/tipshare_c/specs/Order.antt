@@ -2,7 +2,9 @@
 use Rattle.std.specs.Prelude.{ℕ, ◌/◌, List, length}
 use Rattle.refusal.specs.Told.{Refusal}
 use Rattle.refusal.specs.Refusal.{told}
+use Rattle.model.specs.Choice.{Mounted}
 use Rattle.placing.specs.Numbers.{order_in}
+use Rattle.placing.specs.ByTips.{refusal_by_tips_in, changes_by_tips_in}
 use Rattle.file_calls.specs.Outcomes.{Outcome}
 
 -- the refusal, and the number of parts where nothing is refused
@@ -12,3 +14,9 @@ order_outcome r count = record { refusal = r; first = told r count; second = 0; 
 -- for parts and rules as plain numbers, where the shortest buffer has room bytes
 unfoldable pub ordered_in : List ℕ → List ℕ → ℕ → Outcome
 ordered_in parts rules room = order_outcome (order_in parts rules room) (length parts / 4)
+
+-- by tips, with the number of changes
+unfoldable pub ordered_by_tips_in : List ℕ → List ℕ → List ℕ → Mounted → ℕ → Outcome
+ordered_by_tips_in parts rules plan mounted room =
+    let r = refusal_by_tips_in parts rules plan mounted room in
+    record { refusal = r; first = told r (length parts / 4); second = changes_by_tips_in parts rules plan mounted room; third = 0 }

@@ -59,9 +59,19 @@ impl Error for ScriptError {}
 #[derive(Drop)]
 pub(crate) enum Command {
     Call(Call),
-    Read { length: usize, patches: Vec<Patch> },
+    Read {
+        length: usize,
+        patches: Vec<Patch>,
+    },
     Every(Stage),
-    Order { room: Option<usize> },
+    Order {
+        room: Option<usize>,
+    },
+    OrderByTips {
+        room: Option<usize>,
+        count: Option<usize>,
+        mounted: Option<usize>,
+    },
     Edit(Edit),
 }
 
@@ -278,6 +288,11 @@ impl Command {
             ("every", [number]) => Ok(Command::Every(stage(*number))),
             ("order", _) => Ok(Command::Order {
                 room: given(numbers, 0),
+            }),
+            ("tips", _) => Ok(Command::OrderByTips {
+                room: given(numbers, 0),
+                count: given(numbers, 1),
+                mounted: given(numbers, 2),
             }),
             _ => Call::new(word, numbers)
                 .map(Command::Call)

@@ -2,7 +2,7 @@ use Rattle.std.proofs.Common.{rules}
 use Rattle.refusal.proofs.Laws.{reason_not_0, number_not}
 use Rattle.placing.specs.Numbers.{parts_in, rules_in}
 use Rattle.placing.proofs.Windows.{told_error}
-use Rattle.placing.proofs.Numbered.{misfit_in, too_many, parts_given, rules_given}
+use Rattle.placing.proofs.Numbered.{misfit_in, many_given, parts_given, rules_given}
 use Rattle.placing.proofs.CasesTold.{numbers_told}
 use Rattle.part_windows.specs.Call.{room}
 use Rattle.part_windows.proofs.Ruling.{given_answer, misfit_buffers, fit_answer}
@@ -27,7 +27,7 @@ pub returns-in_err-given : goal.returns-in_err-given
 returns-in_err-given c =
     let a = c.args in
     let e = told_error c.from_residual-in_err-given.result c.in_err-given.field-0.0 c.from_residual-in_err-given.ensures.1 in
-    let many = too_many a.parts.now a.rules.now (room a.first.now a.last.now) c.in_ok-records.ensures.parts
+    let many = many_given a.parts.now a.rules.now (room a.first.now a.last.now) c.in_ok-records.ensures.parts
     c.in_err-given.ensures.refusal (reason_not_0 _) in
     let x = fit_answer a.parts.now a.rules.now a.first.now a.last.now c.in_ok-records.ensures.refusal
     (given_answer (parts_in a.parts.now) (rules_in a.rules.now) a.first.now a.last.now many (reason_not_0 _)) in

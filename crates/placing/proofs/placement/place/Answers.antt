@@ -3,7 +3,7 @@ use Rattle.refusal.specs.Reasons.{reason_number, number_in}
 use Rattle.refusal.proofs.Laws.{reason_not_0}
 use Rattle.ordering.proofs.Ruling.{windows_passed}
 use Rattle.placing.proofs.Answers.{placed_given, placed_none, placed_order}
-use Rattle.placing.proofs.Windows.{told_error, told_reason, order_some, order_none}
+use Rattle.placing.proofs.Windows.{told_error, told_reason, size, flat-order, order_some, order_none}
 use Rattle.placing.proofs.placement.place.Goals as goal
 
 pub returns-in_err-firsts : goal.returns-in_err-firsts
@@ -19,7 +19,9 @@ returns-in_err-found g c =
     let flat = c.in_ok-firsts in
     let passed = flat.ensures.refusal rules r in
     let windows = windows_passed parts rules (length c.args.order.now) (sym (ap (λ q. q.number) passed)) in
-    let found = order_none parts windows flat.ensures.sized.parts _ _ flat.ensures.positions rules _ (flat.ensures.rows rules r)
+    let few = flat.ensures.sized.parts in
+    let at = flat.ensures.positions in
+    let found = order_none (size parts windows few _ _ at) (flat-order parts windows few _ _ at rules _ (flat.ensures.rows rules r))
     c.least_order.result c.least_order.ensures.none in
     let no = rw c.in_err-found.ensures.ok_part at found in
     let e = told_reason c.from_residual-in_err-found.result c.in_err-found.field-0.0 c.from_residual-in_err-found.ensures.1 in
@@ -33,7 +35,9 @@ returns g c =
     let flat = c.in_ok-firsts in
     let passed = flat.ensures.refusal rules r in
     let windows = windows_passed parts rules (length c.args.order.now) (sym (ap (λ q. q.number) passed)) in
-    let found = order_some parts windows flat.ensures.sized.parts _ _ flat.ensures.positions rules _ (flat.ensures.rows rules r)
+    let few = flat.ensures.sized.parts in
+    let at = flat.ensures.positions in
+    let found = order_some (size parts windows few _ _ at) (flat-order parts windows few _ _ at rules _ (flat.ensures.rows rules r))
     c.least_order.result c.least_order.ensures.some in
     let some = rw c.in_ok-found.ensures.ok_part at found in
     rw c.copy_from_slice.ensures.after (placed_order parts rules c.args.order.now passed (take (length parts) c.in_ok-found.found) some)
