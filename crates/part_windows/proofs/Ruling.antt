@@ -6,20 +6,20 @@ use mathlib.Core.Bool.{true, false, not}
 use mathlib.Core.List.{List, ◌++◌}
 use mathlib.Core.Option.{Option, none, some}
 use lib.Dec.{T}
-use lib.ListN.{length, get_or, take, drop, replicate, length-replicate, take-append-drop, get_or-append}
+use lib.ListN.{length, get_or, take, drop, take-append-drop, get_or-append}
 use Rattle.model.specs.Count.{each, list_of}
 use Rattle.model.proofs.Tests.{T_true}
 use Rattle.model.proofs.ListOf.{length-list_of, list_of-at}
 use Rattle.refusal.specs.Told.{Refusal}
 use Rattle.refusal.specs.Refusal as R
-use Rattle.refusal.proofs.Laws.{or_none, refused, accepted, lent_refused, lent_accepted}
+use Rattle.refusal.proofs.Laws.{refused, accepted, lent_refused, lent_accepted}
 use Rattle.ordering.specs.declared.Part.{Part}
 use Rattle.ordering.specs.declared.Rule.{Rule}
 use Rattle.ordering.specs.Parts.{window_ok, task_of, placing_order}
-use Rattle.ordering.specs.Call.{absent, given_refusal, order_refusal, order_after, PlacingRule}
+use Rattle.ordering.specs.Call.{absent, given_refusal, order_refusal}
 use Rattle.ordering.proofs.Parts.{last-below}
 use Rattle.ordering.proofs.Refused.{given_refused, no_order, one_order}
-use Rattle.ordering.proofs.Ruling.{windows_passed, placing_rule}
+use Rattle.ordering.proofs.Ruling.{windows_passed, order_obeys, order_none}
 use Rattle.placing.specs.Numbers.{parts_in, rules_in, numbers_refusal, order_in}
 use Rattle.placing.proofs.Numbered.{fit_in}
 use Rattle.windows.specs.Bounds.{solvable, soonest, latest}
@@ -49,16 +49,11 @@ module _ (parts : List Part) (rules : List Rule) where
 
   -- ---- the rule
 
-  module _ (space : ℕ) where
-    -- the placing order has the same refusals
-    ordered : PlacingRule parts rules space (order_after parts rules (replicate space 0)) (order_refusal parts rules space)
-    ordered = rw (length-replicate {A = ℕ} space 0) at (placing_rule parts rules (replicate space 0))
-
-    passed : (order_refusal parts rules space).number ≡ 0 → T (each (window_ok (length parts)) parts) × T (solvable (task_of parts rules))
-    unfolding order_refusal
-    passed z =
-        let w = windows_passed parts rules space (or_none (given_refusal parts rules space) _ z).0 in
-        (w, (solvable_iff (task_of parts rules) (last-below parts w)).1 (_, ordered.obeys z))
+  passed : (space : ℕ) → (order_refusal parts rules space).number ≡ 0 → T (each (window_ok (length parts)) parts) × T (solvable (task_of parts rules))
+  passed space z =
+      let (a, found) = order_obeys parts rules space z in
+      let w = windows_passed parts rules space a in
+      (w, (solvable_iff (task_of parts rules) (last-below parts w)).1 found)
 
 pub windows_rule : {parts : List Part} {rules : List Rule} {first₀ last₀ first last : List ℕ} {r : Refusal}
     → WindowsAnswer parts rules first₀ last₀ first last r → WindowsRule parts rules (room first₀ last₀) first last r
@@ -71,8 +66,7 @@ windows_rule {parts} {rules} {first₀} {last₀} {first} {last} {r} x =
           let g : get_or first i 0 ≡ soonest t i = taken (soonest t) first₀ first (rw x.refusal at z) x.firsts i l in
           let h : get_or last i 0 ≡ latest t i = taken (latest t) last₀ last (rw x.refusal at z) x.lasts i l in
           rw (g, h) (bounds t (last-below parts w) i l y);
-      none = λ z. (ordered parts rules space).none (rw x.refusal at z);
-      told = λ z h. rw x.refusal ((ordered parts rules space).told z h);
+      none = rw x.refusal (order_none parts rules space);
     }
   where
     space : ℕ

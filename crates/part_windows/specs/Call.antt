@@ -6,9 +6,8 @@ use Rattle.refusal.specs.Told.{Refusal}
 use Rattle.refusal.specs.Refusal.{accepts, lent_by}
 use Rattle.ordering.specs.declared.Part.{Part}
 use Rattle.ordering.specs.declared.Rule.{Rule}
-use Rattle.ordering.specs.Order.{Obeys}
 use Rattle.ordering.specs.Parts.{task_of}
-use Rattle.ordering.specs.Call.{given_refusal, order_refusal}
+use Rattle.ordering.specs.Call.{given_refusal, order_refusal, NoneObeys}
 use Rattle.placing.specs.Numbers.{parts_in, rules_in, numbers_refusal}
 use Rattle.windows.specs.Bounds.{soonest, latest, Bounds}
 
@@ -37,11 +36,10 @@ pub record WindowsAnswer (parts : List Part) (rules : List Rule) (first₀ last�
   pub firsts : first ≡ first_after parts rules first₀ last₀
   pub lasts : last ≡ last_after parts rules first₀ last₀
 
--- what is accepted are the bounds of each part; past 12, 13 and 14, 29 is told exactly when no order obeys
+-- what is accepted are the bounds of each part
 pub record WindowsRule (parts : List Part) (rules : List Rule) (room : ℕ) (first last : List ℕ) (r : Refusal) : Type 0 where
   pub exact : r.number ≡ 0 → (i : ℕ) → i < length parts → Bounds (task_of parts rules) i (get_or first i 0) (get_or last i 0)
-  pub none : r.number ≡ 29 → (other : List ℕ) → Obeys (task_of parts rules) other → ⊥
-  pub told : (given_refusal parts rules room).number ≡ 0 → ((other : List ℕ) → Obeys (task_of parts rules) other → ⊥) → r.number ≡ 29
+  pub none : NoneObeys (task_of parts rules) (given_refusal parts rules room) r
 
 -- the buffers after the call on plain numbers
 unfoldable pub first_after_in : List ℕ → List ℕ → List ℕ → List ℕ → List ℕ

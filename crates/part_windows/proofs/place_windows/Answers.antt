@@ -1,8 +1,8 @@
 use Rattle.std.proofs.Common.{ap, sym, rules}
-use Rattle.refusal.proofs.Laws.{reason_not_0}
+use Rattle.refusal.proofs.Laws.{reason_not_0, told_err}
 use Rattle.ordering.proofs.Parts.{last-below}
 use Rattle.ordering.proofs.Ruling.{windows_passed}
-use Rattle.placing.proofs.Windows.{told_error, parts_agree, below}
+use Rattle.placing.proofs.Windows.{parts_agree, below}
 use Rattle.windows.proofs.Agree.{found_agree}
 use Rattle.part_windows.proofs.Ruling.{given_answer, none_answer, found_answer}
 use Rattle.part_windows.proofs.place_windows.Goals as goal
@@ -11,7 +11,7 @@ pub returns-in_err-firsts : goal.returns-in_err-firsts
 returns-in_err-firsts g c =
     λ rules r.
     let a = c.args in
-    let e = told_error c.from_residual.result c.in_err-firsts.field-0.0 c.from_residual.ensures.1 in
+    let e = told_err c.from_residual.result c.in_err-firsts.field-0.0 c.from_residual.ensures in
     rw e (given_answer a.parts.now rules a.first.now a.last.now (rw c.min.ensures at (c.in_err-firsts.ensures.refusal rules r)) (reason_not_0 _))
 
 pub returns-then-not-find_bounds : goal.returns-then-not-find_bounds

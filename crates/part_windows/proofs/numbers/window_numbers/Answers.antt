@@ -1,7 +1,6 @@
 use Rattle.std.proofs.Common.{rules}
-use Rattle.refusal.proofs.Laws.{reason_not_0, number_not}
+use Rattle.refusal.proofs.Laws.{reason_not_0, number_not, told_err}
 use Rattle.placing.specs.Numbers.{parts_in, rules_in}
-use Rattle.placing.proofs.Windows.{told_error}
 use Rattle.placing.proofs.Numbered.{misfit_in, many_given, parts_given, rules_given}
 use Rattle.placing.proofs.CasesTold.{numbers_told}
 use Rattle.part_windows.specs.Call.{room}
@@ -11,7 +10,7 @@ use Rattle.part_windows.proofs.numbers.window_numbers.Goals as goal
 pub returns-in_err-records : goal.returns-in_err-records
 returns-in_err-records c =
     let a = c.args in
-    let e = told_error c.from_residual.result c.in_err-records.field-0.0 c.from_residual.ensures.1 in
+    let e = told_err c.from_residual.result c.in_err-records.field-0.0 c.from_residual.ensures in
     let told = c.in_err-records.ensures.refusal in
     let refusal = misfit_in a.parts.now a.rules.now (room a.first.now a.last.now) told (reason_not_0 _) in
     let buffers = misfit_buffers a.parts.now a.rules.now a.first.now a.last.now told (reason_not_0 _) in
@@ -26,7 +25,7 @@ returns-in_err-records c =
 pub returns-in_err-given : goal.returns-in_err-given
 returns-in_err-given c =
     let a = c.args in
-    let e = told_error c.from_residual-in_err-given.result c.in_err-given.field-0.0 c.from_residual-in_err-given.ensures.1 in
+    let e = told_err c.from_residual-in_err-given.result c.in_err-given.field-0.0 c.from_residual-in_err-given.ensures in
     let many = many_given a.parts.now a.rules.now (room a.first.now a.last.now) c.in_ok-records.ensures.parts
     c.in_err-given.ensures.refusal (reason_not_0 _) in
     let x = fit_answer a.parts.now a.rules.now a.first.now a.last.now c.in_ok-records.ensures.refusal
