@@ -4,14 +4,17 @@ use native.Mathlib.Omega.{arith}
 use mathlib.Core.Path.{◌≡◌, refl}
 use lib.Dec.{T, ltb, ltb→lt}
 use lib.ListN.{replicate}
+use mathlib.Core.List.{List}
 use mathlib.Core.Option.{some}
 use Rattle.ordering.specs.Order.{Task, Obeys}
+use Rattle.ordering.specs.Prefer.{Best}
 use Rattle.ordering.specs.Least.{choose_lowest, no_state, least_order}
 use Rattle.ordering.proofs.First.{on_alike, chooses_first}
 use Rattle.ordering.proofs.Best.{best-order, best_obeys}
 use Rattle.ordering.proofs.Agree.{best-alike}
+use Rattle.flat_order.specs.declared.sets.PartSet.{PartSet}
 use Rattle.flat_order.specs.Sets.{has_part, no_parts}
-use Rattle.flat_order.specs.Flat.{row_at, choose_ready, ready_order}
+use Rattle.flat_order.specs.Flat.{row_at, by_ready, choose_ready, ready_order}
 use Rattle.flat_order.proofs.Lasts.{first-none}
 use Rattle.flat_order.proofs.Below.{row-none}
 
@@ -28,4 +31,6 @@ never_ready t =
 -- an order that is found obeys
 pub ready_obeys : (start : PartSet) (after : List PartSet) (t : Task) → ((i : ℕ) → i < t.size → t.last i < t.size) → {order : List ℕ}
     → some order ≡ ready_order start after t → Obeys t order
-ready_obeys start after t below h = best_obeys (rw h (best-order (row_at after) (chooses_first has_part) start t below))
+ready_obeys start after t below {order} h =
+    let best : Best by_ready (row_at after) start t (some order) = rw h (best-order (row_at after) (chooses_first has_part) start t below) in
+    best_obeys best

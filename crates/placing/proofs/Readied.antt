@@ -122,7 +122,8 @@ module _ (n : ℕ) (firsts lasts : List ℕ) (rows : List PartSet) (start : Part
     (is : some (take (length (take n lasts)) found) ≡ ready_order start after (flat_task firsts (take n lasts) rows)) where
   found_obeys : Obeys (flat_task firsts (take n lasts) rows) (take n found)
   found_obeys =
-      rw size at (ready_obeys start after (flat_task firsts (take n lasts) rows) (λ i l. omega (arith, size, within i (omega (arith, size)))) is)
+      ready_obeys start after (flat_task firsts (take n lasts) rows) (λ i l. omega (arith, size, within i (omega (arith, size))))
+      (ap (λ k. some (take k found)) (sym size) ∙ is)
 
   pub found_size : length (take n found) ≡ n
   found_size = found_obeys.count ∙ size

@@ -16,7 +16,9 @@ unfoldable pub ordered_in : List ℕ → List ℕ → ℕ → Outcome
 ordered_in parts rules room = order_outcome (order_in parts rules room) (length parts / 4)
 
 -- by tips, with the number of changes
+unfoldable pub by_tips_outcome : Refusal → ℕ → ℕ → Outcome
+by_tips_outcome r count changed = record { refusal = r; first = told r count; second = changed; third = 0 }
+
 unfoldable pub ordered_by_tips_in : List ℕ → List ℕ → List ℕ → Mounted → ℕ → Outcome
 ordered_by_tips_in parts rules plan mounted room =
-    let r = refusal_by_tips_in parts rules plan mounted room in
-    record { refusal = r; first = told r (length parts / 4); second = changes_by_tips_in parts rules plan mounted room; third = 0 }
+    by_tips_outcome (refusal_by_tips_in parts rules plan mounted room) (length parts / 4) (changes_by_tips_in parts rules plan mounted room)

@@ -68,9 +68,10 @@ count_changes-requires g c =
     let n = length a.parts.now in
     let flat = c.in_ok-firsts in
     let p = tips_passed n a.plan.now (on_head a.mounted) (sym (ap (λ q. q.number) c.in_ok-refuse_tips.ensures)) in
-    let whole : length (take n flat.lasts) ≡ n = length-take-le n flat.lasts (omega (arith, flat.ensures.positions.lasts_size, flat.ensures.sized.parts)) in
+    let f = flat.field-0 in
+    let whole = length-take-le n f.lasts (omega (arith, flat.ensures.positions.lasts_size, flat.ensures.sized.parts)) in
     let is = rw c.in_ok-found.ensures.ok_part at c.best_order.ensures.some in
-    found_tipped n flat.firsts flat.lasts flat.rows c.ready_parts.result.start c.ready_parts.result.after whole flat.ensures.lasts
+    found_tipped n f.firsts f.lasts f.rows c.ready_parts.result.start c.ready_parts.result.after whole flat.ensures.lasts
     c.in_ok-found.found is a.plan.now a.order.now c.copy_from_slice.new.self p.long c.copy_from_slice.ensures.after
 
 pub returns : goal.returns
@@ -92,7 +93,8 @@ returns g c =
     (order_some (size parts windows few _ _ at) same c.best_order.result c.best_order.ensures.some) in
     let is = rw c.in_ok-found.ensures.ok_part at c.best_order.ensures.some in
     let order = take n c.in_ok-found.found in
-    let front = found_front n flat.firsts flat.lasts flat.rows c.ready_parts.result.start c.ready_parts.result.after
+    let f = flat.field-0 in
+    let front = found_front n f.firsts f.lasts f.rows c.ready_parts.result.start c.ready_parts.result.after
     (size parts windows few _ _ at) flat.ensures.lasts c.in_ok-found.found is a.order.now c.copy_from_slice.new.self
     c.copy_from_slice.ensures.after in
     let counted : c.count_changes.result ≡ changes a.plan.now (on_head a.mounted) order =
