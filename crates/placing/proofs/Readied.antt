@@ -3,15 +3,13 @@ use Prim.Native.Nat.{ℕ, ◌+◌, ◌≤◌, ◌<◌}
 use native.Mathlib.Omega.{arith}
 use mathlib.Core.Path.{◌≡◌, refl, ap, sym, ◌∙◌}
 use mathlib.Core.Logic.{⊎_elim}
-use mathlib.Core.Bool.{not, cond, ◌&&◌}
+use mathlib.Core.Bool.{not, cond}
 use mathlib.Core.List.{List, ◌++◌}
-use mathlib.Core.Option.{none, some}
-use lib.Dec.{T, ltb, eqb, ltb→lt}
+use mathlib.Core.Option.{some}
+use lib.Dec.{T, eqb, ltb→lt}
 use lib.ListN.{length, get_or, take, drop, set, length-set}
 use lib.Seq.{get_or-take, length-take-le, take_at}
 use borrow.Author.Tests.{lt-ltb, eq-eqb, ne_eqb}
-use Rattle.std.proofs.Common as R
-use Rattle.std.proofs.Common.{IfSome, IfNone}
 use Rattle.model.specs.Limits.{most_tips}
 use Rattle.model.specs.Choice.{Mounted, tip, is_on}
 use Rattle.model.specs.Count.{each, first_fail, place_in}
@@ -27,8 +25,8 @@ use Rattle.model.proofs.Pairs.{eqb_comm}
 use Rattle.ordering.specs.declared.Part.{Part}
 use Rattle.ordering.specs.declared.Rule.{Rule}
 use Rattle.ordering.specs.Order.{Task, Obeys}
-use Rattle.ordering.specs.Parts.{window_ok, task_of}
-use Rattle.ordering.specs.Tips.{tip_at, is_ready, head_after, choose_by_tip, order_by_tips, placing_by_tips}
+use Rattle.ordering.specs.Parts.{window_ok}
+use Rattle.ordering.specs.Tips.{tip_at, is_ready, head_after, choose_by_tip, placing_by_tips}
 use Rattle.ordering.proofs.First.{first_asym, on_same}
 use Rattle.ordering.proofs.Best.{best_unique}
 use Rattle.ordering.proofs.Agree.{best_agree, best-alike}

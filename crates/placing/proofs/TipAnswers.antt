@@ -8,7 +8,7 @@ use lib.ListN.{length, drop}
 use Rattle.model.specs.Choice.{Mounted}
 use Rattle.refusal.specs.Told.{Refusal}
 use Rattle.refusal.specs.Refusal as R
-use Rattle.refusal.proofs.Laws.{or_first, or_next, refused, accepted, number_not}
+use Rattle.refusal.proofs.Laws.{or_first, or_next}
 use Rattle.ordering.specs.declared.Part.{Part}
 use Rattle.ordering.specs.declared.Rule.{Rule}
 use Rattle.ordering.specs.Call.{given_refusal}

@@ -1,4 +1,5 @@
-// The least placing order, without a search: the last positions are settled, then each position takes the lowest part that fits.
+// The placing order and the placing order by tips, without a search: the last positions are settled, then each position takes the part that
+// is preferred of those that fit.
 #![tactic(auto)]
 
 ghost use Rattle.std.specs.Prelude.{◌≡◌, length};

@@ -1,4 +1,4 @@
-use Rattle.std.proofs.Common.{ap, ◌∙◌, arith}
+use Rattle.std.proofs.Common.{arith}
 use Rattle.ordering.specs.Tips.{tip_at}
 use Rattle.flat_order.proofs.Below.{places_none, places_more}
 use Rattle.placing.proofs.Readied.{tip_in}

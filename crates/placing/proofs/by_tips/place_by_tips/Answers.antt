@@ -1,4 +1,4 @@
-use Rattle.std.proofs.Common.{◌≡◌, ◌≤◌, T, ap, sym, take, length, ◌∙◌, arith}
+use Rattle.std.proofs.Common.{◌≡◌, ap, sym, take, length, ◌∙◌, arith}
 use lib.Seq.{length-take-le}
 use Rattle.head.specs.OnHead.{on_head}
 use Rattle.refusal.specs.Reasons.{reason_number, number_in}

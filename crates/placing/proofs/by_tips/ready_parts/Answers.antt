@@ -1,12 +1,8 @@
 use Rattle.std.proofs.Common.{◌<◌, arith}
-use lib.Dec.{T, ltb→lt}
+use lib.Dec.{ltb→lt}
 use Rattle.model.specs.Limits.{most_tips}
 use Rattle.model.specs.Choice.{is_on}
-use Rattle.head.specs.OnHead.{on_head}
-use Rattle.ordering.specs.Tips.{tip_at, is_ready}
-use Rattle.ordering.specs.TipCall.{head_ok}
-use Rattle.flat_order.specs.Sets.{has_part}
-use Rattle.flat_order.specs.Flat.{row_at}
+use Rattle.ordering.specs.Tips.{tip_at}
 use Rattle.placing.proofs.Flagged.{has_nothing}
 use Rattle.placing.proofs.Readied.{tip_in, tip_ready, after_more}
 use Rattle.placing.proofs.by_tips.ready_parts.Goals as goal

@@ -1,4 +1,4 @@
-use Rattle.std.proofs.Common.{◌≡◌, ap, sym, take, ◌∙◌}
+use Rattle.std.proofs.Common.{ap, take, ◌∙◌}
 use Rattle.refusal.proofs.Laws.{told_err, or_err, or_ok}
 use Rattle.refusal.specs.Reasons.{refused_at}
 use Rattle.ordering.specs.TipCall.{tips_refusal}
