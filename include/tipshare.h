@@ -42,13 +42,21 @@
  * WebAssembly, and compared on each with the second implementation by 200,000
  * calls (docs/TARGETS.md). WebAssembly is for JavaScript: lengths have 64 bits
  * there, so the prototypes below do not fit it. The library needs nothing but
- * memset and memcpy from the C library; it has no heap and no global state. The
- * stack that a call needs on Linux, in KB, the most of the three processors,
- * measured and rounded up (docs/TARGETS.md); the first call of a process may need
- * 2 KB more, to look up those two functions:
+ * memset and memcpy from the C library; it has no heap and no global state.
  *
- *   read 1, common 7, keep 7, goal 91, quick 18, best 32, check 22, junior 5,
- *   merge 14, alone 22, mend 1, order 15, report 48
+ * The stack that a call needs on Linux, in KB of 1,024 bytes, measured on three
+ * processors, 1 KB or more added, rounded up (docs/PERFORMANCE.md):
+ *
+ *   read 5, common 10, keep 10, goal 95, quick 20, best 33, check 26, junior 9,
+ *   merge 18, alone 25, mend 5, order 20, report 49
+ *
+ * These are for a program that looks functions up at their first calls (-z lazy):
+ * the call itself in the shared library, memset and memcpy in the static one. The
+ * look-up saves the registers of the processor, 3.2 KB with AVX-512. A program
+ * linked with -z now needs up to 3 KB less. A thread needs 5 KB more of the size
+ * that pthread_attr_setstacksize sets, and room for the program's thread-local
+ * variables. A signal handler on a stack of its own needs
+ * sysconf(_SC_MINSIGSTKSZ) bytes more.
  *
  * All but tipshare_words and tipshare_version are proved. The two are tables in
  * C, in libtipshare.a and libtipshare.so; libtipshare_c.a, which make leaves in
@@ -354,6 +362,26 @@ uint32_t tipshare_check(const uint8_t *file, size_t file_len,
 uint32_t tipshare_junior(const uint8_t *file, size_t file_len,
                          uint8_t *plan, size_t plan_len,
                          uint64_t *answer, size_t answer_len);
+
+/*
+ * Plans for a machine that places the lines in the order of the list, with the
+ * fewest tip changes. A change is counted wherever two neighbouring lines are on
+ * different tips, and before the first line if a tip is mounted and that line is
+ * on another. No other plan has fewer changes. The lines are split into segments:
+ * a segment goes on as long as its lines have some tip in common, and all of its
+ * lines are on the lowest of these. If a tip is mounted, only it is common before
+ * the first line.
+ * file: file_len bytes, any number. mounted: the tip on the head, 0 to m - 1,
+ * or TIPSHARE_NO_TIP. plan: at least n bytes. answer: at least 4 places.
+ * Accepted: plan[i] is the tip of line i, for i below n, the rest of plan is
+ * untouched; answer is 0, the number of changes, the number of pairs in the plan
+ * (2096128 at most), 0.
+ * Refused (1, 2, 3, 6 to 10, 15, 30, then 16, 4): plan is untouched; answer is
+ * the line, 0, 0, 0.
+ */
+uint32_t tipshare_along(const uint8_t *file, size_t file_len, size_t mounted,
+                        uint8_t *plan, size_t plan_len,
+                        uint64_t *answer, size_t answer_len);
 
 /*
  * Merges two boards of one rack into one, for two boards on one panel, and

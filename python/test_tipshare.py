@@ -70,6 +70,18 @@ class Calls(unittest.TestCase):
             with self.assertRaises(ValueError):
                 tipshare.keep(EXAMPLE, wrong)
 
+    def test_along(self):
+        file = tipshare.job(4, [[0, 1], [1, 2], ([2, 3], 2)])
+        self.assertEqual(tipshare.along(file), ([1, 1, 2], 1, 2))
+        self.assertEqual(tipshare.along(file, mounted=0), ([0, 2, 2], 1, 3))
+        self.assertEqual(tipshare.along(file, mounted=3), ([1, 1, 2], 2, 2))
+        self.assertEqual(tipshare.along(tipshare.job(4, [])), ([], 0, 0))
+        self.refused(16, 0, tipshare.along, file, 4)
+        self.refused(6, 0, tipshare.along, b"", 4)
+        for wrong in (-1, 2**64 - 1):
+            with self.assertRaises(ValueError):
+                tipshare.along(file, wrong)
+
     def test_check(self):
         file = tipshare.job(3, [([0], 2), ([0, 1], 3), ([1, 2], 3), ([2], 2)])
         tips, pairs, table = tipshare.best(file)

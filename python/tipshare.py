@@ -20,8 +20,8 @@ import pathlib
 
 __version__ = "2.0.0"
 __all__ = [
-    "Refused", "Plan", "Part", "plan", "job", "read", "common", "keep", "goal", "quick", "best", "check", "junior",
-    "merge", "alone", "mend", "order", "report", "words", "version",
+    "Refused", "Plan", "Part", "plan", "job", "read", "common", "keep", "goal", "quick", "best", "along", "check",
+    "junior", "merge", "alone", "mend", "order", "report", "words", "version",
 ]
 
 MOST_TIPS = 64
@@ -80,7 +80,7 @@ def _load():
     before = {
         "read": lent, "common": lent, "keep": lent + [ctypes.c_uint16] + lent, "goal": lent + [number] + lent,
         "quick": lent + [size] + lent, "best": lent + [size] + lent + lent,
-        "check": lent + lent + [number] + lent, "junior": lent + lent, "merge": lent + lent + lent,
+        "along": lent + [size] + lent, "check": lent + lent + [number] + lent, "junior": lent + lent, "merge": lent + lent + lent,
         "alone": lent + lent + lent, "mend": lent + lent + lent, "order": lent + lent + lent,
     }
     for call, types in before.items():
@@ -192,6 +192,13 @@ def best(file, mounted=None):
     table = _lent(ctypes.c_uint32, rack * rack)
     answer = _call("best", *_given(file), _mounted(mounted), plan_, len(plan_), table, len(table))
     return list(plan_[:count]), answer[1], list(table)
+
+
+def along(file, mounted=None):
+    """The tip of each line in the plan with the fewest tip changes along the list, its changes, and its pairs."""
+    plan_, count = _lent(ctypes.c_uint8, MOST_LINES), read(file)[1]
+    answer = _call("along", *_given(file), _mounted(mounted), plan_, len(plan_))
+    return list(plan_[:count]), answer[1], answer[2]
 
 
 def check(file, tips, claim, table):

@@ -10,13 +10,13 @@
 #include <string.h>
 
 #define MOST_BUFFERS 4
-#define ORDER 12
+#define ORDER 13
 #define END 255
 
-static const char *const names[] = {"read",   "common", "keep",  "goal", "quick", "best", "check",
-                                    "junior", "merge",  "alone", "mend", "report", "order"};
+static const char *const names[] = {"read",   "common", "keep",  "goal",  "quick", "best",   "along",
+                                    "check",  "junior", "merge", "alone", "mend",  "report", "order"};
 /* The buffers of each function. */
-static const int buffers_of[] = {2, 2, 3, 3, 3, 4, 4, 3, 4, 4, 4, 2, 4};
+static const int buffers_of[] = {2, 2, 3, 3, 3, 4, 3, 4, 3, 4, 4, 4, 2, 4};
 
 /* A lent part of some cells, and all bytes of the cells: those lent to the call, and those that are expected afterwards. */
 struct buffer {
@@ -96,12 +96,13 @@ static uint64_t call(int function, uint64_t argument, struct buffer *lent)
     case 3: return tipshare_goal(at[0], len[0], (uint32_t)argument, at[1], len[1], at[2], len[2]);
     case 4: return tipshare_quick(at[0], len[0], (size_t)argument, at[1], len[1], at[2], len[2]);
     case 5: return tipshare_best(at[0], len[0], (size_t)argument, at[1], len[1], at[2], len[2], at[3], len[3]);
-    case 6: return tipshare_check(at[0], len[0], at[1], len[1], (uint32_t)argument, at[2], len[2], at[3], len[3]);
-    case 7: return tipshare_junior(at[0], len[0], at[1], len[1], at[2], len[2]);
-    case 8: return tipshare_merge(at[0], len[0], at[1], len[1], at[2], len[2], at[3], len[3]);
-    case 9: return tipshare_alone(at[0], len[0], at[1], len[1], at[2], len[2], at[3], len[3]);
-    case 10: return tipshare_mend(at[0], len[0], at[1], len[1], at[2], len[2], at[3], len[3]);
-    case 11: return tipshare_report(at[0], len[0], at[1], len[1]);
+    case 6: return tipshare_along(at[0], len[0], (size_t)argument, at[1], len[1], at[2], len[2]);
+    case 7: return tipshare_check(at[0], len[0], at[1], len[1], (uint32_t)argument, at[2], len[2], at[3], len[3]);
+    case 8: return tipshare_junior(at[0], len[0], at[1], len[1], at[2], len[2]);
+    case 9: return tipshare_merge(at[0], len[0], at[1], len[1], at[2], len[2], at[3], len[3]);
+    case 10: return tipshare_alone(at[0], len[0], at[1], len[1], at[2], len[2], at[3], len[3]);
+    case 11: return tipshare_mend(at[0], len[0], at[1], len[1], at[2], len[2], at[3], len[3]);
+    case 12: return tipshare_report(at[0], len[0], at[1], len[1]);
     default: return tipshare_order(at[0], len[0], at[1], len[1], at[2], len[2], at[3], len[3]);
     }
 }

@@ -11,6 +11,7 @@ const FUNCTIONS = [
   ["goal", "buffer number buffer buffer"],
   ["quick", "buffer big buffer buffer"],
   ["best", "buffer big buffer buffer buffer"],
+  ["along", "buffer big buffer buffer"],
   ["check", "buffer buffer number buffer buffer"],
   ["junior", "buffer buffer buffer"],
   ["merge", "buffer buffer buffer buffer"],

@@ -2,7 +2,7 @@
 //! again on another machine: `targets/replay.c` and `targets/replay.mjs` read the file.
 //!
 //! The file is the 8 bytes `TIPCALLS`, the calls, and then a byte 255 and the number of calls (64 bits). A call is
-//! - its function (8 bits): the place of its name in [`CALL_NAMES`], and 12 for an order;
+//! - its function (8 bits): the place of its name in [`CALL_NAMES`], and the place after the last name for an order;
 //! - the number among its arguments (64 bits): `k`, `goal`, `mounted` or `claim`, else 0;
 //! - the number that it must return (64 bits);
 //! - its buffers, in the order of the parameters.
@@ -47,9 +47,10 @@ cell!(u64);
 /// A record of some of the calls that a comparison makes.
 pub struct Record {
     to: BufWriter<File>,
-    /// Out of so many calls, so many are wanted, spread evenly.
+    /// The calls that are expected in all, and how many of them are to be recorded, spread evenly.
     calls: u64,
     wanted: u64,
+    /// The calls offered so far, and those written.
     offered: u64,
     written: u64,
     /// Functions and numbers that have occurred: the first call of each kind is recorded always.
@@ -101,7 +102,8 @@ impl Record {
                 put(&mut bytes, &before.bytes, &after.bytes);
                 put(&mut bytes, &before.table, &after.table);
             }
-            Call::Keep { .. } | Call::Goal { .. } | Call::Quick { .. } | Call::Junior { .. } | Call::Report { .. } => {
+            Call::Keep { .. } | Call::Goal { .. } | Call::Report { .. } => put(&mut bytes, &before.bytes, &after.bytes),
+            Call::Quick { .. } | Call::Along { .. } | Call::Junior { .. } => {
                 put(&mut bytes, &before.bytes, &after.bytes);
             }
         }
@@ -143,7 +145,7 @@ fn argument(call: &Call) -> u64 {
     match *call {
         Call::Keep { k, .. } => k.into(),
         Call::Goal { goal, .. } => goal.into(),
-        Call::Quick { mounted, .. } | Call::Best { mounted, .. } => mounted as u64,
+        Call::Quick { mounted, .. } | Call::Best { mounted, .. } | Call::Along { mounted, .. } => mounted as u64,
         Call::Check { claim, .. } => claim.into(),
         _ => 0,
     }

@@ -244,6 +244,30 @@ pub fn best(file: &[u8], mounted: Option<usize>, plan: &mut [u8], table: &mut [u
     Ok(answer_of(|answer| on_slices::best(file, number_of(mounted), plan, table, answer))?[1])
 }
 
+/// A plan along the list: its tip changes, with the one before the first line, and its pairs of placements.
+#[derive(Clone, Copy, PartialEq, Eq, Debug)]
+pub struct Along {
+    pub changes: u64,
+    pub pairs: u64,
+}
+
+/// Plans the lines in the order of the list, with the fewest tip changes.
+///
+/// ```
+/// let file = tipshare::job_file(4, &[(0b0011, 1), (0b0110, 1), (0b1100, 1)]);
+/// let mut plan = [0; 3];
+/// // Tip 1 serves the first two lines, and no tip serves all three.
+/// assert_eq!(tipshare::along(&file, None, &mut plan), Ok(tipshare::Along { changes: 1, pairs: 1 }));
+/// assert_eq!(plan, [1, 1, 2]);
+/// // Tip 0 is on the head, and serves the first line alone.
+/// assert_eq!(tipshare::along(&file, Some(0), &mut plan), Ok(tipshare::Along { changes: 1, pairs: 1 }));
+/// assert_eq!(plan, [0, 2, 2]);
+/// ```
+pub fn along(file: &[u8], mounted: Option<usize>, plan: &mut [u8]) -> Result<Along, Refusal> {
+    let answer = answer_of(|answer| on_slices::along(file, number_of(mounted), plan, answer))?;
+    Ok(Along { changes: answer[1], pairs: answer[2] })
+}
+
 /// Checks a plan from other software, with its claimed pairs and its table, for lines that are runs; what is accepted has
 /// the most pairs of placements.
 ///
@@ -423,6 +447,20 @@ pub mod on_slices {
         }
     }
 
+    pub fn along(file: &[u8], mounted: usize, plan: &mut [u8], answer: &mut [u64]) -> u32 {
+        unsafe {
+            declared::tipshare_along(
+                file.as_ptr(),
+                file.len() as u64,
+                of_tip(mounted),
+                plan.as_mut_ptr(),
+                plan.len() as u64,
+                answer.as_mut_ptr(),
+                answer.len() as u64,
+            )
+        }
+    }
+
     pub fn check(file: &[u8], plan: &[u8], claim: u32, table: &[u32], answer: &mut [u64]) -> u32 {
         unsafe {
             declared::tipshare_check(
@@ -571,6 +609,15 @@ mod declared {
             plan_len: Size,
             table: *mut u32,
             table_len: Size,
+            answer: *mut u64,
+            answer_len: Size,
+        ) -> u32;
+        pub fn tipshare_along(
+            file: *const u8,
+            file_len: Size,
+            mounted: Size,
+            plan: *mut u8,
+            plan_len: Size,
             answer: *mut u64,
             answer_len: Size,
         ) -> u32;

@@ -73,6 +73,15 @@ test("a plan that is checked", () => {
   refused(25, 0, () => tipshare.best({ rack: 3, lines: [[0, 2], [1]] }));
 });
 
+test("plans along the list", () => {
+  const list = { rack: 4, lines: [[0, 1], [1, 2], { tips: [2, 3], quantity: 2 }] };
+  assert.deepEqual(tipshare.along(list), { tips: [1, 1, 2], changes: 1, pairs: 2 });
+  assert.deepEqual(tipshare.along(list, 0), { tips: [0, 2, 2], changes: 1, pairs: 3 });
+  assert.deepEqual(tipshare.along(list, 3), { tips: [1, 1, 2], changes: 2, pairs: 2 });
+  assert.deepEqual(tipshare.along({ rack: 4, lines: [] }), { tips: [], changes: 0, pairs: 0 });
+  refused(16, 0, () => tipshare.along(list, 4));
+});
+
 test("two boards, a damaged file, an order", () => {
   const other = { rack: 3, lines: [{ tips: [2], quantity: 2 }] };
   assert.deepEqual(tipshare.merge(EXAMPLE, other), job(3, [[0], [1, 2], { tips: [2], quantity: 2 }]));

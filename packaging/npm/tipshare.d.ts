@@ -33,6 +33,7 @@ export interface Calls {
   goal(file: JobFile, pairs: number): Uint8Array;
   quick(file: JobFile, mounted?: number | null): Plan;
   best(file: JobFile, mounted?: number | null): Plan & { table: number[] };
+  along(file: JobFile, mounted?: number | null): Plan & { changes: number };
   check(file: JobFile, tips: number[], claim: number, table: number[]): void;
   junior(file: JobFile): Plan & { carried: [number, number] };
   merge(first: JobFile, second: JobFile): Uint8Array;

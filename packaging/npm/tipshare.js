@@ -183,6 +183,13 @@ class Calls {
     return { tips: [...arrays[1].slice(0, count)], pairs: Number(answer[1]), table: [...arrays[2]] };
   }
 
+  /** The tip of each line in the plan with the fewest tip changes along the list, its changes, and its pairs. */
+  along(file, mounted) {
+    const { count } = this.read(file);
+    const { arrays, answer } = this.#answered("along", bytesOf(file), this.#mounted(mounted), new Uint8Array(MOST_LINES));
+    return { tips: [...arrays[1].slice(0, count)], changes: Number(answer[1]), pairs: Number(answer[2]) };
+  }
+
   /** Checks a plan from other software, its pairs and its table: if nothing is thrown, it is a best plan. */
   check(file, tips, claim, table) {
     const plan = Uint8Array.from(tips, (tip) => inRange("a tip of the plan", tip, 255));

@@ -1,5 +1,6 @@
 //! The functions of include/tipshare.h, answered by this implementation on slices.
 
+use crate::along::Along;
 use crate::board::{Answer, Board};
 use crate::file::read as read_file;
 use crate::junior::Junior;
@@ -96,6 +97,15 @@ pub fn best(file: &[u8], mounted: usize, plan: &mut [u8], table: &mut [u32], ans
     on_board(file, answer, |board, answer| {
         let best = board.best(mounted_tip(mounted), plan, table);
         answered(answer, best.number, [best.place as u64, u64::from(best.value), 0, 0])
+    })
+}
+
+/// The fewest tip changes along the list: place, changes, pairs, 0.
+pub fn along(file: &[u8], mounted: usize, plan: &mut [u8], answer: &mut [u64]) -> u32 {
+    on_board(file, answer, |board, answer| {
+        let along = board.along(mounted_tip(mounted), plan);
+        let Along { changes, pairs } = along.value;
+        answered(answer, along.number, [along.place as u64, changes.into(), pairs.into(), 0])
     })
 }
 

@@ -3,6 +3,7 @@
 //! A line of a parts list has a set of tips that can pick its part, bit t for tip t, and stands for so many placements
 //! as its quantity says, all on one tip. Every call takes a board and hands one back in its answer.
 
+mod along;
 mod board;
 mod checking;
 mod common;
@@ -19,6 +20,7 @@ mod trying;
 
 pub mod interface;
 
+pub use along::Along;
 pub use board::{Answer, Board, Line, Stage, MOST_LINES, MOST_PLACEMENTS, MOST_TIPS};
 pub use common::CommonTip;
 pub use file::{read, Version, LONGEST_FILE};
