@@ -26,7 +26,7 @@ LIST ?= docs/example.txt
 
 include packaging/paths.mk
 
-# The version stands in Cargo.toml; tools/numbers holds the header, the pages and the checklist to it.
+# The version is in Cargo.toml; tools/numbers holds the header, the pages and the checklist to it.
 version := $(shell sed -n 's/^version = "\(.*\)"/\1/p' Cargo.toml)
 soname := libtipshare.so.$(firstword $(subst ., ,$(version)))
 library := target/staticlib/libtipshare_c.a
@@ -52,7 +52,7 @@ $(library): $(sources)
 	@if grep '^logic=.* cpu=' $(@:.a=.report); then echo "the library must run on every x86-64 processor (include/tipshare.h)"; exit 1; fi
 	cp crates/tipshare_c/out/$(@F) $@
 
-# Beside the proved functions stand two that are not: the version, and the refusals in words.
+# Two functions are not proved: the version, and the refusals in words.
 target/lib/words.o: library/words.c library/words.txt include/tipshare.h
 	mkdir -p $(@D)
 	sed 's/^\([0-9]*\) \(.*\)/    case \1: return "\2";/' library/words.txt > $(@D)/words.inc
@@ -77,7 +77,7 @@ $(tipshare): $(program_sources) | $(library)
 	@if grep '^logic=.* cpu=' $@.report; then echo "the program must run on every x86-64 processor"; exit 1; fi
 	cp crates/tipshare/out/$(@F) $@
 
-# Cargo itself knows what is up to date. Where it is not in the path, as under sudo make install, what it has built is taken.
+# Cargo itself knows what is up to date. If it is not in the path, as under sudo make install, what it has built is used.
 parts: $(library)
 	@if command -v cargo > /dev/null || [ ! -x $(parts) ]; then \
 		set -x; cargo build --quiet --release --offline --package parts; \

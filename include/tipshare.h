@@ -50,12 +50,11 @@
  *   read 5, common 10, keep 10, goal 95, quick 20, best 33, check 26, junior 9,
  *   merge 18, alone 25, mend 5, order 20, report 49
  *
- * These are for a program that looks functions up at their first calls (-z lazy),
- * which saves the registers of the processor, 3.2 KB with AVX-512: of the shared
- * library it looks up the call itself, of the static one memset and memcpy, each at
- * its own first call, perhaps within a call made later. A program linked with
- * -z now needs up to 3 KB less. A thread needs 5 KB more of the size that
- * pthread_attr_setstacksize sets, and room for the program's thread-local
+ * These are for a program that looks functions up at their first calls (-z lazy):
+ * the call itself in the shared library, memset and memcpy in the static one. The
+ * look-up saves the registers of the processor, 3.2 KB with AVX-512. A program
+ * linked with -z now needs up to 3 KB less. A thread needs 5 KB more of the size
+ * that pthread_attr_setstacksize sets, and room for the program's thread-local
  * variables. A signal handler on a stack of its own needs
  * sysconf(_SC_MINSIGSTKSZ) bytes more.
  *
@@ -75,9 +74,9 @@
  * If several refusals apply, the first in this order is given: 100, then
  * 6, 7, 8, 1, 9, 10, then 2, 3 or 15 of the first bad line, then 30 (for two
  * files all of the first, then all of the second), then those of the call in
- * the order given with it. tipshare_order takes no file: there it is 100, 101,
- * 12, 13, 14, 29. Nor does tipshare_order_by_tips: 100, 101, 12, 13, 14, 4, 3,
- * 16, 29.
+ * the order given with it. tipshare_order and tipshare_windows take no file: there
+ * it is 100, 101, 12, 13, 14, 29. Nor does tipshare_order_by_tips: 100, 101, 12,
+ * 13, 14, 4, 3, 16, 29.
  *
  *   No.  What is wrong                         What to do
  *   ---  ------------------------------------  --------------------------------
@@ -107,8 +106,8 @@
  *        below the number of parts n           last
  *    13  rule answer[0] names a part that      name two different parts, 0 to
  *        does not exist, or one part twice     n - 1, in that rule
- *    14  order is shorter than n bytes         pass n bytes; 128 is always
- *                                              enough
+ *    14  order, first or last is shorter than  pass n bytes; 128 is always
+ *        n bytes                               enough
  *    15  line answer[0] has quantity 0         give that line 1 to 255
  *    16  mounted is no tip of the rack and     pass 0 to m - 1, or
  *        not TIPSHARE_NO_TIP                   TIPSHARE_NO_TIP for none
@@ -370,11 +369,11 @@ uint32_t tipshare_junior(const uint8_t *file, size_t file_len,
 /*
  * Plans for a machine that places the lines in the order of the list, with the
  * fewest tip changes. A change is counted wherever two neighbouring lines are on
- * different tips, and before the first line where a tip is mounted and that line
- * is on another. No other plan has fewer changes. The lines are split into
- * segments: while some tips are common to the lines from the segment's first on,
- * the segment goes on, and all of its lines are on the lowest of them. Where a
- * tip is mounted, it alone is common before the first line.
+ * different tips, and before the first line if a tip is mounted and that line is
+ * on another. No other plan has fewer changes. The lines are split into segments:
+ * a segment goes on as long as its lines have some tip in common, and all of its
+ * lines are on the lowest of these. If a tip is mounted, only it is common before
+ * the first line.
  * file: file_len bytes, any number. mounted: the tip on the head, 0 to m - 1,
  * or TIPSHARE_NO_TIP. plan: at least n bytes. answer: at least 4 places.
  * Accepted: plan[i] is the tip of line i, for i below n, the rest of plan is
@@ -483,6 +482,27 @@ uint32_t tipshare_order(const uint32_t *parts, size_t parts_len,
                         const uint32_t *rules, size_t rules_len,
                         uint8_t *order, size_t order_len,
                         uint64_t *answer, size_t answer_len);
+
+/*
+ * Finds the first and the last position that each part has in any placing order
+ * that obeys, as tipshare_order describes it. Both are exact: some order has the
+ * part there, and none has it earlier or later. Between them there may be
+ * positions that the part has in no order. No job file is read.
+ * parts, rules: as for tipshare_order. first, last: at least n bytes each.
+ * answer: at least 4 places.
+ * Accepted: part i has position first[i] in some order, last[i] in some order,
+ * and no earlier or later one, for i below n; the rest of both is untouched;
+ * answer is 0, the number of parts n, 0, 0. Without parts the call is accepted,
+ * and nothing is written to first and last.
+ * Refused (101, then 12, 13, 14, 29): first and last are untouched; answer is
+ * the first part with bad positions for 12 (0 where there are over 128 parts),
+ * the first bad rule for 13, else 0, then 0, 0, 0.
+ */
+uint32_t tipshare_windows(const uint32_t *parts, size_t parts_len,
+                          const uint32_t *rules, size_t rules_len,
+                          uint8_t *first, size_t first_len,
+                          uint8_t *last, size_t last_len,
+                          uint64_t *answer, size_t answer_len);
 
 /*
  * Finds an order that obeys, as tipshare_order does, with few tip changes: at

@@ -9,7 +9,7 @@ endef
 unsafe := ! " ' ` $$ & ( ) * ; < > ? [ \ ] ^ { | } % \#
 named-one := $$(
 white = $(findstring $(space),$1)$(findstring $(tab),$1)$(findstring $(newline),$1)
-# What is wrong with the path $1, which stands in the Makefile or in the command as $2.
+# What is wrong with the path $1, which the Makefile or the command has as $2.
 wrong = $(strip $(if $(call white,$1),white space) \
 	$(foreach character,$(unsafe),$(findstring $(character),$1)) $(findstring $$,$(subst $(named-one),,$2)) \
 	$(if $1,$(if $(filter /%,$1),,no slash at its beginning)))

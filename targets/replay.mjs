@@ -19,6 +19,8 @@ const FUNCTIONS = [
   ["mend", "buffer buffer buffer buffer"],
   ["report", "buffer buffer"],
   ["order", "buffer buffer buffer buffer"],
+  ["windows", "buffer buffer buffer buffer buffer"],
+  ["order_by_tips", "buffer buffer buffer big buffer buffer"],
 ].map(([name, parameters]) => ({ name, parameters: parameters.split(" "), calls: 0 }));
 const END = 255;
 

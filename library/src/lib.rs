@@ -42,15 +42,15 @@ pub const LONGEST_FILE: usize = 4_616;
 pub const LONGEST_CHANGES: usize = 3_081;
 /// The mounted tip of the header's functions for no tip.
 pub const NO_TIP: usize = usize::MAX;
-/// The most parts to order: an order buffer that always does.
+/// The most parts to order: an order buffer, or one of positions, that is always enough.
 pub const MOST_PARTS: usize = 128;
 
 /// Why a call was refused.
 #[derive(Clone, Copy, PartialEq, Eq, Debug)]
 pub struct Refusal {
     pub number: u32,
-    /// The line that it is about, for 2, 3, 15, 25 and 30, the part for 12 and the rule for 13. It does not say which of
-    /// two files is meant; 0 for the 30 of a panel.
+    /// The line that it is about, for 2, 3, 15, 25 and 30, the part for 12, and for 3 of an order by tips, and the rule for
+    /// 13. It does not say which of two files is meant; 0 for the 30 of a panel.
     pub line: u64,
     /// How far the bound is missed, for 26.
     pub margin: i64,
@@ -344,6 +344,13 @@ pub fn mend(file: &[u8], out: &mut [u8], report: &mut [u8]) -> Result<Mended, Re
     Ok(Mended { file: answer[1], report: answer[2] })
 }
 
+/// Parts and rules as the header has them: 4 numbers a part, and 2 a rule.
+fn numbers_of(parts: &[Part], rules: &[(u32, u32)]) -> (Vec<u32>, Vec<u32>) {
+    let of_part = |part: &Part| [part.first, part.last, part.fine.into(), part.tall.into()];
+    let of_rule = |&(earlier, later): &(u32, u32)| [earlier, later];
+    (parts.iter().flat_map(of_part).collect(), rules.iter().flat_map(of_rule).collect())
+}
+
 /// The order in which parts are placed: fine ones first, tall ones last, each within its positions, and of each rule's two
 /// parts the first before the second; of all such orders the least. A tall part's fine flag is ignored. Gives the number of
 /// parts.
@@ -357,10 +364,54 @@ pub fn mend(file: &[u8], out: &mut [u8], report: &mut [u8]) -> Result<Mended, Re
 /// assert_eq!(order, [2, 1, 0]);
 /// ```
 pub fn order(parts: &[Part], rules: &[(u32, u32)], order: &mut [u8]) -> Result<u64, Refusal> {
-    let of_part = |part: &Part| [part.first, part.last, part.fine.into(), part.tall.into()];
-    let parts: Vec<u32> = parts.iter().flat_map(of_part).collect();
-    let rules: Vec<u32> = rules.iter().flat_map(|&(earlier, later)| [earlier, later]).collect();
+    let (parts, rules) = numbers_of(parts, rules);
     Ok(answer_of(|answer| on_slices::order(&parts, &rules, order, answer))?[1])
+}
+
+/// Finds the first and the last position that each part has in any order that obeys positions, flags and rules as
+/// [`order()`] does, and writes one byte a part to each buffer; gives the number of parts.
+///
+/// ```
+/// let part = tipshare::Part { first: 0, last: 2, fine: false, tall: false };
+/// let (mut first, mut last) = ([0; 3], [0; 3]);
+/// // Part 2 goes before part 1.
+/// assert_eq!(tipshare::windows(&[part; 3], &[(2, 1)], &mut first, &mut last), Ok(3));
+/// assert_eq!((first, last), ([0, 1, 0], [2, 2, 1]));
+/// ```
+pub fn windows(parts: &[Part], rules: &[(u32, u32)], first: &mut [u8], last: &mut [u8]) -> Result<u64, Refusal> {
+    let (parts, rules) = numbers_of(parts, rules);
+    Ok(answer_of(|answer| on_slices::windows(&parts, &rules, first, last, answer))?[1])
+}
+
+/// The number of parts of an order by tips, and its tip changes, with the one before the first part.
+#[derive(Clone, Copy, PartialEq, Eq, Debug)]
+pub struct OrderedByTips {
+    pub parts: u64,
+    pub changes: u64,
+}
+
+/// The order in which parts are placed as [`order()`] has it, but a part on the tip of the part before it comes first where
+/// it can, and at position 0 one on the mounted tip. The plan has the tip of each part, 0 to 63.
+///
+/// ```
+/// let part = tipshare::Part { first: 0, last: 2, fine: false, tall: false };
+/// let mut order = [0; 3];
+/// // Parts 0 and 2 are on tip 5, and part 1 on tip 7.
+/// let ordered = tipshare::order_by_tips(&[part; 3], &[], &[5, 7, 5], None, &mut order);
+/// assert_eq!(ordered, Ok(tipshare::OrderedByTips { parts: 3, changes: 1 }));
+/// assert_eq!(order, [0, 2, 1]);
+/// ```
+pub fn order_by_tips(
+    parts: &[Part],
+    rules: &[(u32, u32)],
+    plan: &[u8],
+    mounted: Option<usize>,
+    order: &mut [u8],
+) -> Result<OrderedByTips, Refusal> {
+    let (parts, rules) = numbers_of(parts, rules);
+    let mounted = number_of(mounted);
+    let answer = answer_of(|answer| on_slices::order_by_tips(&parts, &rules, plan, mounted, order, answer))?;
+    Ok(OrderedByTips { parts: answer[1], changes: answer[2] })
 }
 
 /// The report for a file.
@@ -550,6 +601,48 @@ pub mod on_slices {
         }
     }
 
+    pub fn windows(parts: &[u32], rules: &[u32], first: &mut [u8], last: &mut [u8], answer: &mut [u64]) -> u32 {
+        unsafe {
+            declared::tipshare_windows(
+                parts.as_ptr(),
+                parts.len() as u64,
+                rules.as_ptr(),
+                rules.len() as u64,
+                first.as_mut_ptr(),
+                first.len() as u64,
+                last.as_mut_ptr(),
+                last.len() as u64,
+                answer.as_mut_ptr(),
+                answer.len() as u64,
+            )
+        }
+    }
+
+    pub fn order_by_tips(
+        parts: &[u32],
+        rules: &[u32],
+        plan: &[u8],
+        mounted: usize,
+        order: &mut [u8],
+        answer: &mut [u64],
+    ) -> u32 {
+        unsafe {
+            declared::tipshare_order_by_tips(
+                parts.as_ptr(),
+                parts.len() as u64,
+                rules.as_ptr(),
+                rules.len() as u64,
+                plan.as_ptr(),
+                plan.len() as u64,
+                of_tip(mounted),
+                order.as_mut_ptr(),
+                order.len() as u64,
+                answer.as_mut_ptr(),
+                answer.len() as u64,
+            )
+        }
+    }
+
     pub fn report(file: &[u8], out: &mut [u8]) -> usize {
         unsafe {
             declared::tipshare_report(file.as_ptr(), file.len() as u64, out.as_mut_ptr(), out.len() as u64) as usize
@@ -675,6 +768,31 @@ mod declared {
             parts_len: Size,
             rules: *const u32,
             rules_len: Size,
+            order: *mut u8,
+            order_len: Size,
+            answer: *mut u64,
+            answer_len: Size,
+        ) -> u32;
+        pub fn tipshare_windows(
+            parts: *const u32,
+            parts_len: Size,
+            rules: *const u32,
+            rules_len: Size,
+            first: *mut u8,
+            first_len: Size,
+            last: *mut u8,
+            last_len: Size,
+            answer: *mut u64,
+            answer_len: Size,
+        ) -> u32;
+        pub fn tipshare_order_by_tips(
+            parts: *const u32,
+            parts_len: Size,
+            rules: *const u32,
+            rules_len: Size,
+            plan: *const u8,
+            plan_len: Size,
+            mounted: Size,
             order: *mut u8,
             order_len: Size,
             answer: *mut u64,

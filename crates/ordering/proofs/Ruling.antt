@@ -1,7 +1,7 @@
 -- What the call accepts obeys and is the least that does; past 12, 13 and 14, 29 is told exactly when none obeys.
 use Prim.Native.Nat.{ℕ}
 use native.Mathlib.Omega.{arith}
-use mathlib.Core.Path.{◌≡◌, refl, ap, sym, ◌∙◌}
+use mathlib.Core.Path.{◌≡◌, ap, sym, ◌∙◌}
 use mathlib.Core.Bool.{Bool, cond}
 use mathlib.Core.List.{List}
 use mathlib.Core.Option.{Option, some}
@@ -18,9 +18,9 @@ use Rattle.ordering.specs.Order.{Obeys, LexLe, Least}
 use Rattle.ordering.specs.Parts.{window_ok, rule_ok, task_of, placing_order}
 use Rattle.ordering.proofs.Least.{least_obeys, least_at-most, least_none}
 use Rattle.ordering.proofs.Parts.{windows_good, placing-order}
-use Rattle.ordering.specs.Call.{first_bad, parts_refusal, given_refusal, order_refusal, order_after, PlacingRule}
+use Rattle.ordering.specs.Call.{first_bad, parts_refusal, given_refusal, order_refusal, order_after, NoneObeys, PlacingRule}
 use Rattle.ordering.proofs.Refused.{accepted_buffer}
-use Rattle.ordering.proofs.Searched.{or_not, number_only, accepted_some, told_none, none_told}
+use Rattle.ordering.proofs.Searched.{or_not, number_only, accepted_some, none_obeys}
 
 module _ (parts : List Part) (rules : List Rule) (room : ℕ) where
   abbrev n : ℕ
@@ -65,6 +65,17 @@ module _ (parts : List Part) (rules : List Rule) (room : ℕ) where
           → (cond {A = Refusal} test (record { number = number; place = place }) R.none).number ≡ 29 → ⊥
       no test number place a = number_only test number place a (λ e. omega (arith, e))
 
+  -- what is accepted has an order
+  pub order_obeys : (order_refusal parts rules room).number ≡ 0 → (given.number ≡ 0) × ((order : List ℕ) × Obeys (task_of parts rules) order)
+  unfolding order_refusal
+  order_obeys z =
+      let (a, (order, h)) = accepted_some given (placing_order parts rules) z in
+      (a, (order, least_obeys (rw h (passed a))))
+
+  pub order_none : NoneObeys (task_of parts rules) given (order_refusal parts rules room)
+  unfolding order_refusal
+  order_none = none_obeys given (placing_order parts rules) (task_of parts rules) given_not (λ z. least_none (passed z))
+
 module _ (parts : List Part) (rules : List Rule) (buffer : List ℕ) where
   abbrev given_here : Refusal
   given_here = given_refusal parts rules (length buffer)
@@ -88,10 +99,5 @@ module _ (parts : List Part) (rules : List Rule) (buffer : List ℕ) where
   placing_rule = record {
     obeys = λ z. (found z).0;
     least = λ z other o. (found z).1 other o;
-    none = λ z.
-        let (a, b) = told_none given_here answer (given_not parts rules (length buffer)) z in
-        (least_none (passed parts rules (length buffer) a)).0 b;
-    told = λ z h.
-        let e = (least_none (passed parts rules (length buffer) z)).1 h in
-        sym (ap (λ (t : Refusal). t.number) (none_told given_here answer refl z (sym e)));
+    none = order_none parts rules (length buffer);
   }

@@ -1,7 +1,8 @@
 -- The refusal of a call that searches for an order: what is refused before the search, then 29 where there is no order.
 use Prim.Native.Nat.{ℕ}
 use native.Mathlib.Omega.{arith}
-use mathlib.Core.Path.{◌≡◌, refl, sym}
+use mathlib.Core.Path.{◌≡◌, refl, sym, ap}
+use mathlib.Core.Logic.{◌↔◌}
 use mathlib.Core.Bool.{Bool, true, false, cond}
 use mathlib.Core.List.{List}
 use mathlib.Core.Option.{Option, none, some}
@@ -10,7 +11,8 @@ use Rattle.model.proofs.Tests.{cond_case, T_true}
 use Rattle.refusal.specs.Told.{Refusal}
 use Rattle.refusal.specs.Refusal as R
 use Rattle.refusal.proofs.Laws.{or_none, or_next, when-none, when_taken}
-use Rattle.ordering.specs.Call.{absent}
+use Rattle.ordering.specs.Order.{Task, Obeys}
+use Rattle.ordering.specs.Call.{absent, NoneObeys}
 
 -- what the number of each of two refusals is not, that of the first that applies is not
 pub or_not : {n : ℕ} (first next : Refusal) → (first.number ≡ n → ⊥) → (next.number ≡ n → ⊥) → (R.or_else first next).number ≡ n → ⊥
@@ -53,3 +55,10 @@ module _ (given : Refusal) (answer : Option (List ℕ)) where
 
   pub one_told : {d : Refusal} → d ≡ given → d.number ≡ 0 → (order : List ℕ) → some order ≡ answer → R.none ≡ R.or_else given last
   one_told e z order h = or_next e _ z (rw (← h))
+
+  pub none_obeys : (t : Task) → (given.number ≡ 29 → ⊥) → (given.number ≡ 0 → (answer ≡ none) ↔ ((other : List ℕ) → Obeys t other → ⊥))
+      → NoneObeys t given (R.or_else given last)
+  none_obeys t other exact = record {
+    means = λ z. let (a, b) = told_none other z in (exact a).0 b;
+    told = λ z f. sym (ap (λ (r : Refusal). r.number) (none_told {d = given} refl z (sym ((exact z).1 f))));
+  }

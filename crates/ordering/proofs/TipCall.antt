@@ -25,7 +25,7 @@ use Rattle.ordering.specs.Tips.{tip_at, head_after, by_tip, placing_by_tips, cha
 use Rattle.ordering.specs.TipCall.{tip_ok, head_ok, tips_refusal, given_by_tips, refusal_by_tips, buffer_by_tips, changes_by_tips, TipsRule}
 use Rattle.ordering.proofs.Best.{best_obeys, best_none}
 use Rattle.ordering.proofs.Tips.{placing-by-tips, placing_one_tip, best_by_tips}
-use Rattle.ordering.proofs.Searched.{or_not, number_only, accepted_some, told_none, none_told, one_told}
+use Rattle.ordering.proofs.Searched.{or_not, number_only, accepted_some, none_told, one_told, none_obeys}
 use Rattle.ordering.proofs.Ruling.{windows_passed, given_not}
 
 module _ (parts : List Part) (rules : List Rule) (plan : List ℕ) (mounted : Mounted) where
@@ -115,12 +115,8 @@ module _ (parts : List Part) (rules : List Rule) (plan : List ℕ) (mounted : Mo
     tips_rule = record {
       best = λ z. let (order, h, best, e) = found z in rw e (best_by_tips plan best);
       counted = λ z. let (order, h, best, e) = found z in rw e (sym (accepted_tips order refl z h).1);
-      none = λ z.
-          let (a, b) = told_none (given (length buffer)) answer (tips_not (length buffer)) z in
-          (best_none (passed (length buffer) (parts_given (length buffer) a))).0 b;
-      told = λ z f.
-          let e = (best_none (passed (length buffer) (parts_given (length buffer) z))).1 f in
-          sym (ap (λ (t : Refusal). t.number) (none_told (given (length buffer)) answer refl z (sym e)));
+      none = none_obeys (given (length buffer)) answer (task_of parts rules) (tips_not (length buffer))
+          (λ z. best_none (passed (length buffer) (parts_given (length buffer) z)));
     }
 
 -- past 4, 3 and 16: each part has a tip, and so has the head or it is bare

@@ -6,9 +6,8 @@ use Rattle.refusal.specs.Told.{Refusal}
 use Rattle.refusal.specs.Refusal.{when, or_else, scan, lent_by, told}
 use Rattle.ordering.specs.declared.Part.{Part}
 use Rattle.ordering.specs.declared.Rule.{Rule}
-use Rattle.ordering.specs.Order.{Obeys}
 use Rattle.ordering.specs.Parts.{task_of}
-use Rattle.ordering.specs.Call.{absent, ordered, given_refusal}
+use Rattle.ordering.specs.Call.{absent, ordered, given_refusal, NoneObeys}
 use Rattle.ordering.specs.Tips.{placing_by_tips, changes, BestByTips}
 
 -- no rack is named: a tip is one of 64
@@ -43,11 +42,9 @@ unfoldable pub changes_by_tips : List Part → List Rule → List ℕ → Mounte
 changes_by_tips parts rules plan mounted room =
     told (refusal_by_tips parts rules plan mounted room) (changes plan mounted (ordered (placing_by_tips parts rules plan mounted)))
 
--- what is accepted is the best order by tips, with the changes told; past the refusals before 29, 29 is told exactly when no order obeys
+-- what is accepted is the best order by tips, with the changes told
 pub record TipsRule (parts : List Part) (rules : List Rule) (plan : List ℕ) (mounted : Mounted) (room : ℕ) (buffer : List ℕ) (r : Refusal)
     (changed : ℕ) : Type 0 where
   pub best : r.number ≡ 0 → BestByTips (task_of parts rules) plan mounted (take (length parts) buffer)
   pub counted : r.number ≡ 0 → changed ≡ changes plan mounted (take (length parts) buffer)
-  pub none : r.number ≡ 29 → (other : List ℕ) → Obeys (task_of parts rules) other → ⊥
-  pub told : (given_by_tips parts rules plan mounted room).number ≡ 0 → ((other : List ℕ) → Obeys (task_of parts rules) other → ⊥)
-      → r.number ≡ 29
+  pub none : NoneObeys (task_of parts rules) (given_by_tips parts rules plan mounted room) r

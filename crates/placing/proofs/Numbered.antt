@@ -18,8 +18,8 @@ use Rattle.ordering.specs.Parts.{no_part, no_rule, part_at}
 use Rattle.placing.specs.Numbers.{part_of_numbers, parts_in, rule_in, rules_in, numbers_refusal, order_in, order_after_in, PlacingRuleIn}
 use Rattle.placing.proofs.Listed.{listed, listed_at}
 use Rattle.placing.specs.Rows.{GivesRules, Placed}
-use Rattle.placing.proofs.Answers.{placed_given}
 use Rattle.ordering.proofs.Refused.{over_told}
+use Rattle.ordering.specs.Call.{given_refusal, order_refusal}
 use Rattle.ordering.proofs.Ruling.{placing_rule}
 
 length-first_chunks : (n k : ℕ) (xs : List ℕ) → length (first_chunks n k xs) ≡ k
@@ -74,7 +74,23 @@ module _ (parts rules : List ℕ) where
   unfolding numbers_refusal
   whole e h = rw (eq-eqb (length parts % 4) 0 e, eq-eqb (length rules % 2) 0 h)
 
--- the answer where the numbers are not four a part and two a rule, and where they are
+-- the refusal of numbers that are not four a part and two a rule, and of others
+module _ (parts rules : List ℕ) (room : ℕ) where
+  pub misfit_in : {r : Refusal} → r ≡ numbers_refusal parts rules → (r.number ≡ 0 → ⊥) → r ≡ order_in parts rules room
+  unfolding order_in
+  misfit_in e n = or_first e _ n
+
+  pub fit_in : R.none ≡ numbers_refusal parts rules → {r : Refusal} → r ≡ order_refusal (parts_in parts) (rules_in rules) room
+      → r ≡ order_in parts rules room
+  unfolding order_in
+  fit_in passed e = or_next passed _ refl e
+
+  -- over 128 parts, whatever they are
+  pub many_given : {records : List (List ℕ)} {r : Refusal} → records ≡ first_chunks 4 (length parts / 4) parts
+      → r ≡ R.when (ltb 128 (length records)) 12 → (r.number ≡ 0 → ⊥) → r ≡ given_refusal (parts_in parts) (rules_in rules) room
+  many_given {records} e is n = over_told (parts_in parts) (rules_in rules) room (rw (records_size parts e) at is) n
+
+-- the answer of the placing order then
 module _ (parts rules buffer : List ℕ) where
   pub record Answers (r : Refusal) (out : List ℕ) : Type 0 where
     pub refusal : r ≡ order_in parts rules (length buffer)
@@ -82,28 +98,21 @@ module _ (parts rules buffer : List ℕ) where
     pub rule : PlacingRuleIn parts rules (length buffer) out r
 
   pub misfit : {r : Refusal} → r ≡ numbers_refusal parts rules → (r.number ≡ 0 → ⊥) → Answers r buffer
-  unfolding order_in order_after_in
+  unfolding order_after_in
   misfit e n = record {
-    refusal = or_first e _ n;
+    refusal = misfit_in parts rules (length buffer) e n;
     order = sym (refused _ _ e n);
     rule = λ z. absurd (number_not e n z);
   }
 
-  module _ (passed : R.none ≡ numbers_refusal parts rules) where
-    pub fit_answer : {r : Refusal} {out : List ℕ} → Placed (parts_in parts) (rules_in rules) buffer out r → Answers r out
-    unfolding order_in order_after_in
-    fit_answer {r} {out} p = record {
-      refusal = or_next passed _ refl p.refusal;
-      order = p.order ∙ sym (accepted _ _ passed refl);
-      rule = λ _. rw (p.refusal, p.order) (placing_rule (parts_in parts) (rules_in rules) buffer);
-    }
-
-    -- over 128 parts, whatever they are
-    pub too_many : {records : List (List ℕ)} {r : Refusal} → records ≡ first_chunks 4 (length parts / 4) parts
-        → r ≡ R.when (ltb 128 (length records)) 12 → (r.number ≡ 0 → ⊥) → Answers r buffer
-    too_many {records} e is n =
-        fit_answer (placed_given (parts_in parts) (rules_in rules) buffer
-        (over_told (parts_in parts) (rules_in rules) (length buffer) (rw (records_size parts e) at is) n) n)
+  pub fit_answer : R.none ≡ numbers_refusal parts rules → {r : Refusal} {out : List ℕ}
+      → Placed (parts_in parts) (rules_in rules) buffer out r → Answers r out
+  unfolding order_after_in
+  fit_answer passed {r} {out} p = record {
+    refusal = fit_in parts rules (length buffer) passed p.refusal;
+    order = p.order ∙ sym (accepted _ _ passed refl);
+    rule = λ _. rw (p.refusal, p.order) (placing_rule (parts_in parts) (rules_in rules) buffer);
+  }
 
 -- the parts of the records are those that the numbers stand for
 pub parts_given : (numbers : List ℕ) {records : List (List ℕ)} (parts : List Part) → records ≡ first_chunks 4 (length numbers / 4) numbers

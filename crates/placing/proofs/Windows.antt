@@ -29,12 +29,10 @@ use Rattle.ordering.proofs.Least.{least-order, least_unique}
 use Rattle.ordering.proofs.Parts.{placing-order}
 use Rattle.flat_order.specs.declared.sets.PartSet.{PartSet}
 use Rattle.flat_order.specs.Flat.{flat_task, InPlace}
-use Rattle.std.specs.Prelude.{Option, Some, None, Result, Ok, Err}
-use Rattle.std.specs.Result.{IsErrAnd}
+use Rattle.std.specs.Prelude.{Option, Some, None}
 use Rattle.refusal.specs.Refusal as Refusal
-use Rattle.refusal.specs.declared.Reason.{Reason}
 use Rattle.refusal.specs.declared.Refused.{Refused}
-use Rattle.refusal.specs.Reasons.{reason_number, told_of, refusal_of, refused_at}
+use Rattle.refusal.specs.Reasons.{told_of, refused_at}
 use Rattle.refusal.proofs.Laws.{reason_not_0}
 use Rattle.placing.specs.Rows.{RowsFor, PositionsOf}
 
@@ -137,17 +135,6 @@ module _ {k n : ℕ} (size : k ≡ n) {flat whole : M.Option (List ℕ)} (e : fl
   pub order_none : (o : R.Option (List ℕ)) → IfNone o (none ≡ flat) → IfNone o (none ≡ whole)
   order_none R.None h = h ∙ e
   order_none (R.Some order) h = tt
-
--- the refusal of a call that ends with an error
-pub told_error : {A : Type 0} (r : Result A Refused) (e : Refused) → IsErrAnd r (λ x. x ≡ e) → refusal_of r ≡ told_of e
-told_error (Ok x) e h = absurd h
-told_error (Err x) e h = ap told_of h
-
--- and with a reason alone
-pub told_reason : {A : Type 0} (r : Result A Refused) (reason : Reason) → IsErrAnd r (λ x. x ≡ record { reason = reason; place = 0 })
-    → refusal_of r ≡ record { number = reason_number reason; place = 0 }
-told_reason (Ok x) reason h = absurd h
-told_reason (Err x) reason h = ap told_of h
 
 -- a bad window is refused at its place
 pub told_window : (parts : List Part) (e : Refused) (o : Option ℕ) → o ≡ position (λ x. not (window_ok (length parts) x)) parts

@@ -33,6 +33,12 @@ fn run<W: Write>(out: &mut W, state: &mut State, command: &Command) -> io::Resul
                 .orders
                 .order_by_tips(out, *room, plan, *mounted, state.junk)
         }
+        Command::Windows {
+            first_room,
+            last_room,
+        } => state
+            .orders
+            .windows(out, *first_room, *last_room, state.junk),
         Command::Edit(edit) => {
             state.edit(*edit);
             Ok(())

@@ -109,6 +109,53 @@ impl Orders {
         writeln!(out)
     }
 
+    // The positions that the parts can have: once over records, then over plain numbers.
+    pub(crate) fn windows<W: Write>(
+        &self,
+        out: &mut W,
+        first_room: Option<usize>,
+        last_room: Option<usize>,
+        junk: u8,
+    ) -> io::Result<()> {
+        let parts = read(&self.parts, Some(self.part_count));
+        let rules = read(&self.rules, Some(self.rule_count));
+        let mut first = [junk; ORDER_ROOM];
+        let mut last = [junk; ORDER_ROOM];
+        let told = part_windows::part_windows(
+            parts,
+            rules,
+            lent(&mut first, first_room),
+            lent(&mut last, last_room),
+        );
+        self.show_windows(out, &told, &first, &last, junk)?;
+        let part_numbers = part_numbers(parts);
+        let rule_numbers = rule_numbers(rules);
+        let mut first = [junk; ORDER_ROOM];
+        let mut last = [junk; ORDER_ROOM];
+        let told = part_windows::numbers::window_numbers(
+            read(&part_numbers, Some(4 * parts.len())),
+            read(&rule_numbers, Some(2 * rules.len())),
+            lent(&mut first, first_room),
+            lent(&mut last, last_room),
+        );
+        write!(out, " numbers")?;
+        self.show_windows(out, &told, &first, &last, junk)?;
+        writeln!(out)
+    }
+
+    fn show_windows<W: Write>(
+        &self,
+        out: &mut W,
+        told: &Result<(), Refused>,
+        first: &[u8],
+        last: &[u8],
+        junk: u8,
+    ) -> io::Result<()> {
+        let first = Values::new(first, junk, written(told, self.part_count));
+        let last = Values::new(last, junk, written(told, self.part_count));
+        write!(out, "{} first{first} last{last}", Told::new(told))
+    }
+
     fn show_by_tips<W: Write>(
         &self,
         out: &mut W,

@@ -72,6 +72,10 @@ pub(crate) enum Command {
         count: Option<usize>,
         mounted: Option<usize>,
     },
+    Windows {
+        first_room: Option<usize>,
+        last_room: Option<usize>,
+    },
     Edit(Edit),
 }
 
@@ -297,6 +301,10 @@ impl Command {
                 room: given(numbers, 0),
                 count: given(numbers, 1),
                 mounted: given(numbers, 2),
+            }),
+            ("windows", _) => Ok(Command::Windows {
+                first_room: given(numbers, 0),
+                last_room: given(numbers, 1),
             }),
             _ => Call::new(word, numbers)
                 .map(Command::Call)

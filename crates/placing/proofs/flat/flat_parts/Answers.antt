@@ -1,6 +1,7 @@
 use Rattle.ordering.proofs.Parts.{windows_good}
+use Rattle.refusal.proofs.Laws.{told_err}
 use Rattle.ordering.proofs.Refused.{over, bad_window, bad_rule, short, all_given}
-use Rattle.placing.proofs.Windows.{told_error, told_window, no_window_told, firsts_in, lasts_in}
+use Rattle.placing.proofs.Windows.{told_window, no_window_told, firsts_in, lasts_in}
 use Rattle.placing.proofs.Marks.{all_good, rows_for}
 use Rattle.placing.proofs.flat.flat_parts.Goals as goal
 
@@ -11,7 +12,7 @@ pub returns-in_err-refuse_at-clause-refusal : goal.returns-in_err-refuse_at-clau
 returns-in_err-refuse_at-clause-refusal g c =
     λ rules r.
     let parts = c.args.parts.now in
-    let e = told_error c.from_residual.result c.in_err-refuse_at.field-0.0 c.from_residual.ensures.1 in
+    let e = told_err c.from_residual.result c.in_err-refuse_at.field-0.0 c.from_residual.ensures in
     let (w, l, first, t) = told_window parts _ c.first_bad_window.result c.first_bad_window.ensures c.in_err-refuse_at.ensures in
     rw (e, t, first) (bad_window parts rules c.args.room c.if-n-gt-MOST_PARTS.false (rw first at l))
 
@@ -19,7 +20,7 @@ pub returns-in_err-add_rules-clause-refusal : goal.returns-in_err-add_rules-clau
 returns-in_err-add_rules-clause-refusal g c =
     λ rules r.
     let parts = c.args.parts.now in
-    let e = told_error c.from_residual-in_err-add_rules.result c.in_err-add_rules.field-0.0 c.from_residual-in_err-add_rules.ensures.1 in
+    let e = told_err c.from_residual-in_err-add_rules.result c.in_err-add_rules.field-0.0 c.from_residual-in_err-add_rules.ensures in
     let (reason, l, first) = c.in_err-add_rules.ensures.err rules r in
     let windows = no_window_told parts c.first_bad_window.result c.first_bad_window.ensures c.in_ok-refuse_at.ensures in
     rw (e, reason, first) (bad_rule parts rules c.args.room c.if-n-gt-MOST_PARTS.false windows (rw first at l))
