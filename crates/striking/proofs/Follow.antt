@@ -21,7 +21,7 @@ use Rattle.striking.proofs.Inner.{place}
 use Rattle.striking.proofs.Outer.{around_same, outside_more, outside_next, outside_first}
 
 -- a tip of a union
-or_out : (a b t : ℕ) → T (has (bit_or a b) t) → T (has a t) ⊎ T (has b t)
+pub or_out : (a b t : ℕ) → T (has (bit_or a b) t) → T (has a t) ⊎ T (has b t)
 or_out a b t h = ⊎_elim inl (λ n. inr (rw (has_or a b t, false_T (has a t) n) at h)) (test (has a t))
 
 module _ {names m q : ℕ} {lines rest xs inner upper : List ℕ} (k : Known names m q lines rest xs inner upper) (s K : ℕ) where

@@ -5,9 +5,7 @@ use mathlib.Core.Path.{◌≡◌, ap}
 use mathlib.Core.Logic.{⊎_elim}
 use mathlib.Core.Bool.{Bool, true, false, cond, ◌&&◌}
 use mathlib.Core.List.{List, [], ◌∷◌}
-use lib.Arith.{digits_lt}
 use lib.Dec.{T, T_not}
-use lib.ListN.{length}
 use Rattle.model.specs.Count.{count}
 use Rattle.model.specs.Plan.{has, choose2, Domain}
 use Rattle.model.specs.Interval.{low, high, lies, inside}
@@ -71,29 +69,29 @@ module _ {names m q : ℕ} {lines xs : List ℕ} (k : RunSums names m q lines xs
     few = λ a w c e f g. omega (arith, k.few, inside_le m lines a w c e f g);
   })
 
-  pub counted : {s : ℕ} → Domain m s → Counted m q s xs
+  -- what meets the tips l to h can be read
+  pub meets : (l h a w : ℕ) → a + w ≤ m → l ≤ h → h < m → a ≤ h + 1 → l ≤ a + w → Meeting m xs l h a w
   unfolding meeting_by
-  counted {s} d = rw k.summed (record {
+  meets l h a w e run top p r = rw k.summed (
+      let last = sums_at m lines (h + 1) (a + w) (omega arith) (omega arith) in
+      let left = sums_at m lines a l (omega arith) (omega arith) in
+      let first = sums_at m lines a (a + w) (omega arith) (omega arith) in
+      let next = sums_at m lines l l (omega arith) (omega arith) in
+      let covers = before_le lines a l (h + 1) (a + w) (omega arith) (omega arith) (omega arith) in record {
+        size = length-sums m lines;
+        ends = e;
+        from = run;
+        to = top;
+        small = omega (arith, k.few, last, left, below_le lines (h + 1) (a + w), below_le lines a l);
+        covers = omega (arith, last, left, first, next, covers);
+        few = omega (arith, k.few, last, left, first, next, below_le lines (h + 1) (a + w), below_mono lines a l (a + w) (omega arith));
+      })
+
+  pub counted : {s : ℕ} → Domain m s → Counted m q s xs
+  counted {s} d = record {
     own = omega (arith, k.few);
-    meeting = λ a w e p r.
-        let l = low s in
-        let h = high s in
-        let run : l ≤ h = low-high k.rack d in
-        let top : h < m = high-below k.rack d in
-        let last = sums_at m lines (h + 1) (a + w) (omega arith) (omega arith) in
-        let left = sums_at m lines a l (omega arith) (omega arith) in
-        let first = sums_at m lines a (a + w) (omega arith) (omega arith) in
-        let next = sums_at m lines l l (omega arith) (omega arith) in
-        let covers = before_le lines a l (h + 1) (a + w) (omega arith) (omega arith) (omega arith) in record {
-          size = length-sums m lines;
-          ends = e;
-          from = run;
-          to = top;
-          small = omega (arith, k.few, last, left, below_le lines (h + 1) (a + w), below_le lines a l);
-          covers = omega (arith, last, left, first, next, covers);
-          few = omega (arith, k.few, last, left, first, next, below_le lines (h + 1) (a + w), below_mono lines a l (a + w) (omega arith));
-        };
-  })
+    meeting = λ a w e p r. meets (low s) (high s) a w e (low-high k.rack d) (high-below k.rack d) (omega arith) (omega arith);
+  }
 
   -- a named tip of the interval, from l to h
   pub inside_meeting : (l h a w c : ℕ) → a + w ≤ m → a ≤ c → c < a + w → l ≤ c → c ≤ h → h < m → T (has names c)
@@ -115,18 +113,3 @@ module _ {names m q : ℕ} {lines xs : List ℕ} (k : RunSums names m q lines xs
             (all_map (λ s l h. T_not (has names c) t (l.fits c (and_right (lies a w s) (has s c) h))) k.runs),
       ))
       (test (has names c)))
-
--- THE FOUR PLACES of the interval are of the sums
-pub record InSums (m : ℕ) (xs : List ℕ) (l h a w : ℕ) : Type 0 where
-  pub last : (h + 1) * (m + 1) + (a + w) < length xs
-  pub left : a * (m + 1) + l < length xs
-  pub first : a * (m + 1) + (a + w) < length xs
-  pub next : l * (m + 1) + l < length xs
-
-pub in_sums : {m : ℕ} {xs : List ℕ} {l h a w : ℕ} → Meeting m xs l h a w → InSums m xs l h a w
-in_sums r = record {
-  last = rw r.size (digits_lt (omega (arith, r)) (omega (arith, r)));
-  left = rw r.size (digits_lt (omega (arith, r)) (omega (arith, r)));
-  first = rw r.size (digits_lt (omega (arith, r)) (omega (arith, r)));
-  next = rw r.size (digits_lt (omega (arith, r)) (omega (arith, r)));
-}

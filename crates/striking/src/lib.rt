@@ -2,10 +2,12 @@
 #![tactic(auto)]
 
 mod each;
+mod first;
 mod inside;
 mod outside;
 mod reach;
 mod rest;
+mod start;
 mod summed;
 
 ghost use Rattle.std.specs.Prelude.{◌≡◌, ◌*◌, ◌^◌, ◌<◌, ◌≤◌, length};

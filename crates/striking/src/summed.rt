@@ -1,6 +1,7 @@
 // Lines, known by the sums of their placements; and what is read of them in one interval.
 ghost use Rattle.std.specs.Prelude.{◌≡◌, ◌+◌, ◌*◌, ◌^◌, ◌≤◌, ◌<◌, length};
-ghost use Rattle.striking.specs.Striking.{Ready, pairs_by, split_by};
+ghost use Rattle.model.specs.Limits.{most_placements};
+ghost use Rattle.striking.specs.Striking.{Ready, Meeting, meeting_by, pairs_by, split_by};
 
 // The tips of the rack from a first one on.
 #[derive(Clone, Copy)]
@@ -20,6 +21,22 @@ pub struct Lines<'a> {
 }
 
 impl Lines<'_> {
+    // The placements of the lines lying within the interval that do not end before tip l or begin after tip h.
+    #[tactic(auto, unfolding(crate::specs::Striking::meeting_by))]
+    pub fn meeting_at(&self, l: usize, h: usize, of: Interval) -> u32
+        requires { Meeting self.now.m self.now.sums.now l h of.first of.width }
+        ensures meeting { result ≡ meeting_by self.now.m self.now.sums.now l h of.first of.width }
+        ensures few { result ≤ most_placements }
+    {
+        let width = self.m + 1;
+        let end = of.first + of.width;
+        let last = (h + 1) * width;
+        let first = of.first * width;
+        let next = l * width;
+        let sums = self.sums;
+        sums[last + end] + sums[first + l] - sums[first + end] - sums[next + l]
+    }
+
     // The pairs on tip c, with q placements more, of the lines lying within the interval. No line has a tip that is not named.
     // The clause that an interval is in the rack stays here and in the other files: an interval does not hold the rack.
     pub fn pairs_at(&self, of: Interval, c: usize, q: u32) -> u64

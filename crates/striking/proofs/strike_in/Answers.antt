@@ -1,4 +1,4 @@
-use Rattle.std.proofs.Common.{◌∙◌, arith}
+use Rattle.std.proofs.Common.{refl, ◌∙◌, arith}
 use Rattle.placements.specs.Repeated.{repeated}
 use Rattle.striking.proofs.Read.{ready}
 use Rattle.striking.proofs.Others.{all-sums}
@@ -46,6 +46,7 @@ invariant_of-each g c =
     let i = c.fill_inside.ensures placed k in
     let most = c.entry_at.ensures.entry ∙ i.narrower 0 l.rack (omega arith) (omega arith) in
     record {
+      no_more = refl;
       summed = c.sum_spans.ensures;
       inside = i;
       outside = c.fill_outside.ensures placed k i;
