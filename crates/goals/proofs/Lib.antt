@@ -10,3 +10,4 @@ pub mod Same
 pub mod Check
 pub mod Narrow
 pub mod Starts
+pub mod Ranked

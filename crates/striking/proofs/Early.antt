@@ -13,11 +13,11 @@ use Rattle.model.specs.Interval.{low, high}
 use Rattle.model.proofs.Tests.{le_or_lt, test, true_T, false_T, and_left, and_right, and_in}
 use Rattle.model.proofs.Run.{low_le, le_high}
 use Rattle.model.proofs.Sets.{empty_has, has-set_of, or_left, or_right}
+use Rattle.ranks.proofs.Joined.{or_out}
 use Rattle.goals.specs.Check.{entry}
 use Rattle.goals.specs.Tables.{Whole}
 use Rattle.striking.specs.Striking.{split_by, ends_by, tips_by}
 use Rattle.striking.specs.Early.{live_by, firsts_by, Finds, Found, starts_by, leaves_by}
-use Rattle.striking.proofs.Follow.{or_out}
 use Rattle.striking.proofs.Kept.{and_none}
 
 -- a tip of the line is in each interval that has the line whole
@@ -26,15 +26,15 @@ tip_in {s = s} narrow d c x h = (omega (arith, x.from, low_le s c h), omega (ari
 
 -- ---- what an interval finds
 
-module _ (names m : ℕ) (xs inner upper : List ℕ) (q s K a w t : ℕ) where
+module _ (m : ℕ) (xs inner upper : List ℕ) (q s K a w t : ℕ) where
   abbrev value : ℕ
-  value = entry m upper a w + split_by names m xs inner q a w (t - a)
+  value = entry m upper a w + split_by m xs inner q a w (t - a)
 
   abbrev tips : ℕ
-  tips = tips_by names m xs inner q s K (entry m upper a w) a w
+  tips = tips_by m xs inner q s K (entry m upper a w) a w
 
   -- a tip that is found is one of the line, in the interval, and has the goal's pairs
-  pub firsts-out : T (has (firsts_by names m xs inner upper q s K a w) t) → T (has s t) × (a ≤ t) × (t < a + w) × (K ≤ value)
+  pub firsts-out : T (has (firsts_by m xs inner upper q s K a w) t) → T (has s t) × (a ≤ t) × (t < a + w) × (K ≤ value)
   unfolding firsts_by ends_by
   firsts-out h = ⊎_elim
       (λ o. out (rw (true_T (live_by m inner upper K a w) o) at h))
@@ -44,7 +44,7 @@ module _ (names m : ℕ) (xs inner upper : List ℕ) (q s K a w t : ℕ) where
       out : T (has tips t) → T (has s t) × (a ≤ t) × (t < a + w) × (K ≤ value)
       out g =
           let e = leb K value in
-          let x = rw (has-set_of (ends_by names m xs inner q s K (entry m upper a w) a w) (a + w) t) at g in
+          let x = rw (has-set_of (ends_by m xs inner q s K (entry m upper a w) a w) (a + w) t) at g in
           let y = and_right (ltb t (a + w)) (leb a t && (has s t && e)) x in
           let z = and_right (leb a t) (has s t && e) y in
           let from = leb→le a t (and_left (leb a t) (has s t && e) y) in
@@ -53,11 +53,11 @@ module _ (names m : ℕ) (xs inner upper : List ℕ) (q s K a w t : ℕ) where
 
   -- and each such tip is found where the interval is live
   pub firsts-in : T (live_by m inner upper K a w) → T (has s t) → a ≤ t → t < a + w → K ≤ value
-      → T (has (firsts_by names m xs inner upper q s K a w) t)
+      → T (has (firsts_by m xs inner upper q s K a w) t)
   unfolding firsts_by ends_by
   firsts-in o h p r k =
       let e = leb K value in
-      rw (true_T (live_by m inner upper K a w) o, has-set_of (ends_by names m xs inner q s K (entry m upper a w) a w) (a + w) t) (
+      rw (true_T (live_by m inner upper K a w) o, has-set_of (ends_by m xs inner q s K (entry m upper a w) a w) (a + w) t) (
       and_in (ltb t (a + w)) (leb a t && (has s t && e)) (lt→ltb t (a + w) r)
       (and_in (leb a t) (has s t && e) (le→leb a t p) (and_in (has s t) e h (le→leb K value k))))
 

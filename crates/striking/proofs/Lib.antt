@@ -7,5 +7,6 @@ pub mod Early
 pub mod Kept
 pub mod Settled
 pub mod Ranges
+pub mod Ranks
 pub mod One
 pub mod Laws

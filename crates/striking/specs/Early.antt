@@ -15,8 +15,8 @@ live_by m inner upper K a w = leb K (entry m upper a w + entry m inner a w)
 -- ---- the first tips
 
 -- the tips of the set s at which a split of the interval has K pairs with those outside
-unfoldable pub firsts_by : ℕ → ℕ → List ℕ → List ℕ → List ℕ → ℕ → ℕ → ℕ → ℕ → ℕ → ℕ
-firsts_by names m xs inner upper q s K a w = cond (live_by m inner upper K a w) (tips_by names m xs inner q s K (entry m upper a w) a w) 0
+unfoldable pub firsts_by : ℕ → List ℕ → List ℕ → List ℕ → ℕ → ℕ → ℕ → ℕ → ℕ → ℕ
+firsts_by m xs inner upper q s K a w = cond (live_by m inner upper K a w) (tips_by m xs inner q s K (entry m upper a w) a w) 0
 
 -- an interval that has the line s whole finds tip t
 abbrev pub Finds : ℕ → ℕ → (ℕ → ℕ → ℕ) → ℕ → Type 0

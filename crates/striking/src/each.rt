@@ -6,7 +6,7 @@ ghost use Rattle.model.specs.Plan.{has, Domain};
 ghost use Rattle.model.specs.Interval.{C};
 ghost use Rattle.placements.specs.Repeated.{repeated};
 ghost use Rattle.spans.specs.Spans.{sums_size, sums as sums_of};
-ghost use Rattle.checking.specs.Checking.{NamedRuns};
+ghost use Rattle.ranks.specs.Runs.{FullRuns};
 ghost use Rattle.goals.specs.Goal.{goal_tips, strike};
 ghost use Rattle.striking.specs.Striking.{Same, InsideAll, OutsideAll};
 
@@ -44,7 +44,7 @@ pub struct Each<'a> {
 impl Each<'_> {
     // The tips asked of line i that stay, by the sums of the other lines.
     fn asked_tips(&self, i: usize, asked: u64, rest: &mut [u32], outer: &mut [u32]) -> u64
-        requires named { NamedRuns self.now.all.names self.now.all.m self.now.quantities.now self.now.lines.now }
+        requires full { FullRuns self.now.all.m self.now.quantities.now self.now.lines.now }
         requires line { i < length self.now.lines.now }
         requires domain { Domain self.now.all.m asked }
         requires rest_size { length rest.old ≡ sums_size self.now.all.m }
@@ -56,7 +56,6 @@ impl Each<'_> {
         let quantity = self.quantities[i];
         rest::sums_without(self.all.m, self.all.sums, self.lines[i], quantity, rest);
         let others = Lines {
-            names: self.all.names,
             m: self.all.m,
             added: u32::from(quantity),
             sums: rest,
@@ -73,7 +72,7 @@ impl Each<'_> {
 
     // The kept set of line i. What the sums and tables of all lines settle is kept, and only the other tips are asked for.
     fn tips_of(&self, i: usize, rest: &mut [u32], outer: &mut [u32]) -> u64
-        requires named { NamedRuns self.now.all.names self.now.all.m self.now.quantities.now self.now.lines.now }
+        requires full { FullRuns self.now.all.m self.now.quantities.now self.now.lines.now }
         requires line { i < length self.now.lines.now }
         requires rest_size { length rest.old ≡ sums_size self.now.all.m }
         requires outer_size { self.now.all.m * self.now.all.m ≤ length outer.old }
@@ -104,7 +103,7 @@ impl Each<'_> {
     }
 
     fn struck_at(&self, i: usize, struck: &[u64], rest: &mut [u32], outer: &mut [u32]) -> u64
-        requires named { NamedRuns self.now.all.names self.now.all.m self.now.quantities.now self.now.lines.now }
+        requires full { FullRuns self.now.all.m self.now.quantities.now self.now.lines.now }
         requires line { i < length self.now.lines.now }
         requires struck { take i struck.now ≡ list_of (goal_tips self.now.all.m self.now.quantities.now self.now.lines.now self.now.goal) i }
         requires before { i ≤ length struck.now }
@@ -123,7 +122,7 @@ impl Each<'_> {
     }
 
     pub fn strike(&self, rest: &mut [u32], outer: &mut [u32], struck: &mut [u64])
-        requires named { NamedRuns self.now.all.names self.now.all.m self.now.quantities.now self.now.lines.now }
+        requires full { FullRuns self.now.all.m self.now.quantities.now self.now.lines.now }
         requires rest_size { length rest.old ≡ sums_size self.now.all.m }
         requires outer_size { self.now.all.m * self.now.all.m ≤ length outer.old }
         requires as_lines { length struck.old ≡ length self.now.lines.now }

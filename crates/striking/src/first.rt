@@ -23,7 +23,7 @@ impl Reach<'_, '_> {
     #[tactic(auto, unfolding(crate::specs::Early::firsts_by))]
     fn firsts_in(&self, of: Interval) -> u64
         requires { of.first + of.width ≤ self.now.lines.m }
-        ensures { result ≡ firsts_by self.now.lines.names self.now.lines.m self.now.lines.sums.now self.now.inner.now self.now.upper.now
+        ensures { result ≡ firsts_by self.now.lines.m self.now.lines.sums.now self.now.inner.now self.now.upper.now
             self.now.lines.added self.now.set self.now.goal of.first of.width }
     {
         if !self.is_live(of) {
@@ -37,10 +37,10 @@ impl Reach<'_, '_> {
     fn firsts_from(&self, a: usize, before: u64) -> u64
         requires first { a ≤ low self.now.set }
         requires found { Found self.now.lines.m self.now.set
-            (firsts_by self.now.lines.names self.now.lines.m self.now.lines.sums.now self.now.inner.now self.now.upper.now
+            (firsts_by self.now.lines.m self.now.lines.sums.now self.now.inner.now self.now.upper.now
             self.now.lines.added self.now.set self.now.goal) before a 0 }
         ensures { Found self.now.lines.m self.now.set
-            (firsts_by self.now.lines.names self.now.lines.m self.now.lines.sums.now self.now.inner.now self.now.upper.now
+            (firsts_by self.now.lines.m self.now.lines.sums.now self.now.inner.now self.now.upper.now
             self.now.lines.added self.now.set self.now.goal) result (a + 1) 0 }
     {
         let mut known = before;
@@ -56,7 +56,7 @@ impl Reach<'_, '_> {
     // The tips of the line that the intervals which have it whole find.
     pub fn first_on(&self) -> u64
         ensures { (t : ℕ) → T (has result t) ↔ Finds self.now.lines.m self.now.set
-            (firsts_by self.now.lines.names self.now.lines.m self.now.lines.sums.now self.now.inner.now self.now.upper.now
+            (firsts_by self.now.lines.m self.now.lines.sums.now self.now.inner.now self.now.upper.now
             self.now.lines.added self.now.set self.now.goal) t }
     {
         let mut known = 0;

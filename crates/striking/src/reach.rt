@@ -59,7 +59,7 @@ impl Reach<'_, '_> {
         requires from { of.first ≤ t }
         requires to { t < of.first + of.width }
         requires narrow { outside < 2 ^ 32 }
-        ensures { result ≡ ends_by self.now.lines.names self.now.lines.m self.now.lines.sums.now self.now.inner.now
+        ensures { result ≡ ends_by self.now.lines.m self.now.lines.sums.now self.now.inner.now
             self.now.lines.added self.now.set self.now.goal outside of.first of.width t }
     {
         if !tips::has_tip(self.set, t) {
@@ -75,7 +75,7 @@ impl Reach<'_, '_> {
     pub fn ended_tips(&self, outside: u64, of: Interval) -> u64
         requires inside { of.first + of.width ≤ self.now.lines.m }
         requires narrow { outside < 2 ^ 32 }
-        ensures { result ≡ tips_by self.now.lines.names self.now.lines.m self.now.lines.sums.now self.now.inner.now
+        ensures { result ≡ tips_by self.now.lines.m self.now.lines.sums.now self.now.inner.now
             self.now.lines.added self.now.set self.now.goal outside of.first of.width }
     {
         let end = (of.first + of.width).min(tips::highest(self.set) + 1);
@@ -94,14 +94,14 @@ impl Reach<'_, '_> {
         requires size { self.now.lines.m * self.now.lines.m ≤ length outer.old }
         requires some { 0 < of.width }
         requires inside { of.first + of.width ≤ self.now.lines.m }
-        requires narrow { around_by self.now.lines.names self.now.lines.m self.now.lines.sums.now self.now.inner.now outer.old
+        requires narrow { around_by self.now.lines.m self.now.lines.sums.now self.now.inner.now outer.old
             of.first of.width < 2 ^ 32 }
-        ensures kept { result ≡ tips_by self.now.lines.names self.now.lines.m self.now.lines.sums.now self.now.inner.now
+        ensures kept { result ≡ tips_by self.now.lines.m self.now.lines.sums.now self.now.inner.now
             self.now.lines.added self.now.set self.now.goal
-            (around_by self.now.lines.names self.now.lines.m self.now.lines.sums.now self.now.inner.now outer.old of.first of.width)
+            (around_by self.now.lines.m self.now.lines.sums.now self.now.inner.now outer.old of.first of.width)
             of.first of.width }
         ensures outer { outer.new ≡ put outer.old (of.first * self.now.lines.m + (of.first + (of.width - 1)))
-            (around_by self.now.lines.names self.now.lines.m self.now.lines.sums.now self.now.inner.now outer.old of.first of.width) }
+            (around_by self.now.lines.m self.now.lines.sums.now self.now.inner.now outer.old of.first of.width) }
     {
         let outside = self.lines.best_outside(of, self.inner, outer);
         outer[of.first * self.lines.m + (of.first + (of.width - 1))] = outside as u32;
@@ -119,7 +119,7 @@ impl Reach<'_, '_> {
             × T (open_by self.now.lines.m self.now.lines.sums.now self.now.inner.now self.now.upper.now
             self.now.lines.added self.now.set self.now.goal a w)) }
         ensures outer { (kept : ℕ) (lines rest : List ℕ)
-            → Known self.now.lines.names self.now.lines.m self.now.lines.added lines rest
+            → Known self.now.lines.m self.now.lines.added lines rest
             self.now.lines.sums.now self.now.inner.now self.now.upper.now
             → Followed self.now.lines.m self.now.lines.added self.now.set self.now.goal
             (open_by self.now.lines.m self.now.lines.sums.now self.now.inner.now self.now.upper.now
@@ -141,10 +141,10 @@ impl Reach<'_, '_> {
 
     // The widest intervals first.
     pub fn kept_tips(&self, outer: &mut [u32]) -> u64
-        requires known { (lines : List ℕ) × (rest : List ℕ) × Known self.now.lines.names self.now.lines.m self.now.lines.added lines rest
+        requires known { (lines : List ℕ) × (rest : List ℕ) × Known self.now.lines.m self.now.lines.added lines rest
             self.now.lines.sums.now self.now.inner.now self.now.upper.now }
         requires size { self.now.lines.m * self.now.lines.m ≤ length outer.old }
-        ensures { (lines rest : List ℕ) → Known self.now.lines.names self.now.lines.m self.now.lines.added lines rest
+        ensures { (lines rest : List ℕ) → Known self.now.lines.m self.now.lines.added lines rest
             self.now.lines.sums.now self.now.inner.now self.now.upper.now → (t : ℕ)
             → T (has result t) ↔ (T (has self.now.set t)
             × Ends (open_by self.now.lines.m self.now.lines.sums.now self.now.inner.now self.now.upper.now

@@ -13,7 +13,6 @@ pub struct Interval {
 // With the placements that may be added to a tip: none where these are all lines, and those of one line where these are the others.
 #[derive(Clone, Copy)]
 pub struct Lines<'a> {
-    pub names: u64,
     pub m: usize,
     pub added: u32,
     pub sums: &'a [u32],
@@ -37,19 +36,16 @@ impl Lines<'_> {
         sums[last + end] + sums[first + l] - sums[first + end] - sums[next + l]
     }
 
-    // The pairs on tip c, with q placements more, of the lines lying within the interval. No line has a tip that is not named.
+    // The pairs on tip c, with q placements more, of the lines lying within the interval.
     // The clause that an interval is in the rack stays here and in the other files: an interval does not hold the rack.
     pub fn pairs_at(&self, of: Interval, c: usize, q: u32) -> u64
         requires inside { of.first + of.width ≤ self.now.m }
         requires from { of.first ≤ c }
         requires to { c < of.first + of.width }
         requires few { q ≤ self.now.added }
-        ensures pairs { result ≡ pairs_by self.now.names self.now.m self.now.sums.now q of.first of.width c }
+        ensures pairs { result ≡ pairs_by self.now.m self.now.sums.now q of.first of.width c }
         ensures narrow { result < 2 ^ 32 }
     {
-        if !tips::has_tip(self.names, c) {
-            return u64::from(pair_count::pairs_among(q));
-        }
         let inside = spans::inside_at(self.m, self.sums, of.first, of.width, c);
         u64::from(pair_count::pairs_among(inside + q))
     }
@@ -61,7 +57,7 @@ impl Lines<'_> {
         requires inside { of.first + of.width ≤ self.now.m }
         requires tip { i < of.width }
         requires few { q ≤ self.now.added }
-        ensures split { result ≡ split_by self.now.names self.now.m self.now.sums.now inner.now q of.first of.width i }
+        ensures split { result ≡ split_by self.now.m self.now.sums.now inner.now q of.first of.width i }
         ensures narrow { result < 2 ^ 34 }
     {
         let c = of.first + i;

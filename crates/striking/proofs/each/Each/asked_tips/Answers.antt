@@ -8,23 +8,23 @@ use Rattle.striking.proofs.each.Each.asked_tips.Goals.{After-from}
 use Rattle.striking.proofs.each.Each.asked_tips.Goals as goal
 
 -- the sums of the others, with the line's own quantity
-sums-of : (c : After-from) → RunSums c.args.self.now.all.names c.args.self.now.all.m c.from.result
+sums-of : (c : After-from) → RunSums c.args.self.now.all.m c.from.result
     (others c.args.self.now.quantities.now c.args.self.now.lines.now c.args.i) c.sums_without.new.rest
-sums-of c = rw c.from.ensures (rest-sums c.requires.named c.args.i c.requires.line c.args.self.now.summed c.sums_without.ensures)
+sums-of c = rw c.from.ensures (rest-sums c.requires.full c.args.i c.requires.line c.args.self.now.summed c.sums_without.ensures)
 
 -- and the two tables of all lines
-known-of : (c : After-from) → Known c.args.self.now.all.names c.args.self.now.all.m c.from.result
+known-of : (c : After-from) → Known c.args.self.now.all.m c.from.result
     (repeated c.args.self.now.quantities.now c.args.self.now.lines.now)
     (others c.args.self.now.quantities.now c.args.self.now.lines.now c.args.i) c.sums_without.new.rest c.args.self.now.inner.now
     c.args.self.now.upper.now
 known-of c =
     let s = c.args.self.now in
-    let named = c.requires.named in
-    rw c.from.ensures (known named c.args.i c.requires.line (all-sums named.good named.named s.summed)
-    (rest-sums named c.args.i c.requires.line s.summed c.sums_without.ensures) s.inside s.outside)
+    let full = c.requires.full in
+    rw c.from.ensures (known full c.args.i c.requires.line (all-sums full s.summed)
+    (rest-sums full c.args.i c.requires.line s.summed c.sums_without.ensures) s.inside s.outside)
 
 pub sums_without-requires-clause-removable : goal.sums_without-requires-clause-removable
-sums_without-requires-clause-removable c = rw c.args.self.now.summed (removable c.requires.named c.args.i c.requires.line)
+sums_without-requires-clause-removable c = rw c.args.self.now.summed (removable c.requires.full c.args.i c.requires.line)
 
 pub invariant_of-others : goal.invariant_of-others
 invariant_of-others c = record { ready = ready (sums-of (goal.at.invariant_of-others c).After-from) }
@@ -57,10 +57,10 @@ returns-clause-asked c = λ t h.
 pub returns-clause-exact : goal.returns-clause-exact
 returns-clause-exact c =
     let s = c.args.self.now in
-    let named = c.requires.named in
+    let full = c.requires.full in
     let all = repeated s.quantities.now s.lines.now in
     let rest = others s.quantities.now s.lines.now c.args.i in
     let kept = c.kept_tips.ensures all rest (known-of (goal.at.returns-clause-exact c).After-from) in
-    kept_iff named c.args.i c.requires.line (all-sums named.good named.named s.summed)
-    (rest-sums named c.args.i c.requires.line s.summed c.sums_without.ensures) s.inside s.outside c.args.asked c.requires.domain s.goal _
+    kept_iff full c.args.i c.requires.line (all-sums full s.summed)
+    (rest-sums full c.args.i c.requires.line s.summed c.sums_without.ensures) s.inside s.outside c.args.asked c.requires.domain s.goal _
     (rw c.from.ensures at kept)

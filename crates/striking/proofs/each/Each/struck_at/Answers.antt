@@ -8,7 +8,7 @@ use Rattle.striking.proofs.each.Each.struck_at.Goals as goal
 pub returns-then-lowest-highest : goal.returns-then-lowest-highest
 returns-then-lowest-highest c =
     let s = c.args.self.now in
-    one-tip c.requires.named c.args.i c.requires.line s.goal s.reached (omega (arith, c.if-lowest-highest.true, c.highest.ensures, c.lowest.ensures))
+    one-tip c.requires.full c.args.i c.requires.line s.goal s.reached (omega (arith, c.if-lowest-highest.true, c.highest.ensures, c.lowest.ensures))
 
 pub returns-in-Some : goal.returns-in-Some
 returns-in-Some c =
@@ -16,5 +16,5 @@ returns-in-Some c =
     let found = c.in-Some.ensures in
     let tips : ℕ → ℕ = goal_tips s.all.m s.quantities.now s.lines.now s.goal in
     struck-before tips c.args.struck.now c.args.i c.in-Some.j found.0 c.requires.struck
-    ∙ same_tips s.quantities.now s.lines.now c.requires.named.good.same (omega (arith, found, c.requires)) c.requires.line
+    ∙ same_tips s.quantities.now s.lines.now c.requires.full.good.same (omega (arith, found, c.requires)) c.requires.line
     found.1.quantity found.1.set s.all.m s.goal

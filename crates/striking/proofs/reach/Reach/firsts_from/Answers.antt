@@ -23,7 +23,7 @@ pub returns-then-known-self : goal.returns-then-known-self
 returns-then-known-self c =
     let s = c.args.self.now in
     found_all c.if-known-self.true (λ b v t h.
-    (firsts-out s.lines.names s.lines.m s.lines.sums.now s.inner.now s.upper.now s.lines.added s.set s.goal b v t h).0) c.loop-w.invariant
+    (firsts-out s.lines.m s.lines.sums.now s.inner.now s.upper.now s.lines.added s.set s.goal b v t h).0) c.loop-w.invariant
 
 pub loop-w-preserved : goal.loop-w-preserved
 loop-w-preserved c =

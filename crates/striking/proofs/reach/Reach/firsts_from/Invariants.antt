@@ -5,4 +5,4 @@ use Rattle.striking.proofs.reach.Reach.firsts_from.Given as goal
 abbrev pub invariant-loop-w : goal.invariant-loop-w
 invariant-loop-w l =
     let s = l.self in
-    Found s.lines.m s.set (firsts_by s.lines.names s.lines.m s.lines.sums.now s.inner.now s.upper.now s.lines.added s.set s.goal) l.known l.a l.w
+    Found s.lines.m s.set (firsts_by s.lines.m s.lines.sums.now s.inner.now s.upper.now s.lines.added s.set s.goal) l.known l.a l.w
