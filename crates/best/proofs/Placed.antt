@@ -11,7 +11,7 @@ use Rattle.placements.proofs.Repeated.{all-repeated}
 use Rattle.placements.proofs.Named.{named-repeated}
 use Rattle.placements.proofs.Good.{good_placements}
 use Rattle.table.specs.Cells.{Runs}
-use Rattle.best.specs.Runs.{FullRuns}
+use Rattle.ranks.specs.Runs.{FullRuns}
 
 module _ {m : ℕ} {qs sets : List ℕ} (f : FullRuns m qs sets) where
   -- placements of unbroken runs are unbroken runs

@@ -9,7 +9,8 @@ ghost use Rattle.placements.specs.Good.{All-prop};
 ghost use Rattle.placements.specs.Plans.{best_plan_q};
 ghost use Rattle.spans.specs.Spans.{sums_size};
 ghost use Rattle.head.specs.OnHead.{on_head};
-ghost use Rattle.best.specs.Runs.{NamedRuns, FullRuns, Ranked};
+ghost use Rattle.ranks.specs.Runs.{NamedRuns, FullRuns};
+ghost use Rattle.best.specs.Runs.{Ranked};
 ghost use Rattle.std.proofs.Props.{props};
 
 use layout::Counted;

@@ -10,7 +10,7 @@ use crate::Board;
 use refusal::Refused;
 
 impl Board {
-    // No buffer is lent: the arrays of striking take 82,952 bytes of the stack, and the second array of sets 4,096.
+    // No buffer is lent: the arrays of striking take up to 87,176 bytes of the stack, and the second array of sets 4,096.
     pub fn goal(&mut self, goal: u32) -> Result<(), Refused>
         ensures answer { answered self.new result ≡ goal_of self.old goal }
         ensures rule { GoalRule self.old goal (answered self.new result) }

@@ -32,17 +32,17 @@ module _ {ok : ℕ → Bool} {m : ℕ} {rest : List ℕ} {D E : ℕ → ℕ → 
   -- ---- a split of an interval that has t: at a tip after t, before t, and at t
 
   module _ (a w i : ℕ) (l : i < w) (b : a + w ≤ m) where
-    after-t : t < a + i → split E all a w i ≡ choose2 (inside rest a w (a + i)) + (E a i + D (a + i + 1) (w - (i + 1)))
+    pub after-t : t < a + i → split E all a w i ≡ choose2 (inside rest a w (a + i)) + (E a i + D (a + i + 1) (w - (i + 1)))
     after-t h = omega (
       arith,
       ap choose2 (inside-tip rest q t a w (a + i) (λ e. omega arith)),
       apart (a + i + 1) (w - (i + 1)) (omega arith) (λ u v. omega arith),
     )
 
-    before-t : a + i < t → split E all a w i ≡ choose2 (inside rest a w (a + i)) + (D a i + E (a + i + 1) (w - (i + 1)))
+    pub before-t : a + i < t → split E all a w i ≡ choose2 (inside rest a w (a + i)) + (D a i + E (a + i + 1) (w - (i + 1)))
     before-t h = omega (arith, ap choose2 (inside-tip rest q t a w (a + i) (λ e. omega arith)), apart a i (omega arith) (λ u v. omega arith))
 
-    at-t : a + i ≡ t → split E all a w i ≡ choose2 (inside rest a w (a + i) + q) + (D a i + D (a + i + 1) (w - (i + 1)))
+    pub at-t : a + i ≡ t → split E all a w i ≡ choose2 (inside rest a w (a + i) + q) + (D a i + D (a + i + 1) (w - (i + 1)))
     at-t e =
         let n : inside all a w (a + i) ≡ inside rest a w (a + i) + q = rw e (inside-at rest q t narrow below a w (omega arith) (omega arith)) in
         omega (
@@ -52,7 +52,7 @@ module _ {ok : ℕ → Bool} {m : ℕ} {rest : List ℕ} {D E : ℕ → ℕ → 
           apart (a + i + 1) (w - (i + 1)) (omega arith) (λ u v. omega arith),
         )
 
-    splits : split E all a w i ≤ E a w
+    pub splits : split E all a w i ≤ E a w
     splits = split_le y (joined-lines narrow ls q t below good) a w i b l tt
 
   -- ---- no interval has more pairs than by the table D, and with all on t that can be

@@ -8,3 +8,6 @@ pub mod Fast
 pub mod Strike
 pub mod Same
 pub mod Check
+pub mod Narrow
+pub mod Starts
+pub mod Ranked

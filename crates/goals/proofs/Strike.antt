@@ -42,7 +42,7 @@ module _ {m : ℕ} {qs sets : List ℕ} (good : GoodLines m qs sets) (rs : All (
   same : length qs ≡ length sets
   same = good.same
 
-  ls : All (Line (named sets) m) sets
+  pub ls : All (Line (named sets) m) sets
   ls = named-lines narrow good.domains rs
 
   valid_best : Valid sets (best_plan_q bare m qs sets)
@@ -155,14 +155,14 @@ module _ {m : ℕ} {qs sets : List ℕ} (good : GoodLines m qs sets) (rs : All (
     abbrev U : ℕ → ℕ → ℕ
     U = Out always m D placed
 
-    rest_lines : All (Line (named sets) m) rest
+    pub rest_lines : All (Line (named sets) m) rest
     rest_lines = all-repeated (without i qs) (all_without i ls)
 
     solved : Solved (named sets) m placed D
     solved = C_solved bare m placed (all-repeated qs ls)
 
     -- what line i adds
-    inside-placed : (a w c : ℕ) → inside placed a w c ≡ cond (lies a w s && has s c) (get_or qs i 0) 0 + inside rest a w c
+    pub inside-placed : (a w c : ℕ) → inside placed a w c ≡ cond (lies a w s && has s c) (get_or qs i 0) 0 + inside rest a w c
     unfolding inside
     inside-placed a w c =
         let f : ℕ → Bool = λ x. lies a w x && has x c in
@@ -172,17 +172,17 @@ module _ {m : ℕ} {qs sets : List ℕ} (good : GoodLines m qs sets) (rs : All (
     fewer a w c = omega (arith, inside-placed a w c)
 
     -- so the table of all lines is at least each split of the others
-    bounds : (a w j : ℕ) → a + w ≤ m → j < w → split D rest a w j ≤ D a w
+    pub bounds : (a w j : ℕ) → a + w ≤ m → j < w → split D rest a w j ≤ D a w
     bounds a w j b g = omega (arith, choose2_mono (fewer a w (a + j)), split_le solved (all-repeated qs ls) a w j b g tt)
 
     module _ (t : ℕ) (h : T (has s t)) where
       abbrev E : ℕ → ℕ → ℕ
       E = C (joined rest (get_or qs i 0) t)
 
-      own_tip : T (named sets t)
+      pub own_tip : T (named sets t)
       own_tip = (all-at 0 ls i l).fits t h
 
-      own_below : t < m
+      pub own_below : t < m
       own_below = has-below m s t (all-at 0 ls i l).domain.below h
 
       -- within an interval without t line i does not lie
@@ -194,21 +194,21 @@ module _ {m : ℕ} {qs sets : List ℕ} (good : GoodLines m qs sets) (rs : All (
           let z = not_T b (λ k. out (and_left (lies c v s) (has s u) k)) in
           omega (arith, inside-placed c v u, ap (λ x. cond x (get_or qs i 0) 0) (false_T b z))
 
-      reached : Solved (named sets) m (joined rest (get_or qs i 0) t) E
+      pub reached : Solved (named sets) m (joined rest (get_or qs i 0) t) E
       reached = C_solved bare m (joined rest (get_or qs i 0) t) (joined-lines narrow rest_lines (get_or qs i 0) t own_below own_tip)
 
       -- so the table of all lines serves there
-      apart : (a w : ℕ) → a + w ≤ m → (a ≤ t → t < a + w → ⊥) → E a w ≡ D a w
+      pub apart : (a w : ℕ) → a + w ≤ m → (a ≤ t → t < a + w → ⊥) → E a w ≡ D a w
       apart a w b n = solved_same reached solved a w b (λ c v u p r.
           inside-apart rest (get_or qs i 0) t narrow own_below a w n c v u p r ∙ sym (outside_line a w n c v u p r))
 
     -- THE GOAL'S TIPS BY TWO TABLES, where an interval is open if a chain through it can have K pairs
-    module _ (K : ℕ) (is_open : ℕ → ℕ → Bool)
-        (opens : (t a w : ℕ) → T (has s t) → a ≤ t → t < a + w → a + w ≤ m
+    module _ (K : ℕ) (is_open : ℕ → ℕ → Bool) (t : ℕ)
+        (opens : (a w : ℕ) → T (has s t) → a ≤ t → t < a + w → a + w ≤ m
         → K ≤ U a w + (D a w + (get_or qs i 0 * inside rest a w t + choose2 (get_or qs i 0))) → T (is_open a w)) where
-      pub tips-by_tables : (t : ℕ) → T (has (goal_tips m qs sets K i) t) ↔ (T (has s t) × Ends is_open m D rest (get_or qs i 0) K t)
+      pub tips-by_tables : T (has (goal_tips m qs sets K i) t) ↔ (T (has s t) × Ends is_open m D rest (get_or qs i 0) K t)
       unfolding goal_tips
-      tips-by_tables t =
+      tips-by_tables =
           let r = reach m rest (get_or qs i 0) t in
           rw (has-set_of (λ u. has s u && leb K (reach m rest (get_or qs i 0) u)) m t) (
             λ x. let y = and_right (ltb t m) (has s t && leb K r) x in
@@ -219,7 +219,7 @@ module _ {m : ℕ} {qs sets : List ℕ} (good : GoodLines m qs sets) (rs : All (
         where
           found : T (has s t) → K ≤ reach m rest (get_or qs i 0) t → Ends is_open m D rest (get_or qs i 0) K t
           found h = reach-found narrow rest_lines (get_or qs i 0) t (own_below t h) (own_tip t h) (reached t h) (apart t h) is_open K (λ a w p r b k.
-              opens t a w h p r b (omega (
+              opens a w h p r b (omega (
                 arith,
                 around_le is_open m D rest placed fewer a w b,
                 more_le narrow rest_lines (get_or qs i 0) t (own_below t h) (own_tip t h) (reached t h) (apart t h) bounds a w p r b,

@@ -1,9 +1,9 @@
 -- Tables of the most pairs, inside each interval and outside it. A list of lines has a set for each placement.
 -- For proofs and leaf contracts: no call's contract speaks of these.
-use Rattle.std.specs.Prelude.{ℕ, zero, suc, ◌+◌, ◌-◌, ◌≤◌, ◌<◌, max, ◌≡◌, Bool, true, cond, List, ◌++◌, map, T, replicate}
+use Rattle.std.specs.Prelude.{ℕ, zero, suc, ◌+◌, ◌*◌, ◌-◌, ◌≤◌, ◌<◌, max, ◌≡◌, ◌⊎◌, Bool, true, cond, List, ◌++◌, map, T, replicate}
 use Rattle.model.specs.Count.{All, largest}
 use Rattle.model.specs.Plan.{has, Valid, pairs, choose2}
-use Rattle.model.specs.Interval.{inside, Dominates, Picks}
+use Rattle.model.specs.Interval.{low, high, inside, split, Dominates, Picks}
 
 -- a table that is at least each split at a tip that is ok, and is one of them: that of the most pairs, for runs of the tips that are ok
 pub record Solved (ok : ℕ → Bool) (m : ℕ) (lines : List ℕ) (D : ℕ → ℕ → ℕ) : Type 0 where
@@ -51,3 +51,26 @@ ended is_open m D rest q a w i = Out is_open m D rest a w + (choose2 (inside res
 abbrev pub Ends : (ℕ → ℕ → Bool) → ℕ → (ℕ → ℕ → ℕ) → List ℕ → ℕ → ℕ → ℕ → Type 0
 Ends is_open m D rest q K t =
     (a : ℕ) × (w : ℕ) × (i : ℕ) × (a + i ≡ t) × (i < w) × (a + w ≤ m) × T (is_open a w) × (K ≤ ended is_open m D rest q a w i)
+
+-- the interval is in the rack, and has the line s whole
+pub record Whole (m s a w : ℕ) : Type 0 where
+  pub from : a ≤ low s
+  pub to : high s < a + w
+  pub ends : a + w ≤ m
+
+-- the pairs of the interval if its tip a + i takes its lines but for q of them, which go to a tip that n of the lines beside it allow
+abbrev pub parted : (ℕ → ℕ → ℕ) → List ℕ → ℕ → ℕ → ℕ → ℕ → ℕ → ℕ
+parted D lines q a w i n = choose2 (inside lines a w (a + i) - q) + (D a i + D (a + i + 1) (w - (i + 1))) + (q * n + choose2 q)
+
+-- an interval that has the line s whole has K pairs with those outside, by a split at tip t
+abbrev pub First : ℕ → ℕ → (ℕ → ℕ → ℕ) → (ℕ → ℕ → ℕ) → List ℕ → ℕ → ℕ → Type 0
+First m s O D lines K t = (a : ℕ) × (w : ℕ) × (i : ℕ) × Whole m s a w × (i < w) × (a + i ≡ t) × (K ≤ O a w + split D lines a w i)
+
+-- an interval that has the line s whole has K pairs with those outside, and a tip of the line takes the others: tip t beside it can have K pairs
+pub record Start (m s q : ℕ) (O D : ℕ → ℕ → ℕ) (lines : List ℕ) (K t a w i : ℕ) : Type 0 where
+  pub whole : Whole m s a w
+  pub tip : i < w
+  pub own : T (has s (a + i))
+  pub live : K ≤ O a w + D a w
+  pub beside : ((t < a + i) × (K ≤ O a w + parted D lines q a w i (inside lines a i t)))
+      ⊎ ((a + i < t) × (K ≤ O a w + parted D lines q a w i (inside lines (a + i + 1) (w - (i + 1)) t)))

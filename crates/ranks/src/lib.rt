@@ -1,4 +1,5 @@
-// The named tips of lines, the first line that misses one of them, and lines renumbered: each tip replaced by its rank among the named tips.
+// The named tips of lines, the first line that misses one of them, and lines renumbered: each tip replaced by its rank among the named tips, and
+// back.
 #![tactic(auto)]
 
 ghost use Rattle.std.specs.Prelude.{◌≡◌, map, ◌≤◌, length};
@@ -8,7 +9,7 @@ ghost use Rattle.model.specs.Plan.{has};
 ghost use Rattle.model.specs.Interval.{named, is_run_of};
 ghost use Rattle.model.specs.Renumber.{names, rank, rank_on};
 ghost use Rattle.head.specs.OnHead.{on_head};
-ghost use Rattle.ranks.specs.Listed.{Ranks, Named, run_by, Ranked, RanksOf};
+ghost use Rattle.ranks.specs.Listed.{Ranks, Named, run_by, Ranked, RanksOf, named_by, Nameable};
 
 // The union of the lines' sets.
 #[tactic(auto, using(model::proofs::Names::names_more), unfolding(model::specs::Renumber::names))]
@@ -78,5 +79,26 @@ pub fn renumber_mounted(mounted: Option<usize>, set: u64, ranks: &[u8]) -> Optio
     match mounted {
         Some(t) if t < model::MOST_TIPS && tips::has_tip(set, t) => Some(usize::from(ranks[t])),
         _ => None,
+    }
+}
+
+// A set of ranks as a set of tips, by the list of the tips.
+fn name_set(list: &[u8], set: u64) -> u64
+    requires { Nameable list.now set }
+    ensures { result ≡ named_by list.now set }
+{
+    let mut named = 0;
+    for rank in tips::lowest(set)..tips::highest(set) + 1 {
+        named |= u64::from(tips::has_tip(set, rank)) << list[rank];
+    }
+    named
+}
+
+pub fn name_sets(list: &[u8], sets: &mut [u64])
+    requires { All (Nameable list.now) sets.old }
+    ensures { sets.new ≡ map (named_by list.now) sets.old }
+{
+    for set in sets.iter_mut() {
+        *set = name_set(list, *set);
     }
 }

@@ -2,7 +2,7 @@
 use Prim.Native.Nat.{ℕ, ◌+◌, ◌*◌, ◌-◌, ◌≤◌, ◌<◌}
 use native.Mathlib.Omega.{arith}
 use mathlib.Core.Path.{◌≡◌, refl}
-use mathlib.Core.Logic.{◌⊎◌, inl, inr, ◌↔◌, ⊎_elim}
+use mathlib.Core.Logic.{◌↔◌, ⊎_elim}
 use mathlib.Core.Bool.{Bool, false, ◌&&◌}
 use mathlib.Core.List.{List}
 use lib.Bits.{bit_or}
@@ -11,20 +11,17 @@ use lib.ListN.{length, set}
 use Rattle.model.specs.Limits.{most_tips, most_pairs}
 use Rattle.model.specs.Plan.{has}
 use Rattle.model.specs.Interval.{C}
-use Rattle.model.proofs.Tests.{le_or_lt, test, true_T, false_T, and_left, and_right, and_in}
-use Rattle.model.proofs.Sets.{empty_has, has-set_of, or_left, or_right, has_or}
+use Rattle.model.proofs.Tests.{le_or_lt, true_T, and_left, and_right, and_in}
+use Rattle.model.proofs.Sets.{empty_has, has-set_of, or_left, or_right}
 use Rattle.goals.specs.Tables.{ended, Ends}
 use Rattle.goals.proofs.Outer.{Out_open, around_le}
+use Rattle.ranks.proofs.Joined.{or_out}
 use Rattle.striking.specs.Striking.{split_by, around_by, open_by, ends_by, tips_by, Known, Followed}
 use Rattle.striking.proofs.Read.{pairs_same}
 use Rattle.striking.proofs.Inner.{place}
 use Rattle.striking.proofs.Outer.{around_same, outside_more, outside_next, outside_first}
 
--- a tip of a union
-or_out : (a b t : ℕ) → T (has (bit_or a b) t) → T (has a t) ⊎ T (has b t)
-or_out a b t h = ⊎_elim inl (λ n. inr (rw (has_or a b t, false_T (has a t) n) at h)) (test (has a t))
-
-module _ {names m q : ℕ} {lines rest xs inner upper : List ℕ} (k : Known names m q lines rest xs inner upper) (s K : ℕ) where
+module _ {m q : ℕ} {lines rest xs inner upper : List ℕ} (k : Known m q lines rest xs inner upper) (s K : ℕ) where
   -- the intervals that are followed, and the chains that end with the goal's pairs
   abbrev is_open : ℕ → ℕ → Bool
   is_open = open_by m xs inner upper q s K
@@ -37,10 +34,10 @@ module _ {names m q : ℕ} {lines rest xs inner upper : List ℕ} (k : Known nam
 
   module _ {outer : List ℕ} {kept w a : ℕ} (f : So outer kept w a) (p : 0 < w) (b : a + w ≤ m) where
     abbrev out : ℕ
-    out = around_by names m xs inner outer a w
+    out = around_by m xs inner outer a w
 
     abbrev found : ℕ
-    found = tips_by names m xs inner q s K out a w
+    found = tips_by m xs inner q s K out a w
 
     -- the number is small
     pub follow_few : out ≤ most_tips * most_pairs
@@ -53,27 +50,27 @@ module _ {names m q : ℕ} {lines rest xs inner upper : List ℕ} (k : Known nam
 
     module _ (o : T (is_open a w)) where
       -- the sum is that of the chain which ends there
-      ended_same : (i : ℕ) → i < w → out + split_by names m xs inner q a w i ≡ ended is_open m (C lines) rest q a w i
+      ended_same : (i : ℕ) → i < w → out + split_by m xs inner q a w i ≡ ended is_open m (C lines) rest q a w i
       unfolding split_by
       ended_same i l = omega (
         arith,
         around_same k.others k.inside f.table p b,
         Out_open is_open m (C lines) rest a w b o,
         pairs_same k.others q a w (a + i) b (omega arith) (omega arith),
-        k.inside.narrower a i (omega arith) (omega arith),
-        k.inside.narrower (a + i + 1) (w - (i + 1)) (omega arith) (omega arith),
+        k.inside.entries a i (omega arith),
+        k.inside.entries (a + i + 1) (w - (i + 1)) (omega arith),
       )
 
       found_right : (t : ℕ) → T (has found t) → T (has s t) × EndsAt t
       unfolding ends_by
       found_right t h =
-          let e = leb K (out + split_by names m xs inner q a w (t - a)) in
-          let x = rw (has-set_of (ends_by names m xs inner q s K out a w) (a + w) t) at h in
+          let e = leb K (out + split_by m xs inner q a w (t - a)) in
+          let x = rw (has-set_of (ends_by m xs inner q s K out a w) (a + w) t) at h in
           let y = and_right (ltb t (a + w)) (leb a t && (has s t && e)) x in
           let z = and_right (leb a t) (has s t && e) y in
           let below = ltb→lt t (a + w) (and_left (ltb t (a + w)) (leb a t && (has s t && e)) x) in
           let from = leb→le a t (and_left (leb a t) (has s t && e) y) in
-          let enough = leb→le K (out + split_by names m xs inner q a w (t - a)) (and_right (has s t) e z) in (
+          let enough = leb→le K (out + split_by m xs inner q a w (t - a)) (and_right (has s t) e z) in (
             and_left (has s t) e z,
             (a, w, t - a, omega arith, omega arith, b, o, omega (arith, ended_same (t - a) (omega arith))),
           )
@@ -83,9 +80,9 @@ module _ {names m q : ℕ} {lines rest xs inner upper : List ℕ} (k : Known nam
       found_all i l h g =
           let t = a + i in
           let n : a + i - a ≡ i = omega arith in
-          let e = leb K (out + split_by names m xs inner q a w (t - a)) in
-          let enough : T e = rw n (le→leb K (out + split_by names m xs inner q a w i) (omega (arith, ended_same i l))) in
-          rw (has-set_of (ends_by names m xs inner q s K out a w) (a + w) t) (
+          let e = leb K (out + split_by m xs inner q a w (t - a)) in
+          let enough : T e = rw n (le→leb K (out + split_by m xs inner q a w i) (omega (arith, ended_same i l))) in
+          rw (has-set_of (ends_by m xs inner q s K out a w) (a + w) t) (
           and_in (ltb t (a + w)) (leb a t && (has s t && e)) (lt→ltb t (a + w) (omega arith))
           (and_in (leb a t) (has s t && e) (le→leb a t (omega arith)) (and_in (has s t) e h enough)))
 

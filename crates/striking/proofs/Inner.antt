@@ -1,24 +1,18 @@
--- The inside table grows by one interval.
+-- The inside table, and what a table has after one entry is stored.
 use Prim.Native.Nat.{ℕ, zero, suc, ◌+◌, ◌*◌, ◌-◌, ◌/◌, ◌%◌, ◌≤◌, ◌<◌}
 use native.Mathlib.Omega.{arith}
 use mathlib.Core.Path.{◌≡◌, refl, ap, sym, ◌∙◌}
-use mathlib.Core.Logic.{◌≢◌, ⊎_elim}
+use mathlib.Core.Logic.{◌≢◌}
 use mathlib.Core.List.{List}
 use lib.Arith.{digits_div, digits_mod}
-use lib.ListN.{length, set, length-set}
+use lib.ListN.{length, set}
 use lib.Seq.{get_or-set_same, get_or-set_other}
-use Rattle.model.specs.Limits.{most_tips, most_pairs}
-use Rattle.model.specs.Count.{largest}
-use Rattle.model.specs.Plan.{choose2}
-use Rattle.model.specs.Interval.{inside, C}
-use Rattle.model.proofs.Tests.{le_or_lt}
-use Rattle.model.proofs.Largest.{largest_cong}
-use Rattle.model.proofs.Limits.{C_few}
-use Rattle.model.proofs.Best.{C_zero, C-split}
+use Rattle.model.specs.Interval.{C, table}
+use Rattle.model.proofs.Best.{C_zero}
+use Rattle.model.proofs.Table.{length-table, table_at}
 use Rattle.goals.specs.Check.{entry}
 use Rattle.checking.proofs.Bounds.{place_lt, entry_some}
-use Rattle.striking.specs.Striking.{RunSums, split_by, Inside}
-use Rattle.striking.proofs.Read.{pairs_same}
+use Rattle.striking.specs.Striking.{InsideAll}
 
 -- ---- storing one entry
 
@@ -50,43 +44,13 @@ module _ (m a w : ℕ) (p : 0 < w) (h : a + w ≤ m) (tab : List ℕ) (room : m 
       entry_some m (set tab (place m a w) v) b (suc x) q ∙ get_or-set_other tab (place m a w) (place m b (suc x)) v 0 d
       ∙ sym (entry_some m tab b (suc x) q)
 
--- ---- the inside table
-
-module _ {names m : ℕ} {lines xs : List ℕ} (k : RunSums names m 0 lines xs) {tab : List ℕ} {w a : ℕ} (i : Inside m lines tab w a)
-    (p : 0 < w) (b : a + w ≤ m) where
-  most_same : largest (split_by names m xs tab 0 a w) w ≡ C lines a w
-  unfolding split_by
-  most_same = largest_cong _ _ w (λ j l. omega (
-    arith,
-    pairs_same k 0 a w (a + j) b (omega arith) (omega arith),
-    i.narrower a j l (omega arith),
-    i.narrower (a + j + 1) (w - (j + 1)) (omega arith) (omega arith),
-    ap choose2 (nothing (a + j)),
-  ))
-      ∙ sym (C-split lines a w)
-    where
-      nothing : (c : ℕ) → inside lines a w c + 0 ≡ inside lines a w c
-      nothing c = omega arith
-
-  pub most_few : largest (split_by names m xs tab 0 a w) w ≤ most_tips * most_pairs
-  most_few = omega (arith, most_same, C_few lines (omega (arith, k.few)) a w (omega (arith, k.rack)))
-
-  -- one interval more
-  pub inside-more : {v : ℕ} → v ≡ largest (split_by names m xs tab 0 a w) w → Inside m lines (set tab (place m a w) v) w (a + 1)
-  inside-more {v} e = record {
-    room = rw length-set i.room;
-    narrower = λ c x l g. kept m a w p b tab i.room v c x g (λ _ z. omega arith) ∙ i.narrower c x l g;
-    row = λ c l g. ⊎_elim
-        (λ y. let z : a ≡ c = omega arith in rw (← z) (stored m a w p b tab i.room v ∙ e ∙ most_same))
-        (λ y. kept m a w p b tab i.room v c w g (λ z _. omega arith) ∙ i.row c y g)
-        (le_or_lt a c);
-  }
-
--- at first: an interval of no tip has no pairs
-pub inside-first : {m : ℕ} (lines tab : List ℕ) → m * m ≤ length tab → Inside m lines tab 1 0
+-- THE INSIDE TABLE is that of best sharing
+pub inside-all : {m : ℕ} {lines tab : List ℕ} → tab ≡ table m lines → InsideAll m lines tab
 unfolding entry
-inside-first {m} lines tab e = record { room = e; narrower = go; row = λ c l g. absurd (omega arith) }
+inside-all {m} {lines} {tab} e = record { room = omega (arith, ap length e, length-table m lines); entries = go }
   where
-    go : (c x : ℕ) → x < 1 → c + x ≤ m → entry m tab c x ≡ C lines c x
-    go c zero l g = sym (C_zero lines c)
-    go c (suc x) l g = absurd (omega arith)
+    go : (a w : ℕ) → a + w ≤ m → entry m tab a w ≡ C lines a w
+    go a zero b = sym (C_zero lines a)
+    go a (suc w) b =
+        let n : a + w + 1 - a ≡ suc w = omega arith in
+        rw e (rw n at (table_at m lines a (a + w) (omega arith) (omega arith)))

@@ -18,58 +18,58 @@ use Rattle.model.specs.Count.{list_of}
 use Rattle.model.specs.Plan.{has, choose2, Domain}
 use Rattle.model.specs.CommonTip.{set_of}
 use Rattle.model.specs.Interval.{low, high, inside, C}
-use Rattle.model.proofs.Tests.{le_or_lt, true_T, false_not, and_in, same_test}
+use Rattle.model.proofs.Tests.{le_or_lt, true_T, false_not, and_in}
 use Rattle.model.proofs.Lists.{all-at}
 use Rattle.model.proofs.Run.{low_le, le_high, high-below}
 use Rattle.model.proofs.ListOf.{list_of-at}
-use Rattle.model.proofs.Sets.{set_of_lt, set_of-none, set_of_cong, set_same}
+use Rattle.model.proofs.Sets.{set_of_lt, set_of-none, set_of_cong}
 use Rattle.placements.specs.Repeated.{repeated}
 use Rattle.goals.specs.Goal.{others, goal_tips, strike}
 use Rattle.refusal.specs.Refusal.{refuse}
 use Rattle.goals.specs.Tables.{Out, always, Ends}
 use Rattle.goals.proofs.Strike.{fewer, tips-by_tables}
-use Rattle.checking.specs.Checking.{NamedRuns}
-use Rattle.checking.proofs.Bounds.{named_runs}
+use Rattle.ranks.specs.Runs.{FullRuns}
+use Rattle.ranks.proofs.Runs.{full-named, full-lines}
 use Rattle.striking.specs.Striking.{goal_refusal, struck_by, RunSums, limit_by, open_by, ends_by, InsideAll, OutsideAll, Known}
 use Rattle.striking.proofs.Read.{inside_meeting}
 use Rattle.striking.proofs.Outer.{Out_few}
 
 -- THE KEPT SET of line i: the tips at which some chain ends with the goal's pairs, by the two tables of all lines
-module _ {names m : ℕ} {qs sets : List ℕ} (r : NamedRuns names m qs sets) (i : ℕ) (l : i < length sets) {all xs inner upper : List ℕ}
-    (ks : RunSums names m 0 (repeated qs sets) all) (k : RunSums names m (get_or qs i 0) (others qs sets i) xs)
+module _ {m : ℕ} {qs sets : List ℕ} (r : FullRuns m qs sets) (i : ℕ) (l : i < length sets) {all xs inner upper : List ℕ}
+    (ks : RunSums m 0 (repeated qs sets) all) (k : RunSums m (get_or qs i 0) (others qs sets i) xs)
     (x : InsideAll m (repeated qs sets) inner) (o : OutsideAll m (repeated qs sets) upper) where
   -- what is known of the tables
-  pub known : Known names m (get_or qs i 0) (repeated qs sets) (others qs sets i) xs inner upper
-  known = record { others = k; inside = x; outside = o; fewer = fewer r.good r.named.runs i l; few = Out_few ks }
+  pub known : Known m (get_or qs i 0) (repeated qs sets) (others qs sets i) xs inner upper
+  known = record { others = k; inside = x; outside = o; fewer = fewer r.good (full-named r) i l; few = Out_few ks }
 
-  -- where enough pairs can be had an interval is followed
-  opens : (K t a w : ℕ) → T (has (get_or sets i 0) t) → a ≤ t → t < a + w → a + w ≤ m
-      → K ≤ Out always m (C (repeated qs sets)) (repeated qs sets) a w
+  -- where enough pairs can be had for a tip of the set asked an interval is followed
+  opens : (asked : ℕ) → Domain m asked → (K t : ℕ) → T (has asked t) → (a w : ℕ) → T (has (get_or sets i 0) t) → a ≤ t → t < a + w
+      → a + w ≤ m → K ≤ Out always m (C (repeated qs sets)) (repeated qs sets) a w
       + (C (repeated qs sets) a w + (get_or qs i 0 * inside (others qs sets i) a w t + choose2 (get_or qs i 0)))
-      → T (open_by m xs inner upper (get_or qs i 0) (get_or sets i 0) K a w)
+      → T (open_by m xs inner upper (get_or qs i 0) asked K a w)
   unfolding open_by limit_by
-  opens K t a w h p e b n =
-      let s = get_or sets i 0 in
-      let line = all-at 0 (named_runs r) i l in
-      let enough = leb K (limit_by m xs inner upper (get_or qs i 0) s a w) in
-      let top = le_high r.good.most line.domain t h in
-      and_in (leb a (high s)) (ltb (low s) (a + w) && enough)
-      (le→leb a (high s) (omega (arith, top)))
-      (and_in (ltb (low s) (a + w)) enough (lt→ltb (low s) (a + w) (omega (arith, low_le s t h))) (le→leb K _ (omega (
+  opens asked d K t u a w h p e b n =
+      let line = all-at 0 (full-lines r) i l in
+      let enough = leb K (limit_by m xs inner upper (get_or qs i 0) asked a w) in
+      let top = le_high r.good.most d t u in
+      and_in (leb a (high asked)) (ltb (low asked) (a + w) && enough)
+      (le→leb a (high asked) (omega (arith, top)))
+      (and_in (ltb (low asked) (a + w)) enough (lt→ltb (low asked) (a + w) (omega (arith, low_le asked t u))) (le→leb K _ (omega (
         arith,
         o.wider a w (omega arith) b,
-        x.narrower a w (omega arith) b,
-        mul-le-mul_left (get_or qs i 0) (inside_meeting k (low s) (high s) a w t b p e (low_le s t h) top
-            (high-below r.good.most line.domain) (line.fits t h)),
+        x.entries a w b,
+        mul-le-mul_left (get_or qs i 0) (inside_meeting k (low asked) (high asked) a w t b p e (low_le asked t u) top
+            (high-below r.good.most d)),
       ))))
 
-  pub kept-goal : (K kept : ℕ)
-      → ((t : ℕ) → T (has kept t) ↔ (T (has (get_or sets i 0) t)
-      × Ends (open_by m xs inner upper (get_or qs i 0) (get_or sets i 0) K) m (C (repeated qs sets)) (others qs sets i) (get_or qs i 0) K t))
-      → kept ≡ goal_tips m qs sets K i
-  kept-goal K kept f = set_same kept (goal_tips m qs sets K i) (λ t.
-      let g = tips-by_tables r.good r.named.runs i l K (open_by m xs inner upper (get_or qs i 0) (get_or sets i 0) K) (opens K) t in
-      same_test (has kept t) (has (goal_tips m qs sets K i) t) (λ h. g.1 ((f t).0 h)) (λ h. (f t).1 (g.0 h)))
+  -- of the tips asked for
+  pub kept_iff : (asked : ℕ) → Domain m asked → (K kept : ℕ)
+      → ((t : ℕ) → T (has kept t) ↔ (T (has asked t)
+      × Ends (open_by m xs inner upper (get_or qs i 0) asked K) m (C (repeated qs sets)) (others qs sets i) (get_or qs i 0) K t))
+      → (t : ℕ) → T (has asked t) → T (has (get_or sets i 0) t) → T (has kept t) ↔ T (has (goal_tips m qs sets K i) t)
+  kept_iff asked d K kept f t u h =
+      let g = tips-by_tables r.good (full-named r) i l K (open_by m xs inner upper (get_or qs i 0) asked K) t (opens asked d K t u) in
+      (λ y. g.1 (h, ((f t).0 y).1), λ y. (f t).1 (u, (g.0 y).1))
 
 -- the kept set of a line before i
 pub struck-before : (f : ℕ → ℕ) (xs : List ℕ) (i j : ℕ) → j < i → take i xs ≡ list_of f i → get_or xs j 0 ≡ f j
@@ -84,6 +84,13 @@ module _ (m : ℕ) (qs sets : List ℕ) (K : ℕ) (old : List ℕ) where
   pub goal-met : K ≤ C (repeated qs sets) 0 m → (refuse 0 ≡ goal_refusal m qs sets K) × (strike m qs sets K ≡ struck_by m qs sets K old)
   unfolding struck_by goal_refusal
   goal-met h = rw (le-ltb (C (repeated qs sets) 0 m) K h) (refl, refl)
+
+  -- as the number says
+  pub met-by : (goal_refusal m qs sets K).number ≡ 0 → K ≤ C (repeated qs sets) 0 m
+  met-by z = ⊎_elim (λ h. h) (λ h. absurd (omega (arith, z, ap (λ r. r.number) (goal_missed h).0))) (le_or_lt K (C (repeated qs sets) 0 m))
+
+  pub missed-by : ((goal_refusal m qs sets K).number ≡ 0 → ⊥) → C (repeated qs sets) 0 m < K
+  missed-by n = ⊎_elim (λ h. absurd (n (sym (ap (λ r. r.number) (goal-met h).0)))) (λ h. h) (le_or_lt K (C (repeated qs sets) 0 m))
 
 -- ---- the set of the tips that stay, bit by bit
 
@@ -112,7 +119,7 @@ bit_kept f t e = bit_joined f t ∙ sym (bits_more f t ∙ rw e)
 pub bit_left : (f : ℕ → Bool) (t : ℕ) → f t ≡ false → set_of f t ≡ set_of f (t + 1)
 bit_left f t e = sym (bits_more f t ∙ rw e (omega arith))
 
-and_none : (b : Bool) → (b && false) ≡ false
+pub and_none : (b : Bool) → (b && false) ≡ false
 and_none true = refl
 and_none false = refl
 
@@ -124,9 +131,9 @@ bits_past f x (suc n) h =
     rw (e, bits_more f (x + n), h (x + n) (omega arith) (omega arith)) (omega (arith, bits_past f x n (λ u p l. h u p (omega arith))))
 
 -- no tip before the interval or the lowest of the set, and none after its highest
-module _ (names m : ℕ) (xs inner : List ℕ) (q s K outside a w : ℕ) where
+module _ (m : ℕ) (xs inner : List ℕ) (q s K outside a w : ℕ) where
   abbrev ends : ℕ → Bool
-  ends = ends_by names m xs inner q s K outside a w
+  ends = ends_by m xs inner q s K outside a w
 
   none_before : (t : ℕ) → t < max a (low s) → ends t ≡ false
   unfolding ends_by

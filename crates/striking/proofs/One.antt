@@ -15,9 +15,10 @@ use Rattle.model.proofs.Run.{low_le, low-tip, le_high}
 use Rattle.placements.specs.Repeated.{repeated}
 use Rattle.goals.specs.Goal.{goal_tips, strike, Struck}
 use Rattle.goals.proofs.Strike.{strike_runs}
-use Rattle.checking.specs.Checking.{NamedRuns}
+use Rattle.ranks.specs.Runs.{FullRuns}
+use Rattle.ranks.proofs.Runs.{full-named}
 
-module _ {names m : ℕ} {qs sets : List ℕ} (r : NamedRuns names m qs sets) (i : ℕ) (l : i < length sets)
+module _ {m : ℕ} {qs sets : List ℕ} (r : FullRuns m qs sets) (i : ℕ) (l : i < length sets)
     (K : ℕ) (k : K ≤ C (repeated qs sets) 0 m) (one : low (get_or sets i 0) ≡ high (get_or sets i 0)) where
   abbrev s : ℕ
   s = get_or sets i 0
@@ -26,7 +27,7 @@ module _ {names m : ℕ} {qs sets : List ℕ} (r : NamedRuns names m qs sets) (i
   g = goal_tips m qs sets K i
 
   exact : Struck m qs sets K (strike m qs sets K)
-  exact = strike_runs r.good r.named.runs K k
+  exact = strike_runs r.good (full-named r) K k
 
   at : get_or (strike m qs sets K) i 0 ≡ g
   unfolding strike

@@ -10,28 +10,31 @@ use Rattle.model.specs.Interval.{low, high}
 use Rattle.model.proofs.ListOf.{list_of-at, list_of_cong}
 use Rattle.model.proofs.Mix.{count_mix, length_mix}
 use Rattle.placements.specs.Repeated.{repeated}
-use Rattle.placements.specs.Good.{GoodLines}
 use Rattle.placements.proofs.Good.{good_placements}
 use Rattle.placements.proofs.Repeated.{all-repeated}
 use Rattle.spans.specs.Spans.{sums_width, sums_size, below, sums}
 use Rattle.spans.proofs.Below.{length-sums, sums_at}
 use Rattle.goals.specs.Goal.{without, others}
 use Rattle.goals.proofs.Append.{count-replicate, mix_repeated, all_without}
-use Rattle.checking.specs.Checking.{Named, NamedRuns}
-use Rattle.checking.proofs.Bounds.{named_runs}
+use Rattle.table.specs.Cells.{RunSums as FullSums}
+use Rattle.ranks.specs.Runs.{FullRuns}
+use Rattle.ranks.proofs.Runs.{full-lines}
 use Rattle.striking.specs.Striking.{own_at, sums_without, Removable, RunSums}
 
 -- the sums of all lines
-pub all-sums : {names m : ℕ} {qs sets xs : List ℕ} → GoodLines m qs sets → Named names sets → xs ≡ sums m (repeated qs sets)
-    → RunSums names m 0 (repeated qs sets) xs
-all-sums {qs = qs} g n e = record {
-  rack = g.most;
-  few = omega (arith, (good_placements g).few);
-  runs = all-repeated qs (named_runs (record { good = g; named = n }));
+pub all-sums : {m : ℕ} {qs sets xs : List ℕ} → FullRuns m qs sets → xs ≡ sums m (repeated qs sets) → RunSums m 0 (repeated qs sets) xs
+all-sums {qs = qs} f e = record {
+  rack = f.good.most;
+  few = omega (arith, (good_placements f.good).few);
+  runs = all-repeated qs (full-lines f);
   summed = e;
 }
 
-module _ {names m : ℕ} {qs sets : List ℕ} (r : NamedRuns names m qs sets) (i : ℕ) (l : i < length sets) where
+-- as the table of best sharing takes them
+pub placed-sums : {m : ℕ} {qs sets xs : List ℕ} → FullRuns m qs sets → xs ≡ sums m (repeated qs sets) → FullSums m (repeated qs sets) xs
+placed-sums {qs = qs} f e = record { runs = record { good = good_placements f.good; runs = all-repeated qs f.runs }; summed = e }
+
+module _ {m : ℕ} {qs sets : List ℕ} (r : FullRuns m qs sets) (i : ℕ) (l : i < length sets) where
   -- what line i adds at a place, and what the others have there
   at_place : (x y : ℕ)
       → below (repeated qs sets) x y ≡ own_at (low (get_or sets i 0)) (high (get_or sets i 0)) (get_or qs i 0) x y + below (others qs sets i) x y
@@ -56,9 +59,9 @@ module _ {names m : ℕ} {qs sets : List ℕ} (r : NamedRuns names m qs sets) (i
   unfolding sums_without sums
   without-line = list_of_cong _ _ (sums_size m) (λ k h. omega (arith, sum-at k h, at_place (k / sums_width m) (k % sums_width m)))
 
-  -- with the line's own quantity they are few, and they are runs of the named tips
+  -- with the line's own quantity they are few, and they are unbroken runs
   pub rest-sums : {ss xs : List ℕ} → ss ≡ sums m (repeated qs sets) → xs ≡ sums_without m ss (get_or sets i 0) (get_or qs i 0)
-      → RunSums names m (get_or qs i 0) (others qs sets i) xs
+      → RunSums m (get_or qs i 0) (others qs sets i) xs
   rest-sums e f =
       let q = get_or qs i 0 in
       let s = get_or sets i 0 in record {
@@ -69,6 +72,6 @@ module _ {names m : ℕ} {qs sets : List ℕ} (r : NamedRuns names m qs sets) (i
           length_mix (mix_repeated qs sets i r.good.same l),
           length-replicate {A = ℕ} q s,
         );
-        runs = all-repeated (without i qs) (all_without i (named_runs r));
+        runs = all-repeated (without i qs) (all_without i (full-lines r));
         summed = f ∙ ap (λ ys. sums_without m ys s q) e ∙ without-line;
       }

@@ -22,7 +22,7 @@ use Rattle.striking.proofs.Read.{pairs_same}
 use Rattle.striking.proofs.Inner.{place, stored, kept}
 
 -- an interval and the chain of splits outside it have at most the pairs of the rack
-module _ {names m q : ℕ} {lines xs : List ℕ} (k : RunSums names m q lines xs) where
+module _ {m q : ℕ} {lines xs : List ℕ} (k : RunSums m q lines xs) where
   abbrev D : ℕ → ℕ → ℕ
   D = C lines
 
@@ -72,32 +72,32 @@ module _ {names m q : ℕ} {lines xs : List ℕ} (k : RunSums names m q lines xs
   pub Out_few : (a w : ℕ) → a + w ≤ m → O a w ≤ most_tips * most_pairs
   Out_few a w b = omega (arith, chain (m - w) a w (omega arith) b, C_few lines (omega (arith, k.few)) 0 m k.rack)
 
-module _ {names m q : ℕ} {lines rest xs : List ℕ} (k : RunSums names m q rest xs) {inner : List ℕ} (i : InsideAll m lines inner)
+module _ {m q : ℕ} {lines rest xs : List ℕ} (k : RunSums m q rest xs) {inner : List ℕ} (i : InsideAll m lines inner)
     {is_open : ℕ → ℕ → Bool} {outer : List ℕ} {w a : ℕ} (o : Outside m is_open (C lines) rest outer w a) (p : 0 < w) (b : a + w ≤ m) where
-  on_tip : (e v c : ℕ) → e + v ≤ m → e ≤ c → c < e + v → pairs_by names m xs 0 e v c ≡ choose2 (inside rest e v c)
+  on_tip : (e v c : ℕ) → e + v ≤ m → e ≤ c → c < e + v → pairs_by m xs 0 e v c ≡ choose2 (inside rest e v c)
   on_tip e v c x y z =
       let n : inside rest e v c + 0 ≡ inside rest e v c = omega arith in
       pairs_same k 0 e v c x y z ∙ ap choose2 n
 
   -- what is found by the sums and the two tables
-  pub around_same : around_by names m xs inner outer a w ≡ around m (Out is_open m (C lines) rest) (C lines) rest a w
+  pub around_same : around_by m xs inner outer a w ≡ around m (Out is_open m (C lines) rest) (C lines) rest a w
   unfolding outside_by
   around_same = ap₂ max
       (largest_cong _ _ (m - (a + w)) (λ j l. omega (
         arith,
         o.wider a (w + 1 + j) (omega arith) (omega arith),
         on_tip a (w + 1 + j) (a + w) (omega arith) (omega arith) (omega arith),
-        i.narrower (a + w + 1) j (omega arith) (omega arith),
+        i.entries (a + w + 1) j (omega arith),
       )))
       (largest_cong _ _ a (λ j l. omega (
         arith,
         o.wider j (a - j + w) (omega arith) (omega arith),
         on_tip j (a - j + w) (a - 1) (omega arith) (omega arith) (omega arith),
-        i.narrower j (a - (j + 1)) (omega arith) (omega arith),
+        i.entries j (a - (j + 1)) (omega arith),
       )))
 
   -- one interval more
-  pub outside_more : {v : ℕ} → v ≡ cond (is_open a w) (around_by names m xs inner outer a w) 0
+  pub outside_more : {v : ℕ} → v ≡ cond (is_open a w) (around_by m xs inner outer a w) 0
       → Outside m is_open (C lines) rest (set outer (place m a w) v) w (a + 1)
   outside_more {v} e = record {
     room = rw length-set o.room;
@@ -108,13 +108,13 @@ module _ {names m q : ℕ} {lines rest xs : List ℕ} (k : RunSums names m q res
         (le_or_lt a c);
   }
     where
-      value : cond (is_open a w) (around_by names m xs inner outer a w) 0 ≡ Out is_open m (C lines) rest a w
+      value : cond (is_open a w) (around_by m xs inner outer a w) 0 ≡ Out is_open m (C lines) rest a w
       value = ap (λ x. cond (is_open a w) x 0) around_same ∙ sym (Out_is is_open m (C lines) rest a w b)
 
 -- of all lines, and every interval: the numbers are small
-pub out_few : {names m : ℕ} {lines xs : List ℕ} (k : RunSums names m 0 lines xs) {inner : List ℕ} (i : InsideAll m lines inner)
+pub out_few : {m : ℕ} {lines xs : List ℕ} (k : RunSums m 0 lines xs) {inner : List ℕ} (i : InsideAll m lines inner)
     {outer : List ℕ} {w a : ℕ} (o : Outside m always (C lines) lines outer w a) → 0 < w → a + w ≤ m
-    → around_by names m xs inner outer a w ≤ most_tips * most_pairs
+    → around_by m xs inner outer a w ≤ most_tips * most_pairs
 out_few {m = m} {lines} k i {w = w} {a} o p b =
     omega (arith, around_same k i o p b, Out_open always m (C lines) lines a w b tt, Out_few k a w b)
 

@@ -1,18 +1,15 @@
 -- What is read from the sums of the other lines: the pairs on a tip, with placements more.
-use Prim.Native.Nat.{ℕ, ◌+◌, ◌*◌, ◌≤◌, ◌<◌, zero-le}
+use Prim.Native.Nat.{ℕ, ◌+◌, ◌≤◌, ◌<◌, zero-le}
 use native.Mathlib.Omega.{arith}
 use mathlib.Core.Path.{◌≡◌, ap}
-use mathlib.Core.Logic.{⊎_elim}
-use mathlib.Core.Bool.{Bool, true, false, cond, ◌&&◌}
+use mathlib.Core.Bool.{Bool, true, false, cond}
 use mathlib.Core.List.{List, [], ◌∷◌}
-use lib.Arith.{digits_lt}
-use lib.Dec.{T, T_not}
-use lib.ListN.{length}
+use lib.Dec.{T}
 use Rattle.model.specs.Count.{count}
-use Rattle.model.specs.Plan.{has, choose2, Domain}
-use Rattle.model.specs.Interval.{low, high, lies, inside}
-use Rattle.model.proofs.Tests.{test, true_T, false_T, and_right}
-use Rattle.model.proofs.Lists.{all_map, count_none, count_mono}
+use Rattle.model.specs.Plan.{choose2, Domain}
+use Rattle.model.specs.Interval.{low, high, inside}
+use Rattle.model.proofs.Tests.{true_T}
+use Rattle.model.proofs.Lists.{count_mono}
 use Rattle.model.proofs.Run.{low-high, high-below}
 use Rattle.spans.specs.Spans.{inside_by, below, sums}
 use Rattle.spans.proofs.Below.{under, under-out, under_in, below_le, below_mono, length-sums, sums_at, summed}
@@ -63,7 +60,7 @@ meeting_ge m lines l h a w c e f g p q r = omega (
   before_le lines a l (c + 1) c (omega arith) (omega arith) p,
 )
 
-module _ {names m q : ℕ} {lines xs : List ℕ} (k : RunSums names m q lines xs) where
+module _ {m q : ℕ} {lines xs : List ℕ} (k : RunSums m q lines xs) where
   pub ready : Ready m q xs
   ready = rw k.summed (record {
     rack = k.rack;
@@ -71,62 +68,40 @@ module _ {names m q : ℕ} {lines xs : List ℕ} (k : RunSums names m q lines xs
     few = λ a w c e f g. omega (arith, k.few, inside_le m lines a w c e f g);
   })
 
-  pub counted : {s : ℕ} → Domain m s → Counted m q s xs
+  -- what meets the tips l to h can be read
+  pub meets : (l h a w : ℕ) → a + w ≤ m → l ≤ h → h < m → a ≤ h + 1 → l ≤ a + w → Meeting m xs l h a w
   unfolding meeting_by
-  counted {s} d = rw k.summed (record {
-    own = omega (arith, k.few);
-    meeting = λ a w e p r.
-        let l = low s in
-        let h = high s in
-        let run : l ≤ h = low-high k.rack d in
-        let top : h < m = high-below k.rack d in
-        let last = sums_at m lines (h + 1) (a + w) (omega arith) (omega arith) in
-        let left = sums_at m lines a l (omega arith) (omega arith) in
-        let first = sums_at m lines a (a + w) (omega arith) (omega arith) in
-        let next = sums_at m lines l l (omega arith) (omega arith) in
-        let covers = before_le lines a l (h + 1) (a + w) (omega arith) (omega arith) (omega arith) in record {
-          size = length-sums m lines;
-          ends = e;
-          from = run;
-          to = top;
-          small = omega (arith, k.few, last, left, below_le lines (h + 1) (a + w), below_le lines a l);
-          covers = omega (arith, last, left, first, next, covers);
-          few = omega (arith, k.few, last, left, first, next, below_le lines (h + 1) (a + w), below_mono lines a l (a + w) (omega arith));
-        };
-  })
+  meets l h a w e run top p r = rw k.summed (
+      let last = sums_at m lines (h + 1) (a + w) (omega arith) (omega arith) in
+      let left = sums_at m lines a l (omega arith) (omega arith) in
+      let first = sums_at m lines a (a + w) (omega arith) (omega arith) in
+      let next = sums_at m lines l l (omega arith) (omega arith) in
+      let covers = before_le lines a l (h + 1) (a + w) (omega arith) (omega arith) (omega arith) in record {
+        size = length-sums m lines;
+        ends = e;
+        from = run;
+        to = top;
+        small = omega (arith, k.few, last, left, below_le lines (h + 1) (a + w), below_le lines a l);
+        covers = omega (arith, last, left, first, next, covers);
+        few = omega (arith, k.few, last, left, first, next, below_le lines (h + 1) (a + w), below_mono lines a l (a + w) (omega arith));
+      })
 
-  -- a named tip of the interval, from l to h
-  pub inside_meeting : (l h a w c : ℕ) → a + w ≤ m → a ≤ c → c < a + w → l ≤ c → c ≤ h → h < m → T (has names c)
+  pub counted : {s : ℕ} → Domain m s → Counted m q s xs
+  counted {s} d = record {
+    own = omega (arith, k.few);
+    meeting = λ a w e p r. meets (low s) (high s) a w e (low-high k.rack d) (high-below k.rack d) (omega arith) (omega arith);
+  }
+
+  -- a tip of the interval, from l to h
+  pub inside_meeting : (l h a w c : ℕ) → a + w ≤ m → a ≤ c → c < a + w → l ≤ c → c ≤ h → h < m
       → inside lines a w c ≤ meeting_by m xs l h a w
-  inside_meeting l h a w c e f g p r n t = rw k.summed (omega (
+  inside_meeting l h a w c e f g p r n = rw k.summed (omega (
     arith,
-    inside_by_ok lines k.rack k.runs a w c e f g t,
+    inside_by_ok lines k.rack k.runs a w c e f g tt,
     meeting_ge m lines l h a w c e f g p r n,
   ))
 
   -- THE PAIRS BY THE SUMS are those of the lines
-  pub pairs_same : (p a w c : ℕ) → a + w ≤ m → a ≤ c → c < a + w → pairs_by names m xs p a w c ≡ choose2 (inside lines a w c + p)
+  pub pairs_same : (p a w c : ℕ) → a + w ≤ m → a ≤ c → c < a + w → pairs_by m xs p a w c ≡ choose2 (inside lines a w c + p)
   unfolding pairs_by inside
-  pairs_same p a w c e f g = rw k.summed (⊎_elim
-      (λ t. rw (true_T (has names c) t) (ap (λ n. choose2 (n + p)) (inside_by_ok lines k.rack k.runs a w c e f g t)))
-      (λ t. rw (
-        false_T (has names c) t,
-        count_none (λ s. lies a w s && has s c)
-            (all_map (λ s l h. T_not (has names c) t (l.fits c (and_right (lies a w s) (has s c) h))) k.runs),
-      ))
-      (test (has names c)))
-
--- THE FOUR PLACES of the interval are of the sums
-pub record InSums (m : ℕ) (xs : List ℕ) (l h a w : ℕ) : Type 0 where
-  pub last : (h + 1) * (m + 1) + (a + w) < length xs
-  pub left : a * (m + 1) + l < length xs
-  pub first : a * (m + 1) + (a + w) < length xs
-  pub next : l * (m + 1) + l < length xs
-
-pub in_sums : {m : ℕ} {xs : List ℕ} {l h a w : ℕ} → Meeting m xs l h a w → InSums m xs l h a w
-in_sums r = record {
-  last = rw r.size (digits_lt (omega (arith, r)) (omega (arith, r)));
-  left = rw r.size (digits_lt (omega (arith, r)) (omega (arith, r)));
-  first = rw r.size (digits_lt (omega (arith, r)) (omega (arith, r)));
-  next = rw r.size (digits_lt (omega (arith, r)) (omega (arith, r)));
-}
+  pairs_same p a w c e f g = rw k.summed (ap (λ n. choose2 (n + p)) (inside_by_ok lines k.rack k.runs a w c e f g tt))

@@ -4,7 +4,7 @@ use Rattle.model.specs.Limits.{most_tips, most_placements, most_pairs}
 use Rattle.model.specs.Count.{All, largest, list_of}
 use Rattle.model.specs.Plan.{has, choose2}
 use Rattle.model.specs.CommonTip.{set_of}
-use Rattle.model.specs.Interval.{low, high, Line, inside as allowing, C}
+use Rattle.model.specs.Interval.{low, high, Line, any, inside as allowing, C}
 use Rattle.placements.specs.Repeated.{repeated}
 use Rattle.refusal.specs.Told.{Refusal}
 use Rattle.refusal.specs.Refusal.{when, accepts}
@@ -47,36 +47,36 @@ pub record Ready (m q : ℕ) (xs : List ℕ) : Type 0 where
   pub summed : (a w c : ℕ) → a + w ≤ m → a ≤ c → c < a + w → Summed m xs a w c
   pub few : (a w c : ℕ) → a + w ≤ m → a ≤ c → c < a + w → inside_by m xs a w c + q ≤ most_placements
 
--- lines that are runs of the tips of names, with q more few placements, and their sums
-pub record RunSums (names m q : ℕ) (lines xs : List ℕ) : Type 0 where
+-- lines that are unbroken runs, with q more few placements, and their sums
+pub record RunSums (m q : ℕ) (lines xs : List ℕ) : Type 0 where
   pub rack : m ≤ most_tips
   pub few : length lines + q ≤ most_placements
-  pub runs : All (Line (has names) m) lines
+  pub runs : All (Line any m) lines
   pub summed : xs ≡ sums m lines
 
--- the pairs on tip c, with q placements more, of the lines lying within the interval, from the sums; no line has a tip that is not named
-unfoldable pub pairs_by : ℕ → ℕ → List ℕ → ℕ → ℕ → ℕ → ℕ → ℕ
-pairs_by names m xs q a w c = choose2 (cond (has names c) (inside_by m xs a w c) 0 + q)
+-- the pairs on tip c, with q placements more, of the lines lying within the interval, from the sums
+unfoldable pub pairs_by : ℕ → List ℕ → ℕ → ℕ → ℕ → ℕ → ℕ
+pairs_by m xs q a w c = choose2 (inside_by m xs a w c + q)
 
 -- the pairs of the interval if tip a + i takes its lines and q placements more, from the sums and the inside table
-unfoldable pub split_by : ℕ → ℕ → List ℕ → List ℕ → ℕ → ℕ → ℕ → ℕ → ℕ
-split_by names m xs inner q a w i = pairs_by names m xs q a w (a + i) + (entry m inner a i + entry m inner (a + i + 1) (w - (i + 1)))
+unfoldable pub split_by : ℕ → List ℕ → List ℕ → ℕ → ℕ → ℕ → ℕ → ℕ
+split_by m xs inner q a w i = pairs_by m xs q a w (a + i) + (entry m inner a i + entry m inner (a + i + 1) (w - (i + 1)))
 
 -- the pairs outside an interval beside tip c of the interval of first tip e and width v, where that of first tip f and width x is on the other side
-unfoldable pub outside_by : ℕ → ℕ → List ℕ → List ℕ → List ℕ → ℕ → ℕ → ℕ → ℕ → ℕ → ℕ
-outside_by names m xs inner outer e v c f x = entry m outer e v + (pairs_by names m xs 0 e v c + entry m inner f x)
+unfoldable pub outside_by : ℕ → List ℕ → List ℕ → List ℕ → ℕ → ℕ → ℕ → ℕ → ℕ → ℕ
+outside_by m xs inner outer e v c f x = entry m outer e v + (pairs_by m xs 0 e v c + entry m inner f x)
 
 -- the interval lies before the tip, or behind it
-abbrev pub before_by : ℕ → ℕ → List ℕ → List ℕ → List ℕ → ℕ → ℕ → ℕ → ℕ
-before_by names m xs inner outer a w j = outside_by names m xs inner outer a (w + 1 + j) (a + w) (a + w + 1) j
+abbrev pub before_by : ℕ → List ℕ → List ℕ → List ℕ → ℕ → ℕ → ℕ → ℕ
+before_by m xs inner outer a w j = outside_by m xs inner outer a (w + 1 + j) (a + w) (a + w + 1) j
 
-abbrev pub behind_by : ℕ → ℕ → List ℕ → List ℕ → List ℕ → ℕ → ℕ → ℕ → ℕ
-behind_by names m xs inner outer a w j = outside_by names m xs inner outer j (a - j + w) (a - 1) j (a - (j + 1))
+abbrev pub behind_by : ℕ → List ℕ → List ℕ → List ℕ → ℕ → ℕ → ℕ → ℕ
+behind_by m xs inner outer a w j = outside_by m xs inner outer j (a - j + w) (a - 1) j (a - (j + 1))
 
 -- the most pairs outside the interval, by the sums and the two tables
-abbrev pub around_by : ℕ → ℕ → List ℕ → List ℕ → List ℕ → ℕ → ℕ → ℕ
-around_by names m xs inner outer a w =
-    max (largest (before_by names m xs inner outer a w) (m - (a + w))) (largest (behind_by names m xs inner outer a w) a)
+abbrev pub around_by : ℕ → List ℕ → List ℕ → List ℕ → ℕ → ℕ → ℕ
+around_by m xs inner outer a w =
+    max (largest (before_by m xs inner outer a w) (m - (a + w))) (largest (behind_by m xs inner outer a w) a)
 
 -- the placements of the lines lying within the interval that do not end before tip l or begin after tip h, from four places of the sums
 unfoldable pub meeting_by : ℕ → List ℕ → ℕ → ℕ → ℕ → ℕ → ℕ
@@ -107,18 +107,17 @@ unfoldable pub open_by : ℕ → List ℕ → List ℕ → List ℕ → ℕ → 
 open_by m xs inner upper q s K a w = leb a (high s) && (ltb (low s) (a + w) && leb K (limit_by m xs inner upper q s a w))
 
 -- the tip t of the interval is in the set s, and takes its lines and q placements more for K pairs, where there are so many outside
-unfoldable pub ends_by : ℕ → ℕ → List ℕ → List ℕ → ℕ → ℕ → ℕ → ℕ → ℕ → ℕ → ℕ → Bool
-ends_by names m xs inner q s K outside a w t = leb a t && (has s t && leb K (outside + split_by names m xs inner q a w (t - a)))
+unfoldable pub ends_by : ℕ → List ℕ → List ℕ → ℕ → ℕ → ℕ → ℕ → ℕ → ℕ → ℕ → Bool
+ends_by m xs inner q s K outside a w t = leb a t && (has s t && leb K (outside + split_by m xs inner q a w (t - a)))
 
 -- the tips of the set at which a chain ends in the interval
-abbrev pub tips_by : ℕ → ℕ → List ℕ → List ℕ → ℕ → ℕ → ℕ → ℕ → ℕ → ℕ → ℕ
-tips_by names m xs inner q s K outside a w = set_of (ends_by names m xs inner q s K outside a w) (a + w)
+abbrev pub tips_by : ℕ → List ℕ → List ℕ → ℕ → ℕ → ℕ → ℕ → ℕ → ℕ → ℕ
+tips_by m xs inner q s K outside a w = set_of (ends_by m xs inner q s K outside a w) (a + w)
 
--- the inside table in the making: the intervals narrower than w are right, and those of width w with a first tip below a
-pub record Inside (m : ℕ) (lines tab : List ℕ) (w a : ℕ) : Type 0 where
+-- the inside table
+pub record InsideAll (m : ℕ) (lines tab : List ℕ) : Type 0 where
   pub room : m * m ≤ length tab
-  pub narrower : (b v : ℕ) → v < w → b + v ≤ m → entry m tab b v ≡ C lines b v
-  pub row : (b : ℕ) → b < a → b + w ≤ m → entry m tab b w ≡ C lines b w
+  pub entries : (a w : ℕ) → a + w ≤ m → entry m tab a w ≡ C lines a w
 
 -- the outside table in the making: the intervals wider than w are right, and those of width w with a first tip below a
 pub record Outside (m : ℕ) (is_open : ℕ → ℕ → Bool) (D : ℕ → ℕ → ℕ) (lines tab : List ℕ) (w a : ℕ) : Type 0 where
@@ -126,16 +125,13 @@ pub record Outside (m : ℕ) (is_open : ℕ → ℕ → Bool) (D : ℕ → ℕ �
   pub wider : (b v : ℕ) → w < v → b + v ≤ m → entry m tab b v ≡ Out is_open m D lines b v
   pub row : (b : ℕ) → b < a → b + w ≤ m → entry m tab b w ≡ Out is_open m D lines b w
 
--- both whole
-abbrev pub InsideAll : ℕ → List ℕ → List ℕ → Type 0
-InsideAll m lines tab = Inside m lines tab (m + 1) 0
-
+-- and whole
 abbrev pub OutsideAll : ℕ → List ℕ → List ℕ → Type 0
 OutsideAll m lines tab = Outside m always (C lines) lines tab 0 0
 
 -- the sums of some of the lines, and the two tables of all
-pub record Known (names m q : ℕ) (lines rest xs inner upper : List ℕ) : Type 0 where
-  pub others : RunSums names m q rest xs
+pub record Known (m q : ℕ) (lines rest xs inner upper : List ℕ) : Type 0 where
+  pub others : RunSums m q rest xs
   pub inside : InsideAll m lines inner
   pub outside : OutsideAll m lines upper
   pub fewer : (a w c : ℕ) → allowing rest a w c ≤ allowing lines a w c

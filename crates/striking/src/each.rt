@@ -1,15 +1,18 @@
-// The kept set of each line: its only tip, that of an equal line before it, or else by the sums of the others and the two tables of all lines.
-ghost use Rattle.std.specs.Prelude.{◌≡◌, ℕ, ◌*◌, ◌≤◌, ◌<◌, length, take, MatchOption};
+// The kept set of each line: its only tip, that of an equal line before it, or else by the sums and the two tables of all lines. The sums of
+// the other lines settle what these leave open.
+ghost use Rattle.std.specs.Prelude.{◌≡◌, ◌↔◌, ℕ, ◌*◌, ◌≤◌, ◌<◌, T, length, take, get_or, MatchOption};
 ghost use Rattle.model.specs.Count.{list_of};
+ghost use Rattle.model.specs.Plan.{has, Domain};
 ghost use Rattle.model.specs.Interval.{C};
 ghost use Rattle.placements.specs.Repeated.{repeated};
 ghost use Rattle.spans.specs.Spans.{sums_size, sums as sums_of};
-ghost use Rattle.checking.specs.Checking.{NamedRuns};
+ghost use Rattle.ranks.specs.Runs.{FullRuns};
 ghost use Rattle.goals.specs.Goal.{goal_tips, strike};
 ghost use Rattle.striking.specs.Striking.{Same, InsideAll, OutsideAll};
 
 use crate::reach::Reach;
 use crate::rest;
+use crate::start::Start;
 use crate::summed::Lines;
 
 // The first line before line i with its set and its quantity.
@@ -31,6 +34,7 @@ pub struct Each<'a> {
     pub all: Lines<'a>,
     pub inner: &'a [u32],
     pub upper: &'a [u32],
+    ghost no_more: { all.added ≡ 0 },
     ghost summed: { all.sums.now ≡ sums_of all.m (repeated quantities.now lines.now) },
     ghost inside: { InsideAll all.m (repeated quantities.now lines.now) inner.now },
     ghost outside: { OutsideAll all.m (repeated quantities.now lines.now) upper.now },
@@ -38,8 +42,68 @@ pub struct Each<'a> {
 }
 
 impl Each<'_> {
+    // The tips asked of line i that stay, by the sums of the other lines.
+    fn asked_tips(&self, i: usize, asked: u64, rest: &mut [u32], outer: &mut [u32]) -> u64
+        requires full { FullRuns self.now.all.m self.now.quantities.now self.now.lines.now }
+        requires line { i < length self.now.lines.now }
+        requires domain { Domain self.now.all.m asked }
+        requires rest_size { length rest.old ≡ sums_size self.now.all.m }
+        requires outer_size { self.now.all.m * self.now.all.m ≤ length outer.old }
+        ensures asked { (t : ℕ) → T (has result t) → T (has asked t) }
+        ensures exact { (t : ℕ) → T (has asked t) → T (has (get_or self.now.lines.now i 0) t)
+            → T (has result t) ↔ T (has (goal_tips self.now.all.m self.now.quantities.now self.now.lines.now self.now.goal i) t) }
+    {
+        let quantity = self.quantities[i];
+        rest::sums_without(self.all.m, self.all.sums, self.lines[i], quantity, rest);
+        let others = Lines {
+            m: self.all.m,
+            added: u32::from(quantity),
+            sums: rest,
+        };
+        let reach = Reach {
+            lines: others,
+            set: asked,
+            goal: self.goal,
+            inner: self.inner,
+            upper: self.upper,
+        };
+        reach.kept_tips(outer)
+    }
+
+    // The kept set of line i. What the sums and tables of all lines settle is kept, and only the other tips are asked for.
+    fn tips_of(&self, i: usize, rest: &mut [u32], outer: &mut [u32]) -> u64
+        requires full { FullRuns self.now.all.m self.now.quantities.now self.now.lines.now }
+        requires line { i < length self.now.lines.now }
+        requires rest_size { length rest.old ≡ sums_size self.now.all.m }
+        requires outer_size { self.now.all.m * self.now.all.m ≤ length outer.old }
+        ensures { result ≡ goal_tips self.now.all.m self.now.quantities.now self.now.lines.now self.now.goal i }
+    {
+        let line = Reach {
+            lines: self.all,
+            set: self.lines[i],
+            goal: self.goal,
+            inner: self.inner,
+            upper: self.upper,
+        };
+        let known = line.first_on();
+        let asked = line.set ^ known;
+        if asked == 0 {
+            return known;
+        }
+        let start = Start {
+            line,
+            quantity: u32::from(self.quantities[i]),
+            low: tips::lowest(asked),
+            high: tips::highest(asked),
+        };
+        if !start.has_start() {
+            return known;
+        }
+        known | self.asked_tips(i, asked, rest, outer)
+    }
+
     fn struck_at(&self, i: usize, struck: &[u64], rest: &mut [u32], outer: &mut [u32]) -> u64
-        requires named { NamedRuns self.now.all.names self.now.all.m self.now.quantities.now self.now.lines.now }
+        requires full { FullRuns self.now.all.m self.now.quantities.now self.now.lines.now }
         requires line { i < length self.now.lines.now }
         requires struck { take i struck.now ≡ list_of (goal_tips self.now.all.m self.now.quantities.now self.now.lines.now self.now.goal) i }
         requires before { i ≤ length struck.now }
@@ -54,26 +118,11 @@ impl Each<'_> {
         if let Some(j) = first_same(self.lines, self.quantities, i) {
             return struck[j];
         }
-        let quantity = self.quantities[i];
-        rest::sums_without(self.all.m, self.all.sums, line, quantity, rest);
-        let others = Lines {
-            names: self.all.names,
-            m: self.all.m,
-            added: u32::from(quantity),
-            sums: rest,
-        };
-        let reach = Reach {
-            others,
-            set: line,
-            goal: self.goal,
-            inner: self.inner,
-            upper: self.upper,
-        };
-        reach.kept_tips(outer)
+        self.tips_of(i, rest, outer)
     }
 
     pub fn strike(&self, rest: &mut [u32], outer: &mut [u32], struck: &mut [u64])
-        requires named { NamedRuns self.now.all.names self.now.all.m self.now.quantities.now self.now.lines.now }
+        requires full { FullRuns self.now.all.m self.now.quantities.now self.now.lines.now }
         requires rest_size { length rest.old ≡ sums_size self.now.all.m }
         requires outer_size { self.now.all.m * self.now.all.m ≤ length outer.old }
         requires as_lines { length struck.old ≡ length self.now.lines.now }

@@ -21,7 +21,7 @@ impl Lines<'_> {
         requires from { of.first ≤ c }
         requires to { c < of.first + of.width }
         requires other_inside { other.first + other.width ≤ self.now.m }
-        ensures { result ≡ outside_by self.now.names self.now.m self.now.sums.now inner.now outer.now of.first of.width c other.first other.width }
+        ensures { result ≡ outside_by self.now.m self.now.sums.now inner.now outer.now of.first of.width c other.first other.width }
     {
         let beside = checking::entry_at(self.m, of.first, of.width, outer);
         let across = checking::entry_at(self.m, other.first, other.width, inner);
@@ -34,9 +34,9 @@ impl Lines<'_> {
         requires outer_size { self.now.m * self.now.m ≤ length outer.now }
         requires inside { of.first + of.width ≤ self.now.m }
         ensures { result ≡ max
-            (largest (before_by self.now.names self.now.m self.now.sums.now inner.now outer.now of.first of.width)
+            (largest (before_by self.now.m self.now.sums.now inner.now outer.now of.first of.width)
             (self.now.m - (of.first + of.width)))
-            (largest (behind_by self.now.names self.now.m self.now.sums.now inner.now outer.now of.first of.width) of.first) }
+            (largest (behind_by self.now.m self.now.sums.now inner.now outer.now of.first of.width) of.first) }
     {
         let (a, w) = (of.first, of.width);
         let end = a + w;
@@ -68,9 +68,9 @@ impl Lines<'_> {
 
     // The widest intervals first.
     pub fn fill_outside(&self, inner: &[u32], outer: &mut [u32])
-        requires known { (lines : List ℕ) × RunSums self.now.names self.now.m 0 lines self.now.sums.now × InsideAll self.now.m lines inner.now }
+        requires known { (lines : List ℕ) × RunSums self.now.m 0 lines self.now.sums.now × InsideAll self.now.m lines inner.now }
         requires size { self.now.m * self.now.m ≤ length outer.old }
-        ensures { (lines : List ℕ) → RunSums self.now.names self.now.m 0 lines self.now.sums.now → InsideAll self.now.m lines inner.now
+        ensures { (lines : List ℕ) → RunSums self.now.m 0 lines self.now.sums.now → InsideAll self.now.m lines inner.now
             → OutsideAll self.now.m lines outer.new }
     {
         let m = self.m;

@@ -1,7 +1,6 @@
-// The tips of a line with which some plan has the goal's pairs, from the inside table of all lines and the sums of the other lines.
+// The tips of a set with which some plan has the goal's pairs, from the sums of lines and the two tables of all lines.
 ghost use Rattle.std.specs.Prelude.{◌≡◌, ◌↔◌, List, ℕ, ◌+◌, ◌*◌, ◌-◌, ◌^◌, ◌≤◌, ◌<◌, T, length, IfSome, set as put};
 ghost use Rattle.std.specs.Option.{unwrap_or};
-ghost use Rattle.model.specs.Limits.{most_placements};
 ghost use Rattle.model.specs.Plan.{has, Domain};
 ghost use Rattle.model.specs.Interval.{low, high, C};
 ghost use Rattle.goals.specs.Tables.{Ends};
@@ -9,61 +8,44 @@ ghost use Rattle.striking.specs.Striking.{Counted, meeting_by, limit_by, open_by
 
 use crate::summed::{Interval, Lines};
 
-// A line and the goal, with the other lines and the two tables of all lines. The other lines' sums are written anew for each line.
+// Some tips of a line and the goal, with the two tables of all lines. `lines` are all lines, or those without this one.
 #[derive(Clone, Copy)]
 pub struct Reach<'a, 'b> {
-    pub others: Lines<'b>,
+    pub lines: Lines<'b>,
     pub set: u64,
     pub goal: u32,
     pub inner: &'a [u32],
     pub upper: &'a [u32],
-    ghost domain: { Domain others.m set },
-    ghost counted: { Counted others.m others.added set others.sums.now },
-    ghost inner_size: { others.m * others.m ≤ length inner.now },
-    ghost upper_size: { others.m * others.m ≤ length upper.now },
+    ghost domain: { Domain lines.m set },
+    ghost counted: { Counted lines.m lines.added set lines.sums.now },
+    ghost inner_size: { lines.m * lines.m ≤ length inner.now },
+    ghost upper_size: { lines.m * lines.m ≤ length upper.now },
 }
 
 impl Reach<'_, '_> {
-    // The placements of the other lines lying within the interval that do not end before the set or begin after it.
-    fn meeting_at(&self, of: Interval) -> u32
-        requires inside { of.first + of.width ≤ self.now.others.m }
-        requires from { of.first ≤ high self.now.set }
-        requires to { low self.now.set < of.first + of.width }
-        ensures meeting { result ≡ meeting_by self.now.others.m self.now.others.sums.now (low self.now.set) (high self.now.set) of.first of.width }
-        ensures few { result ≤ most_placements }
-    {
-        let l = tips::lowest(self.set);
-        let h = tips::highest(self.set);
-        let width = self.others.m + 1;
-        let end = of.first + of.width;
-        let last = (h + 1) * width;
-        let first = of.first * width;
-        let next = l * width;
-        let sums = self.others.sums;
-        sums[last + end] + sums[first + l] - sums[first + end] - sums[next + l]
-    }
-
     // No chain through the interval to a tip of the set with the line's placements has more pairs.
     fn limit_at(&self, of: Interval) -> u64
-        requires inside { of.first + of.width ≤ self.now.others.m }
+        requires inside { of.first + of.width ≤ self.now.lines.m }
         requires from { of.first ≤ high self.now.set }
         requires to { low self.now.set < of.first + of.width }
-        ensures { result ≡ limit_by self.now.others.m self.now.others.sums.now self.now.inner.now self.now.upper.now
-            self.now.others.added self.now.set of.first of.width }
+        ensures { result ≡ limit_by self.now.lines.m self.now.lines.sums.now self.now.inner.now self.now.upper.now
+            self.now.lines.added self.now.set of.first of.width }
     {
-        let outside = checking::entry_at(self.others.m, of.first, of.width, self.upper);
-        let inside = checking::entry_at(self.others.m, of.first, of.width, self.inner);
-        let own = u64::from(pair_count::pairs_among(self.others.added));
-        let more = u64::from(self.others.added) * u64::from(self.meeting_at(of));
+        let outside = checking::entry_at(self.lines.m, of.first, of.width, self.upper);
+        let inside = checking::entry_at(self.lines.m, of.first, of.width, self.inner);
+        let own = u64::from(pair_count::pairs_among(self.lines.added));
+        let l = tips::lowest(self.set);
+        let h = tips::highest(self.set);
+        let more = u64::from(self.lines.added) * u64::from(self.lines.meeting_at(l, h, of));
         outside + (inside + (more + own))
     }
 
     // The interval may have a tip of the set, and the goal can be had through it.
     #[tactic(auto, using(std::proofs::lemmas::Bool::Decides::nat_tests), unfolding(crate::specs::Striking::open_by))]
     fn is_open(&self, of: Interval) -> bool
-        requires { of.first + of.width ≤ self.now.others.m }
-        ensures { result ≡ open_by self.now.others.m self.now.others.sums.now self.now.inner.now self.now.upper.now
-            self.now.others.added self.now.set self.now.goal of.first of.width }
+        requires { of.first + of.width ≤ self.now.lines.m }
+        ensures { result ≡ open_by self.now.lines.m self.now.lines.sums.now self.now.inner.now self.now.upper.now
+            self.now.lines.added self.now.set self.now.goal of.first of.width }
     {
         if tips::highest(self.set) < of.first || of.first + of.width <= tips::lowest(self.set) {
             return false;
@@ -73,28 +55,28 @@ impl Reach<'_, '_> {
 
     // A chain ends at tip t in the interval with the goal's pairs, where `outside` pairs are outside it.
     fn ends_at(&self, outside: u64, of: Interval, t: usize) -> bool
-        requires inside { of.first + of.width ≤ self.now.others.m }
+        requires inside { of.first + of.width ≤ self.now.lines.m }
         requires from { of.first ≤ t }
         requires to { t < of.first + of.width }
         requires narrow { outside < 2 ^ 32 }
-        ensures { result ≡ ends_by self.now.others.names self.now.others.m self.now.others.sums.now self.now.inner.now
-            self.now.others.added self.now.set self.now.goal outside of.first of.width t }
+        ensures { result ≡ ends_by self.now.lines.m self.now.lines.sums.now self.now.inner.now
+            self.now.lines.added self.now.set self.now.goal outside of.first of.width t }
     {
         if !tips::has_tip(self.set, t) {
             return false;
         }
         let split = self
-            .others
-            .split_at(of, t - of.first, self.others.added, self.inner);
+            .lines
+            .split_at(of, t - of.first, self.lines.added, self.inner);
         u64::from(self.goal) <= outside + split
     }
 
     // No tip before the lowest of the set or after the highest is tried.
-    fn ended_tips(&self, outside: u64, of: Interval) -> u64
-        requires inside { of.first + of.width ≤ self.now.others.m }
+    pub fn ended_tips(&self, outside: u64, of: Interval) -> u64
+        requires inside { of.first + of.width ≤ self.now.lines.m }
         requires narrow { outside < 2 ^ 32 }
-        ensures { result ≡ tips_by self.now.others.names self.now.others.m self.now.others.sums.now self.now.inner.now
-            self.now.others.added self.now.set self.now.goal outside of.first of.width }
+        ensures { result ≡ tips_by self.now.lines.m self.now.lines.sums.now self.now.inner.now
+            self.now.lines.added self.now.set self.now.goal outside of.first of.width }
     {
         let end = (of.first + of.width).min(tips::highest(self.set) + 1);
         let begin = of.first.max(tips::lowest(self.set)).min(end);
@@ -109,45 +91,45 @@ impl Reach<'_, '_> {
 
     // The pairs outside the interval are stored, and the tips at which a chain ends in it found.
     fn follow(&self, of: Interval, outer: &mut [u32]) -> u64
-        requires size { self.now.others.m * self.now.others.m ≤ length outer.old }
+        requires size { self.now.lines.m * self.now.lines.m ≤ length outer.old }
         requires some { 0 < of.width }
-        requires inside { of.first + of.width ≤ self.now.others.m }
-        requires narrow { around_by self.now.others.names self.now.others.m self.now.others.sums.now self.now.inner.now outer.old
+        requires inside { of.first + of.width ≤ self.now.lines.m }
+        requires narrow { around_by self.now.lines.m self.now.lines.sums.now self.now.inner.now outer.old
             of.first of.width < 2 ^ 32 }
-        ensures kept { result ≡ tips_by self.now.others.names self.now.others.m self.now.others.sums.now self.now.inner.now
-            self.now.others.added self.now.set self.now.goal
-            (around_by self.now.others.names self.now.others.m self.now.others.sums.now self.now.inner.now outer.old of.first of.width)
+        ensures kept { result ≡ tips_by self.now.lines.m self.now.lines.sums.now self.now.inner.now
+            self.now.lines.added self.now.set self.now.goal
+            (around_by self.now.lines.m self.now.lines.sums.now self.now.inner.now outer.old of.first of.width)
             of.first of.width }
-        ensures outer { outer.new ≡ put outer.old (of.first * self.now.others.m + (of.first + (of.width - 1)))
-            (around_by self.now.others.names self.now.others.m self.now.others.sums.now self.now.inner.now outer.old of.first of.width) }
+        ensures outer { outer.new ≡ put outer.old (of.first * self.now.lines.m + (of.first + (of.width - 1)))
+            (around_by self.now.lines.m self.now.lines.sums.now self.now.inner.now outer.old of.first of.width) }
     {
-        let outside = self.others.best_outside(of, self.inner, outer);
-        outer[of.first * self.others.m + (of.first + (of.width - 1))] = outside as u32;
+        let outside = self.lines.best_outside(of, self.inner, outer);
+        outer[of.first * self.lines.m + (of.first + (of.width - 1))] = outside as u32;
         self.ended_tips(outside, of)
     }
 
     // The first open interval of the width from a first tip on. Nothing is outside those passed by, as the goal cannot be had there.
     // A loop of its own: one that also follows what it finds takes half as many instructions again for each interval passed by.
     fn next_open(&self, from: usize, w: usize, outer: &mut [u32]) -> Option<usize>
-        requires size { self.now.others.m * self.now.others.m ≤ length outer.old }
+        requires size { self.now.lines.m * self.now.lines.m ≤ length outer.old }
         requires some { 0 < w }
-        requires inside { from + w ≤ self.now.others.m + 1 }
+        requires inside { from + w ≤ self.now.lines.m + 1 }
         ensures after { IfSome result (λ a. from ≤ a) }
-        ensures found { IfSome result (λ a. (a + w ≤ self.now.others.m)
-            × T (open_by self.now.others.m self.now.others.sums.now self.now.inner.now self.now.upper.now
-            self.now.others.added self.now.set self.now.goal a w)) }
+        ensures found { IfSome result (λ a. (a + w ≤ self.now.lines.m)
+            × T (open_by self.now.lines.m self.now.lines.sums.now self.now.inner.now self.now.upper.now
+            self.now.lines.added self.now.set self.now.goal a w)) }
         ensures outer { (kept : ℕ) (lines rest : List ℕ)
-            → Known self.now.others.names self.now.others.m self.now.others.added lines rest
-            self.now.others.sums.now self.now.inner.now self.now.upper.now
-            → Followed self.now.others.m self.now.others.added self.now.set self.now.goal
-            (open_by self.now.others.m self.now.others.sums.now self.now.inner.now self.now.upper.now
-            self.now.others.added self.now.set self.now.goal) (C lines) rest outer.old kept w from
-            → Followed self.now.others.m self.now.others.added self.now.set self.now.goal
-            (open_by self.now.others.m self.now.others.sums.now self.now.inner.now self.now.upper.now
-            self.now.others.added self.now.set self.now.goal) (C lines) rest outer.new kept w
-            (unwrap_or result (self.now.others.m + 1 - w)) }
+            → Known self.now.lines.m self.now.lines.added lines rest
+            self.now.lines.sums.now self.now.inner.now self.now.upper.now
+            → Followed self.now.lines.m self.now.lines.added self.now.set self.now.goal
+            (open_by self.now.lines.m self.now.lines.sums.now self.now.inner.now self.now.upper.now
+            self.now.lines.added self.now.set self.now.goal) (C lines) rest outer.old kept w from
+            → Followed self.now.lines.m self.now.lines.added self.now.set self.now.goal
+            (open_by self.now.lines.m self.now.lines.sums.now self.now.inner.now self.now.upper.now
+            self.now.lines.added self.now.set self.now.goal) (C lines) rest outer.new kept w
+            (unwrap_or result (self.now.lines.m + 1 - w)) }
     {
-        let m = self.others.m;
+        let m = self.lines.m;
         for a in from..m + 1 - w {
             if self.is_open(Interval { first: a, width: w }) {
                 return Some(a);
@@ -159,18 +141,18 @@ impl Reach<'_, '_> {
 
     // The widest intervals first.
     pub fn kept_tips(&self, outer: &mut [u32]) -> u64
-        requires known { (lines : List ℕ) × (rest : List ℕ) × Known self.now.others.names self.now.others.m self.now.others.added lines rest
-            self.now.others.sums.now self.now.inner.now self.now.upper.now }
-        requires size { self.now.others.m * self.now.others.m ≤ length outer.old }
-        ensures { (lines rest : List ℕ) → Known self.now.others.names self.now.others.m self.now.others.added lines rest
-            self.now.others.sums.now self.now.inner.now self.now.upper.now → (t : ℕ)
+        requires known { (lines : List ℕ) × (rest : List ℕ) × Known self.now.lines.m self.now.lines.added lines rest
+            self.now.lines.sums.now self.now.inner.now self.now.upper.now }
+        requires size { self.now.lines.m * self.now.lines.m ≤ length outer.old }
+        ensures { (lines rest : List ℕ) → Known self.now.lines.m self.now.lines.added lines rest
+            self.now.lines.sums.now self.now.inner.now self.now.upper.now → (t : ℕ)
             → T (has result t) ↔ (T (has self.now.set t)
-            × Ends (open_by self.now.others.m self.now.others.sums.now self.now.inner.now self.now.upper.now
-            self.now.others.added self.now.set self.now.goal)
-            self.now.others.m (C lines) rest self.now.others.added self.now.goal t) }
+            × Ends (open_by self.now.lines.m self.now.lines.sums.now self.now.inner.now self.now.upper.now
+            self.now.lines.added self.now.set self.now.goal)
+            self.now.lines.m (C lines) rest self.now.lines.added self.now.goal t) }
     {
         let mut kept = 0u64;
-        for w in (1..self.others.m + 1).rev() {
+        for w in (1..self.lines.m + 1).rev() {
             // Searched for in two places: with one, the compiler makes both loops one.
             let mut next = self.next_open(0, w, outer);
             while let Some(a) = next {

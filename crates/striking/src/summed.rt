@@ -1,6 +1,7 @@
 // Lines, known by the sums of their placements; and what is read of them in one interval.
 ghost use Rattle.std.specs.Prelude.{◌≡◌, ◌+◌, ◌*◌, ◌^◌, ◌≤◌, ◌<◌, length};
-ghost use Rattle.striking.specs.Striking.{Ready, pairs_by, split_by};
+ghost use Rattle.model.specs.Limits.{most_placements};
+ghost use Rattle.striking.specs.Striking.{Ready, Meeting, meeting_by, pairs_by, split_by};
 
 // The tips of the rack from a first one on.
 #[derive(Clone, Copy)]
@@ -12,7 +13,6 @@ pub struct Interval {
 // With the placements that may be added to a tip: none where these are all lines, and those of one line where these are the others.
 #[derive(Clone, Copy)]
 pub struct Lines<'a> {
-    pub names: u64,
     pub m: usize,
     pub added: u32,
     pub sums: &'a [u32],
@@ -20,19 +20,32 @@ pub struct Lines<'a> {
 }
 
 impl Lines<'_> {
-    // The pairs on tip c, with q placements more, of the lines lying within the interval. No line has a tip that is not named.
+    // The placements of the lines lying within the interval that do not end before tip l or begin after tip h.
+    #[tactic(auto, unfolding(crate::specs::Striking::meeting_by))]
+    pub fn meeting_at(&self, l: usize, h: usize, of: Interval) -> u32
+        requires { Meeting self.now.m self.now.sums.now l h of.first of.width }
+        ensures meeting { result ≡ meeting_by self.now.m self.now.sums.now l h of.first of.width }
+        ensures few { result ≤ most_placements }
+    {
+        let width = self.m + 1;
+        let end = of.first + of.width;
+        let last = (h + 1) * width;
+        let first = of.first * width;
+        let next = l * width;
+        let sums = self.sums;
+        sums[last + end] + sums[first + l] - sums[first + end] - sums[next + l]
+    }
+
+    // The pairs on tip c, with q placements more, of the lines lying within the interval.
     // The clause that an interval is in the rack stays here and in the other files: an interval does not hold the rack.
     pub fn pairs_at(&self, of: Interval, c: usize, q: u32) -> u64
         requires inside { of.first + of.width ≤ self.now.m }
         requires from { of.first ≤ c }
         requires to { c < of.first + of.width }
         requires few { q ≤ self.now.added }
-        ensures pairs { result ≡ pairs_by self.now.names self.now.m self.now.sums.now q of.first of.width c }
+        ensures pairs { result ≡ pairs_by self.now.m self.now.sums.now q of.first of.width c }
         ensures narrow { result < 2 ^ 32 }
     {
-        if !tips::has_tip(self.names, c) {
-            return u64::from(pair_count::pairs_among(q));
-        }
         let inside = spans::inside_at(self.m, self.sums, of.first, of.width, c);
         u64::from(pair_count::pairs_among(inside + q))
     }
@@ -44,7 +57,7 @@ impl Lines<'_> {
         requires inside { of.first + of.width ≤ self.now.m }
         requires tip { i < of.width }
         requires few { q ≤ self.now.added }
-        ensures split { result ≡ split_by self.now.names self.now.m self.now.sums.now inner.now q of.first of.width i }
+        ensures split { result ≡ split_by self.now.m self.now.sums.now inner.now q of.first of.width i }
         ensures narrow { result < 2 ^ 34 }
     {
         let c = of.first + i;

@@ -2,7 +2,7 @@ use Rattle.std.proofs.Common.{◌≡◌, ◌-◌, ◌∙◌, ap, get_or}
 use Rattle.model.specs.Interval.{table as table_of}
 use Rattle.model.proofs.Table.{table-last}
 use Rattle.placements.specs.Repeated.{repeated}
-use Rattle.best.proofs.Ranks.{all_full}
+use Rattle.ranks.proofs.Runs.{all_full}
 use Rattle.best.proofs.plan_lines.Goals as goal
 use Rattle.best.proofs.plan_lines.Goals.{then-names-between, else-names-between}
 

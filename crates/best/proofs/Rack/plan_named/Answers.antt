@@ -1,18 +1,19 @@
 use Rattle.head.specs.OnHead.{on_head}
-use Rattle.best.proofs.Ranks.{listable, tips-listed, ranks_ready, plan_fits, steps}
+use Rattle.ranks.proofs.Runs.{listable, tips-listed}
+use Rattle.best.proofs.Ranks.{ranks_ready, plan_fits, steps}
 use Rattle.best.proofs.Rack.plan_named.Goals as goal
 
 pub renumber_lines-requires : goal.renumber_lines-requires
 renumber_lines-requires c =
     let p = c.requires in
     let e = c.list_tips-count.ensures in
-    listable p.runs p.named e.size e.ranks e.named
+    listable p.runs p.named e.ranks
 
 pub renumber_mounted-on-requires : goal.renumber_mounted-on-requires
 renumber_mounted-on-requires c =
     let p = c.requires in
     let e = c.list_tips-count.ensures in
-    tips-listed p.runs p.named e.size e.ranks e.named
+    tips-listed p.runs p.named e.ranks
 
 pub plan_ranks-requires : goal.plan_ranks-requires
 plan_ranks-requires c =

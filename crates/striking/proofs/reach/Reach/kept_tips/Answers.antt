@@ -4,7 +4,7 @@ use Rattle.striking.proofs.reach.Reach.kept_tips.Goals as goal
 
 pub loop-w-init : goal.loop-w-init
 loop-w-init c = λ lines rest k.
-    let e : c.args.self.now.others.m + 1 - 1 ≡ c.args.self.now.others.m = omega arith in
+    let e : c.args.self.now.lines.m + 1 - 1 ≡ c.args.self.now.lines.m = omega arith in
     rw e (follow_first k c.args.self.now.set c.args.self.now.goal c.args.outer.now c.requires.size)
 
 pub loop-next-init : goal.loop-next-init

@@ -6,16 +6,16 @@ use Rattle.striking.proofs.reach.Reach.kept_tips.Given as goal
 
 abbrev pub invariant-loop-w : goal.invariant-loop-w
 invariant-loop-w l =
-    (lines rest : List ℕ) → (k : Known l.self.others.names l.self.others.m l.self.others.added lines rest l.self.others.sums.now l.self.inner.now
+    (lines rest : List ℕ) → (k : Known l.self.lines.m l.self.lines.added lines rest l.self.lines.sums.now l.self.inner.now
     l.self.upper.now) → So k l.self.set l.self.goal l.outer l.kept (l.w - 1) 0
 
 abbrev pub invariant-loop-next : goal.invariant-loop-next
 invariant-loop-next l = record {
-  found : IfSome l.next (λ a. (a + l.w ≤ l.self.others.m) × T (open_by l.self.others.m l.self.others.sums.now l.self.inner.now l.self.upper.now
-      l.self.others.added l.self.set l.self.goal a l.w));
-  followed : (lines rest : List ℕ) → (k : Known l.self.others.names l.self.others.m l.self.others.added lines rest l.self.others.sums.now
-      l.self.inner.now l.self.upper.now) → So k l.self.set l.self.goal l.outer l.kept l.w (unwrap_or l.next (l.self.others.m + 1 - l.w));
+  found : IfSome l.next (λ a. (a + l.w ≤ l.self.lines.m) × T (open_by l.self.lines.m l.self.lines.sums.now l.self.inner.now l.self.upper.now
+      l.self.lines.added l.self.set l.self.goal a l.w));
+  followed : (lines rest : List ℕ) → (k : Known l.self.lines.m l.self.lines.added lines rest l.self.lines.sums.now
+      l.self.inner.now l.self.upper.now) → So k l.self.set l.self.goal l.outer l.kept l.w (unwrap_or l.next (l.self.lines.m + 1 - l.w));
 }
 
 abbrev pub decreases-loop-next : goal.decreases-loop-next
-decreases-loop-next l = l.self.others.m + 1 - unwrap_or l.next (l.self.others.m + 1 - l.w)
+decreases-loop-next l = l.self.lines.m + 1 - unwrap_or l.next (l.self.lines.m + 1 - l.w)

@@ -9,5 +9,5 @@ loop-a-preserved c = λ kept lines rest k f.
 
 pub returns-clause-outer : goal.returns-clause-outer
 returns-clause-outer c = λ kept lines rest k f.
-    let e : c.loop-a.a ≡ c.args.self.now.others.m + 1 - c.args.w = omega arith in
+    let e : c.loop-a.a ≡ c.args.self.now.lines.m + 1 - c.args.w = omega arith in
     rw e at (c.loop-a.invariant kept lines rest k f)

@@ -11,7 +11,7 @@ loop-j-init c = refl
 pub loop-j-preserved : goal.loop-j-preserved
 loop-j-preserved c =
     let s = c.args.self.now in
-    let f : ℕ → ℕ = before_by s.names s.m s.sums.now c.args.inner.now c.args.outer.now c.args.of.first c.args.of.width in
+    let f : ℕ → ℕ = before_by s.m s.sums.now c.args.inner.now c.args.outer.now c.args.of.first c.args.of.width in
     omega (arith, c.max-best.ensures, c.outside_at.ensures, largest-more f c.loop-j.j)
 
 pub loop-k-init : goal.loop-k-init
@@ -23,5 +23,5 @@ loop-k-init c =
 pub loop-k-preserved : goal.loop-k-preserved
 loop-k-preserved c =
     let s = c.args.self.now in
-    let f : ℕ → ℕ = behind_by s.names s.m s.sums.now c.args.inner.now c.args.outer.now c.args.of.first c.args.of.width in
+    let f : ℕ → ℕ = behind_by s.m s.sums.now c.args.inner.now c.args.outer.now c.args.of.first c.args.of.width in
     omega (arith, c.max-best-in-loop-k.ensures, c.outside_at-in-loop-k.ensures, largest-more f c.loop-k.k)

@@ -5,9 +5,9 @@ use Rattle.striking.specs.Striking.{RunSums, InsideAll, Outside}
 use Rattle.striking.proofs.summed.Lines.fill_outside.Given as goal
 
 abbrev pub invariant-loop-w : goal.invariant-loop-w
-invariant-loop-w l = (lines : List ℕ) → RunSums l.self.names l.self.m 0 lines l.self.sums.now → InsideAll l.self.m lines l.inner
+invariant-loop-w l = (lines : List ℕ) → RunSums l.self.m 0 lines l.self.sums.now → InsideAll l.self.m lines l.inner
     → Outside l.self.m always (C lines) lines l.outer (l.w - 1) 0
 
 abbrev pub invariant-loop-a : goal.invariant-loop-a
-invariant-loop-a l = (lines : List ℕ) → RunSums l.self.names l.self.m 0 lines l.self.sums.now → InsideAll l.self.m lines l.inner
+invariant-loop-a l = (lines : List ℕ) → RunSums l.self.m 0 lines l.self.sums.now → InsideAll l.self.m lines l.inner
     → Outside l.self.m always (C lines) lines l.outer l.w l.a
