@@ -272,26 +272,6 @@ module _ (f : ℕ → ℕ) (m n : ℕ) where
       set_of_cong busy (λ t. eqb (f t) n) m (λ t l.
       ⊎_elim (λ h. rw (le-ltb 0 (f t) h, ne_eqb (f t) n (λ q. s (omega arith)))) (λ h. rw (lt-ltb 0 (f t) h)) (le_or_lt (f t) 0))
 
-  -- the lowest of them
-  pub low-busiest : (n ≡ 0 → ⊥) → n ≡ largest f m → m ≤ 64 → low (busy_tips f n m) ≡ lowest_at f m
-  unfolding largest busy
-  low-busiest s e h = by m refl
-    where
-      by : (k : ℕ) → m ≡ k → low (busy_tips f n m) ≡ lowest_at f m
-      by zero z = absurd (s (e ∙ ap (largest f) z))
-      by (suc k) z =
-          let tips = set_of busy m in
-          let u = lowest_at f m in
-          let l : u < m = lowest_lt f m (omega arith) in
-          let is : f u ≡ n = omega (arith, largest_attained f m (omega arith)) in
-          let b : T (busy u) = and_in (ltb 0 (f u)) (eqb (f u) n) (lt→ltb 0 (f u) (rw is (pos_of_ne-zero s))) (eqb_T (f u) n is) in
-          let own : T (has tips u) = rw (has-set_of busy m u) (and_in (ltb u m) (busy u) (lt→ltb u m l) b) in
-          let least = low-tip {m = m} h (record { some = has_some tips u own; below = set_of_lt busy m }) in
-          let t = low tips in
-          let b' : T (busy t) = and_right (ltb t m) (busy t) (rw (has-set_of busy m t) at least) in
-          let is' = eqb→eq (f t) n (and_right (ltb 0 (f t)) (eqb (f t) n) b') in
-          ⊎_elim (λ q. omega (arith, low_le tips u own)) (λ q. absurd (omega (arith, lowest-first f m t q, is', is))) (le_or_lt u t)
-
 lowest_le : (f : ℕ → ℕ) (m : ℕ) → lowest_at f m < suc m
 unfolding lowest_at
 lowest_le f zero = omega arith
