@@ -22,12 +22,8 @@ use Rattle.placements.proofs.Named.{named-repeated}
 use Rattle.placements.proofs.Renumbered.{renumbered-repeated}
 use Rattle.placements.proofs.Repeated.{all-repeated}
 use Rattle.subsets.specs.Subsets.{lying, score}
-use Rattle.subsets.specs.Table.{tips_at, exact_table}
+use Rattle.subsets.specs.Table.{tips_at, exact_table, rank_table}
 use Rattle.subsets.proofs.Renumbered.{Owned, lying-ranks, score-ranks}
-
--- z and then E of all sets of r tips
-abbrev pub numbers : ℕ → ℕ → List ℕ → List ℕ
-numbers price r lines = list_of (lying r lines) (2 ^ r) ++ list_of (score price (lying r lines) r) (2 ^ r)
 
 module _ (ok : ℕ → Bool) (m u : ℕ) where
   has-tips_at : (t : ℕ) → has (tips_at ok m u) t ≡ (ltb t m && (ok t && has u (rank ok t)))
@@ -62,7 +58,7 @@ module _ (ok : ℕ → Bool) (m u : ℕ) where
 
 -- THE TABLE of the lines has the numbers of the lines renumbered
 pub table-ranks : (price : ℕ) {m : ℕ} {lines : List ℕ} → m ≤ 64 → All (Domain m) lines
-    → numbers price (rank (named lines) m) (renumbered (named lines) m lines) ≡ exact_table price m lines
+    → rank_table price (rank (named lines) m) (renumbered (named lines) m lines) ≡ exact_table price m lines
 unfolding exact_table
 table-ranks price {m} {lines} narrow ds = ap₂ (λ x y. x ++ y) (list_of_cong _ _ (2 ^ r) counts) (list_of_cong _ _ (2 ^ r) scores)
   where
@@ -85,7 +81,7 @@ table-ranks price {m} {lines} narrow ds = ap₂ (λ x y. x ++ y) (list_of_cong _
 -- and so for placements, where the sets are renumbered and the quantities stay
 pub table-renumbered : (price : ℕ) {m : ℕ} {sets : List ℕ} → m ≤ 64 → All (Domain m) sets → {qs : List ℕ} → All (λ q. 1 ≤ q) qs
     → length qs ≡ length sets
-    → numbers price (rank (named sets) m) (repeated qs (renumbered (named sets) m sets)) ≡ exact_table price m (repeated qs sets)
+    → rank_table price (rank (named sets) m) (repeated qs (renumbered (named sets) m sets)) ≡ exact_table price m (repeated qs sets)
 table-renumbered price {m} {sets} narrow ds {qs} os e =
     let same : named (repeated qs sets) ≡ named sets = fun_ext (named-repeated os sets e) in
     rw (same, renumbered-repeated (named sets) m qs sets) at (table-ranks price narrow (all-repeated qs ds))

@@ -23,3 +23,9 @@ exact_table price m lines =
     let set = tips_at (named lines) m in
     let sets = 2 ^ rank (named lines) m in
     list_of (λ u. z (set u)) sets ++ list_of (λ u. score price z m (set u)) sets
+
+-- ---- for proofs and leaf contracts: no call's contract speaks of this
+
+-- the table where each of r tips is named
+abbrev pub rank_table : ℕ → ℕ → List ℕ → List ℕ
+rank_table price r lines = list_of (lying r lines) (2 ^ r) ++ list_of (score price (lying r lines) r) (2 ^ r)
