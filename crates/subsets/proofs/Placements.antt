@@ -26,7 +26,7 @@ use Rattle.placements.proofs.Named.{some_placement, named-repeated}
 use Rattle.placements.proofs.Plans.{best_valid_lines, best-pairs-placements, best-placements}
 use Rattle.placements.proofs.Bound.{pairs_bound}
 use Rattle.subsets.specs.Subsets.{tips_used, lying, order, exact_tip, exact_plan, exact_plan_q}
-use Rattle.subsets.specs.Exact.{ExactShared, FewestTips}
+use Rattle.subsets.specs.Exact.{most_price, capped, ExactShared, FewestTips}
 use Rattle.subsets.specs.Chains.{pairs_by, used_by}
 use Rattle.subsets.proofs.Drop.{rank_cong}
 use Rattle.subsets.proofs.Exact.{exact_valid, exact, exact_pairs, exact_used}
@@ -165,3 +165,15 @@ module _ {price m : ℕ} {qs sets plan : List ℕ} (e : length qs ≡ length set
         (λ l. omega (arith, all-pairs v, mul-le-mul_left more l))
         (le_or_lt (tips_used m other) (tips_used m plan));
   }
+
+-- THE PROMISE at the price as given: the cap is above the pairs of any plan
+pub exact-capped : {m : ℕ} {qs sets plan : List ℕ} → All (Domain m) sets → All (λ q. 1 ≤ q) qs → length qs ≡ length sets
+    → total qs ≤ most_placements → (mounted : Mounted) (price : ℕ) → plan ≡ exact_plan_q mounted (capped price) m qs sets
+    → ExactShared price m qs sets plan
+exact-capped {m} {qs} {sets} {plan} ds os e few mounted price laid =
+    let x : ExactShared (capped price) m qs sets plan =
+    subst (ExactShared (capped price) m qs sets) (sym laid) (exact_shared ds os e mounted (capped price)) in
+    ⊎_elim
+    (λ l. let q : capped price ≡ price = omega arith in subst (λ n. ExactShared n m qs sets plan) q x)
+    (λ l. dearer e few (omega arith) x price (omega arith))
+    (le_or_lt price most_price)
