@@ -16,12 +16,10 @@ use borrow.Author.Tests.{lt-ltb, le-ltb, ne_eqb}
 use Rattle.std.proofs.lemmas.Grind.{common_steps}
 use Rattle.model.specs.Count.{largest, lowest_at}
 use Rattle.model.specs.Plan.{has}
-use Rattle.model.specs.Interval.{low}
 use Rattle.model.specs.CommonTip.{set_of, top, W}
 use Rattle.model.proofs.Tests.{test, le_or_lt, same_test, and_left, and_right, and_in}
-use Rattle.model.proofs.Largest.{largest_cong, largest_ge, lowest_lt, lowest_attains, lowest-first}
+use Rattle.model.proofs.Largest.{largest_cong, largest_ge, lowest_lt, lowest_attains}
 use Rattle.model.proofs.Sets.{has_some, some_tip, set_of_lt, set_of_cong, has-set_of, has_and, covers_or}
-use Rattle.model.proofs.Run.{low_le, low-tip}
 use Rattle.counts.specs.Counts.{plane_count, digit, count_at, Counts, busy_tips}
 use Rattle.counts.proofs.Planes.{count_at_lt}
 use Rattle.counts.proofs.Digits.{digit_le, lacks_digit, has-one-digit, one-digit-has}

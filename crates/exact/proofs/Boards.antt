@@ -1,7 +1,7 @@
 -- The plan and the table of a board, from those of the board renumbered.
 use Prim.Native.Nat.{ℕ, ◌<◌}
 use native.Mathlib.Omega.{arith}
-use mathlib.Core.Path.{◌≡◌, ap, sym, subst, ◌∙◌}
+use mathlib.Core.Path.{◌≡◌, ap, sym, ◌∙◌}
 use mathlib.Core.Bool.{Bool}
 use mathlib.Core.List.{List, map}
 use lib.ListN.{length, get_or}
@@ -21,7 +21,6 @@ use Rattle.placements.specs.Repeated.{repeated}
 use Rattle.ranks.specs.Listed.{Ranks, Named, RanksOf}
 use Rattle.ranks.proofs.Listed.{ranks_of}
 use Rattle.subsets.specs.Subsets.{tips_used, exact_plan_q}
-use Rattle.subsets.specs.Exact.{capped}
 use Rattle.subsets.specs.Table.{exact_table, rank_table}
 use Rattle.subsets.proofs.Exact.{names_own}
 use Rattle.subsets.proofs.Placements.{exact_shared}

@@ -22,7 +22,7 @@ use Rattle.subsets.proofs.Attain.{picked_chain}
 use Rattle.subsets.proofs.Score.{order-picked}
 use Rattle.subsets.proofs.Placements.{exact_by, exact_pairs-by, exact_used_by, length_exact}
 use Rattle.subset_table.specs.Counting.{NarrowLines}
-use Rattle.subset_table.specs.Scores.{at, Counted}
+use Rattle.subset_table.specs.Scores.{at}
 use Rattle.subset_table.proofs.Scores.{counts-at, lines_counted, order_cong}
 use Rattle.exact.specs.Leaf.{Summable}
 use Rattle.exact.proofs.Picks.{order_below}

@@ -9,7 +9,7 @@ use Rattle.placements.specs.Good.{GoodLines}
 use Rattle.ranks.specs.Listed.{Ranks}
 use Rattle.subsets.specs.Exact.{most_named}
 use Rattle.subsets.specs.Table.{table_places}
-use Rattle.subsets.specs.Chains.{Chain, pairs_by, used_by}
+use Rattle.subsets.specs.Chains.{Chain, pairs_by}
 use Rattle.subset_table.specs.Counting.{NarrowLines}
 use Rattle.subset_table.specs.Scores.{at, Counted}
 

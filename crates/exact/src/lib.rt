@@ -26,7 +26,7 @@ pub const MOST_NAMED: usize = 20;
 const MOST_PRICE: u32 = 2_096_129;
 
 // The pairs of a plan, and how many tips it uses.
-#[derive(Clone, Copy, Debug, PartialEq, Eq)]
+#[derive(Clone, Copy)]
 pub struct Shared {
     pub pairs: u32,
     pub tips: usize,

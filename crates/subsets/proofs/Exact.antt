@@ -1,5 +1,5 @@
 -- THE EXACT RULE: at a price for each tip that is used, no valid plan of any board is better than the exact plan.
-use Prim.Native.Nat.{ℕ, ◌+◌, ◌*◌, ◌-◌, ◌^◌, ◌≤◌, ◌<◌}
+use Prim.Native.Nat.{ℕ, ◌+◌, ◌*◌, ◌^◌, ◌≤◌, ◌<◌}
 use native.Mathlib.Omega.{arith}
 use mathlib.Core.Path.{◌≡◌, ap, subst, sym, ◌∙◌, fun_ext}
 use mathlib.Core.Bool.{Bool}

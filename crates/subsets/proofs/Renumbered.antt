@@ -88,7 +88,11 @@ module _ (ok : ℕ → Bool) (m : ℕ) where
         other : (j : ℕ) → T (not (eqb j (rank ok t))) → has (R w) j ≡ has (R u - 2 ^ rank ok t) j
         other j n =
             let d : j ≡ rank ok t → ⊥ = λ e. T_not (eqb j (rank ok t)) n (eqb_T j (rank ok t) e) in
-            rw (drop_other (R u) (rank ok t) j (ranked t h) d, has-set_of (λ i. has w (tip_at ok m i)) r j, has-set_of (λ i. has u (tip_at ok m i)) r j)
+            rw (
+              drop_other (R u) (rank ok t) j (ranked t h) d,
+              has-set_of (λ i. has w (tip_at ok m i)) r j,
+              has-set_of (λ i. has u (tip_at ok m i)) r j,
+            )
             (⊎_elim
             (λ p. rw (le-ltb j r p))
             (λ p. rw (drop_other u t (tip_at ok m j) h (λ e. d (sym (tip-at ok m j p).2 ∙ ap (rank ok) e))))

@@ -1,6 +1,3 @@
-use Rattle.std.proofs.Common.{◌≡◌, ◌∙◌}
-use Rattle.model.specs.Plan.{has}
-use Rattle.model.specs.Renumber.{renumbered}
 use Rattle.head.specs.OnHead.{on_head}
 use Rattle.subsets.specs.Exact.{capped}
 use Rattle.subsets.proofs.Placements.{exact-capped}

@@ -1,4 +1,4 @@
-use Rattle.std.proofs.Common.{◌∙◌, arith}
+use Rattle.std.proofs.Common.{arith}
 use Rattle.model.specs.Greedy.{first}
 use Rattle.model.proofs.Loops.{map_more}
 use Rattle.exact.proofs.planning.put_tips.Goals as goal

@@ -1,5 +1,5 @@
 use Rattle.std.proofs.Common.{◌-◌, ◌^◌, refl, ap, ◌∙◌, arith}
-use Rattle.exact.proofs.Sums.{byte_not, summing-first, next-has, next-tip, next_drops, next_few, next_more, summing-all}
+use Rattle.exact.proofs.Sums.{byte_not, next-has, next-tip, next_drops, next_few, next_more, summing-all}
 use Rattle.exact.proofs.planning.sum_tips.Goals as goal
 
 pub without-next-requires-clause-small : goal.without-next-requires-clause-small

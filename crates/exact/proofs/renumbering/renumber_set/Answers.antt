@@ -1,4 +1,4 @@
-use Rattle.std.proofs.Common.{◌≡◌, ◌<◌, ◌^◌, get_or, length-take, sym, ◌∙◌, arith}
+use Rattle.std.proofs.Common.{◌<◌, get_or, length-take, sym, ◌∙◌, arith}
 use Rattle.std.proofs.lemmas.List.{get_or-take}
 use lib.Dec.{T}
 use Rattle.model.specs.Plan.{has}

@@ -1,4 +1,4 @@
-use Rattle.std.proofs.Common.{◌≡◌, get_or, ap, sym, ◌∙◌, arith}
+use Rattle.std.proofs.Common.{get_or, ap, sym, ◌∙◌, arith}
 use mathlib.Core.Path.{subst}
 use Rattle.model.specs.Plan.{has}
 use Rattle.model.specs.Renumber.{ranks, renumbered}

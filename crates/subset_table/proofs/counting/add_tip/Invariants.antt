@@ -1,4 +1,3 @@
-use Rattle.std.proofs.Common.{◌≤◌, length}
 use Rattle.subset_table.proofs.Adding.{Adding}
 use Rattle.subset_table.proofs.counting.add_tip.Given as goal
 

@@ -17,7 +17,9 @@ loop-t-init c =
 pub add_tip-requires-clause-few : goal.add_tip-requires-clause-few
 add_tip-requires-clause-few c =
     let a = c.args in
-    let few : length (repeated a.quantities.now a.lines.now) ≤ most_placements = omega (arith, length-repeated a.quantities.now a.lines.now c.requires.lines.same, c.requires.lines.few) in
+    let g = c.requires.lines in
+    let few : length (repeated a.quantities.now a.lines.now) ≤ most_placements =
+    omega (arith, length-repeated a.quantities.now a.lines.now g.same, g.few) in
     rw c.loop-t.invariant (part-counts_few a.m c.loop-t.t (repeated a.quantities.now a.lines.now) few)
 
 pub loop-t-preserved : goal.loop-t-preserved

@@ -1,4 +1,4 @@
-use Rattle.std.proofs.Common.{◌^◌, ◌<◌, arith, rules}
+use Rattle.std.proofs.Common.{arith}
 use Rattle.subset_table.proofs.Scores.{filling_ready, filling_more}
 use Rattle.subset_table.proofs.scoring.fill_scores.Goals as goal
 

@@ -1,4 +1,3 @@
-use Rattle.std.proofs.Common.{◌≡◌, length}
 use Rattle.head.specs.OnHead.{on_head}
 use Rattle.subset_table.specs.Scores.{at}
 use Rattle.exact.proofs.Picks.{Picking}
