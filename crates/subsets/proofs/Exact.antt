@@ -91,7 +91,7 @@ module _ (mounted : Mounted) (price : ℕ) {m : ℕ} {lines : List ℕ} (ds : Al
 -- ---- the order of the lines is hidden
 
 module _ (xs ys : List ℕ) (h : (f : ℕ → Bool) → count f xs ≡ count f ys) where
-  lying_hides : (m : ℕ) → lying m xs ≡ lying m ys
+  pub lying_hides : (m : ℕ) → lying m xs ≡ lying m ys
   unfolding lying
   lying_hides m = fun_ext (λ u. h _)
 
@@ -103,3 +103,12 @@ module _ (xs ys : List ℕ) (h : (f : ℕ → Bool) → count f xs ≡ count f y
   pub exact_hides : (mounted : Mounted) (price m s : ℕ) → exact_tip mounted price m xs s ≡ exact_tip mounted price m ys s
   unfolding exact_tip
   exact_hides mounted price m s = rw (lying_hides m, names_hides)
+
+  -- and so do the pairs, and how many tips are used
+  pub sums_hide : (mounted : Mounted) (price : ℕ) {m : ℕ} → All (Domain m) xs → All (Domain m) ys
+      → (pairs (exact_plan mounted price m xs) ≡ pairs (exact_plan mounted price m ys))
+      × (tips_used m (exact_plan mounted price m xs) ≡ tips_used m (exact_plan mounted price m ys))
+  sums_hide mounted price {m} dx dy = (
+    exact_pairs mounted price dx ∙ rw (lying_hides m, names_hides) (sym (exact_pairs mounted price dy)),
+    exact_used mounted price dx ∙ rw (lying_hides m, names_hides) (sym (exact_used mounted price dy)),
+  )

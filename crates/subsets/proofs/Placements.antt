@@ -23,7 +23,8 @@ use Rattle.placements.specs.Repeated.{total, repeated}
 use Rattle.placements.proofs.Repeated.{repeated-map, all-repeated}
 use Rattle.placements.proofs.Valid.{valid_repeated, valid_once}
 use Rattle.placements.proofs.Named.{some_placement, named-repeated}
-use Rattle.placements.proofs.Plans.{best_valid_lines, best-pairs-placements, best-placements}
+use Rattle.placements.specs.Plans.{quick_plan_q}
+use Rattle.placements.proofs.Plans.{quick_half_placements, best_valid_lines, best-pairs-placements, best-placements}
 use Rattle.placements.proofs.Bound.{pairs_bound}
 use Rattle.subsets.specs.Subsets.{tips_used, lying, order, exact_tip, exact_plan, exact_plan_q}
 use Rattle.subsets.specs.Exact.{most_price, capped, ExactShared, FewestTips}
@@ -79,6 +80,11 @@ module _ {m : ℕ} {sets : List ℕ} (ds : All (Domain m) sets) {qs : List ℕ} 
               ap (λ n. price * n) (tips-repeated m os other (omega (arith, valid_length v))),
             );
       }
+
+  -- no more than twice the pairs of quick sharing, whatever is mounted for either
+  pub exact_half : (mounted on : Mounted) (price : ℕ)
+      → pairs (repeated qs (exact_plan_q mounted price m qs sets)) ≤ 2 * pairs (repeated qs (quick_plan_q on m qs sets))
+  exact_half mounted on price = quick_half_placements on ds qs (exact_shared mounted price).valid
 
   module _ (mounted : Mounted) (price : ℕ) where
     abbrev z : ℕ → ℕ

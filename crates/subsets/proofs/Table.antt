@@ -8,8 +8,8 @@ use mathlib.Core.List.{List, ◌++◌}
 use lib.Dec.{ltb}
 use lib.ListN.{length}
 use borrow.Author.Tests.{lt-ltb, le-ltb}
-use Rattle.model.specs.Count.{All}
-use Rattle.model.specs.Plan.{has, Domain}
+use Rattle.model.specs.Count.{count, All}
+use Rattle.model.specs.Plan.{has, occ, Domain}
 use Rattle.model.specs.Interval.{named}
 use Rattle.model.specs.Renumber.{rank, tip_at, ranks, renumbered}
 use Rattle.model.proofs.Tests.{le_or_lt, true_T, false_not, and_left, and_right}
@@ -23,6 +23,7 @@ use Rattle.placements.proofs.Renumbered.{renumbered-repeated}
 use Rattle.placements.proofs.Repeated.{all-repeated}
 use Rattle.subsets.specs.Subsets.{lying, score}
 use Rattle.subsets.specs.Table.{tips_at, exact_table, rank_table}
+use Rattle.subsets.proofs.Exact.{lying_hides}
 use Rattle.subsets.proofs.Renumbered.{Owned, lying-ranks, score-ranks}
 
 module _ (ok : ℕ → Bool) (m u : ℕ) where
@@ -85,3 +86,12 @@ pub table-renumbered : (price : ℕ) {m : ℕ} {sets : List ℕ} → m ≤ 64 �
 table-renumbered price {m} {sets} narrow ds {qs} os e =
     let same : named (repeated qs sets) ≡ named sets = fun_ext (named-repeated os sets e) in
     rw (same, renumbered-repeated (named sets) m qs sets) at (table-ranks price narrow (all-repeated qs ds))
+
+-- ---- the order of the lines is hidden
+
+pub exact_table-hides : (price m : ℕ) (xs ys : List ℕ) → ((f : ℕ → Bool) → count f xs ≡ count f ys)
+    → exact_table price m xs ≡ exact_table price m ys
+unfolding exact_table named occ
+exact_table-hides price m xs ys h =
+    let same : named xs ≡ named ys = fun_ext (λ t. ap (ltb 0) (h (λ s. has s t))) in
+    rw (same, lying_hides xs ys h m)
