@@ -1,13 +1,15 @@
--- Computed plans of a board that has no runs, at several prices.
+-- Plans and tables, computed: of a board that has no runs at several prices, and of one with a tip that no line names.
 use Rattle.std.specs.Prelude.{ℕ, ◌≡◌, refl, List, [], ◌∷◌}
-use Rattle.model.specs.Count.{count, every, largest, lowest_at}
-use Rattle.model.specs.Plan.{has, uses, pairs, choose2}
-use Rattle.model.specs.CommonTip.{covers}
+use Rattle.model.specs.Count.{count, every, list_of, largest, lowest_at}
+use Rattle.model.specs.Plan.{has, occ, uses, pairs, choose2}
+use Rattle.model.specs.CommonTip.{covers, set_of}
 use Rattle.model.specs.Choice.{bare, tip, choice}
 use Rattle.model.specs.Greedy.{first}
+use Rattle.model.specs.Interval.{named}
 use Rattle.model.specs.Renumber.{names, rank}
 use Rattle.placements.specs.Repeated.{repeated}
 use Rattle.subsets.specs.Subsets.{tips_used, lying, gain, score_by, score, worth, pick, order, exact_tip, exact_plan_q}
+use Rattle.subsets.specs.Table.{tips_at, exact_table}
 
 -- {0,1,3}, {0,1,2,3}, {1}, {2,3} and {0,2}
 abbrev sets : List ℕ
@@ -31,3 +33,8 @@ scores : (score 0 (lying 4 (repeated qs sets)) 4 15 ≡ 15) × (score 3 (lying 4
 unfolding exact_plan_q exact_tip order pick worth score score_by gain lying choice lowest_at largest covers every count has choose2
     names first repeated pairs uses tips_used rank
 scores = (refl, refl, refl, refl)
+
+-- {0} and {0,2}: no line names tip 1, so that bit 1 of a place stands for tip 2; without a price, and at a price of 2 for each tip
+tables : (exact_table 0 3 (1 ∷ 5 ∷ []) ≡ 0 ∷ 1 ∷ 0 ∷ 2 ∷ 0 ∷ 0 ∷ 0 ∷ 1 ∷ []) × (exact_table 2 3 (1 ∷ 5 ∷ []) ≡ 0 ∷ 1 ∷ 0 ∷ 2 ∷ 0 ∷ 0 ∷ 2 ∷ 3 ∷ [])
+unfolding exact_table tips_at list_of set_of named occ rank score score_by gain lying largest covers every count has choose2
+tables = (refl, refl)
