@@ -3,22 +3,30 @@
 # make checklist        builds, then runs the checklist
 # make bench            builds, checks the hand-written C++, then times every call
 # make example          builds the C example, then runs it
+# make plan             builds everything, then plans docs/example.txt; LIST=my.txt plans yours
+# make check-light      tests what needs no Rattle toolchain: layout, clippy, the second implementation, pages, numbers
 # make install          copies all of it to PREFIX (/usr/local), below DESTDIR if that is set
-# make uninstall        removes what make install with the same PREFIX and DESTDIR has copied
+# make uninstall        removes what make install with the same PREFIX and DESTDIR has copied, and nothing else
 # make deb              makes Debian packages, in target/deb
 # make check-kicad      has Debian's KiCad write position files of its demonstration boards, and checks what parts imports
 # make clean            removes all that was built
 .DELETE_ON_ERROR:
-.PHONY: all check check-kicad checklist bench example install uninstall deb clean parts pages
+.PHONY: all check check-kicad check-light checklist bench example plan install uninstall deb clean parts pages
 
 PREFIX = /usr/local
+BINDIR = $(PREFIX)/bin
+INCLUDEDIR = $(PREFIX)/include
 LIBDIR = $(PREFIX)/lib
+MANDIR = $(PREFIX)/share/man
 # Where Debian's Python looks; others look in site-packages.
 PYTHONDIR = $(PREFIX)/lib/$(shell python3 -c 'import sys; print("python%d.%d" % sys.version_info[:2])')/dist-packages
 CC = gcc
 CFLAGS = -std=c11 -Wall -Wextra -Werror -O2
+LIST ?= docs/example.txt
 
-# The version stands in Cargo.toml; tools/numbers holds the header, the pages and the checklist to it.
+include packaging/paths.mk
+
+# The version is in Cargo.toml; tools/numbers holds the header, the pages and the checklist to it.
 version := $(shell sed -n 's/^version = "\(.*\)"/\1/p' Cargo.toml)
 soname := libtipshare.so.$(firstword $(subst ., ,$(version)))
 library := target/staticlib/libtipshare_c.a
@@ -37,17 +45,18 @@ all: $(library) $(archive) $(shared) $(tipshare) parts pages
 # rt lib proves what has changed of the crates below, one after the other, and then this one, over what earlier checks kept.
 # Without --cpu it uses instructions of x86-64-v2, which older processors lack; its verdict then names that processor.
 $(library): $(sources)
+	@command -v rt > /dev/null || { cat packaging/no-toolchain; exit 1; }
 	mkdir -p $(@D)
 	cd crates/tipshare_c && rt lib --cpu=x86-64 > ../../$(@:.a=.report) 2>&1 || { cat ../../$(@:.a=.report); exit 1; }
 	tools/no-axioms $(@:.a=.report)
 	@if grep '^logic=.* cpu=' $(@:.a=.report); then echo "the library must run on every x86-64 processor (include/tipshare.h)"; exit 1; fi
 	cp crates/tipshare_c/out/$(@F) $@
 
-# Beside the proved functions stand two that are not: the version, and the refusals in words.
+# Two functions are not proved: the version, and the refusals in words.
 target/lib/words.o: library/words.c library/words.txt include/tipshare.h
 	mkdir -p $(@D)
 	sed 's/^\([0-9]*\) \(.*\)/    case \1: return "\2";/' library/words.txt > $(@D)/words.inc
-	$(CC) $(CFLAGS) -fPIC -Iinclude -I$(@D) -c library/words.c -o $@
+	$(CC) $(CPPFLAGS) $(CFLAGS) -fPIC -Iinclude -I$(@D) -c library/words.c -o $@
 
 $(archive): $(library) target/lib/words.o
 	cp $(library) $@
@@ -55,11 +64,11 @@ $(archive): $(library) target/lib/words.o
 
 $(shared): $(archive) packaging/exports.map
 	$(CC) -shared -Wl,-soname,$(soname) -Wl,--version-script=packaging/exports.map -Wl,-z,defs -Wl,-z,relro -Wl,-z,now \
-		-Wl,--whole-archive $(archive) -Wl,--no-whole-archive -o $@
+		-Wl,--whole-archive $(archive) -Wl,--no-whole-archive $(LDFLAGS) -o $@
 	ln -sf $(@F) target/lib/$(soname)
 
 $(example): examples/c/example.c include/tipshare.h $(archive)
-	$(CC) $(CFLAGS) -Iinclude examples/c/example.c $(archive) -o $@
+	$(CC) $(CPPFLAGS) $(CFLAGS) -Iinclude examples/c/example.c $(archive) $(LDFLAGS) -o $@
 
 # The program is proved too. rt run proves and links it, and then runs it. After the library: both are over the same crates.
 $(tipshare): $(program_sources) | $(library)
@@ -68,7 +77,7 @@ $(tipshare): $(program_sources) | $(library)
 	@if grep '^logic=.* cpu=' $@.report; then echo "the program must run on every x86-64 processor"; exit 1; fi
 	cp crates/tipshare/out/$(@F) $@
 
-# Cargo itself knows what is up to date. Where it is not in the path, as under sudo make install, what it has built is taken.
+# Cargo itself knows what is up to date. If it is not in the path, as under sudo make install, what it has built is used.
 parts: $(library)
 	@if command -v cargo > /dev/null || [ ! -x $(parts) ]; then \
 		set -x; cargo build --quiet --release --offline --package parts; \
@@ -82,6 +91,14 @@ pages: parts
 check:
 	rm -rf target target-rust/tmp
 	.ci/run
+
+check-light:
+	.ci/run --light
+
+# The list is handed over as it is, whatever letters its name has.
+plan: export LIST := $(LIST)
+plan: all
+	@$(parts) plan "$$LIST"
 
 # Needs Debian's packages kicad and kicad-demos.
 check-kicad: parts
@@ -97,36 +114,13 @@ bench: all
 example: $(example)
 	$(example)
 
-to := $(DESTDIR)$(PREFIX)
-lib := $(DESTDIR)$(LIBDIR)
+where = DESTDIR='$(DESTDIR)' PREFIX='$(PREFIX)' BINDIR='$(BINDIR)' INCLUDEDIR='$(INCLUDEDIR)' LIBDIR='$(LIBDIR)' \
+	MANDIR='$(MANDIR)' PYTHONDIR='$(PYTHONDIR)'
 install: all
-	install -d $(to)/bin $(to)/include $(lib)/pkgconfig $(to)/share/man/man1 $(to)/share/man/man3 $(DESTDIR)$(PYTHONDIR)
-	install -m 755 $(tipshare) $(parts) packaging/tipshare-checklist $(to)/bin
-	install -m 644 include/tipshare.h $(to)/include
-	install -m 644 $(archive) $(lib)
-	install -m 644 $(shared) $(lib)
-	ln -sf $(notdir $(shared)) $(lib)/$(soname)
-	ln -sf $(soname) $(lib)/libtipshare.so
-	sed 's|@PREFIX@|$(abspath $(PREFIX))|; s|@LIBDIR@|$(abspath $(LIBDIR))|; s|@VERSION@|$(version)|' \
-		packaging/tipshare.pc.in > $(lib)/pkgconfig/tipshare.pc
-	chmod 644 $(lib)/pkgconfig/tipshare.pc
-	install -m 644 target/man/*.1 $(to)/share/man/man1
-	install -m 644 target/man/*.3 $(to)/share/man/man3
-	install -m 644 python/tipshare.py $(DESTDIR)$(PYTHONDIR)
-	packaging/copy-pages $(to)/share
-# Where parts completes its commands in bash, that is installed too.
-	if $(parts) completion bash > target/completion 2> /dev/null; then \
-		install -d $(to)/share/bash-completion/completions; \
-		install -m 644 target/completion $(to)/share/bash-completion/completions/parts; \
-	fi
+	$(where) packaging/install $(version) $(tipshare) $(parts) $(archive) $(shared)
 
 uninstall:
-	rm -f $(addprefix $(to)/bin/,tipshare parts tipshare-checklist) $(to)/include/tipshare.h
-	rm -f $(addprefix $(lib)/,libtipshare.a libtipshare.so $(soname) $(notdir $(shared)) pkgconfig/tipshare.pc)
-	rm -f $(addprefix $(to)/share/man/,man1/tipshare.1 man1/parts.1 man1/tipshare-checklist.1 man3/tipshare*.3)
-	rm -f $(DESTDIR)$(PYTHONDIR)/tipshare.py $(DESTDIR)$(PYTHONDIR)/__pycache__/tipshare.*.pyc
-	rm -f $(to)/share/bash-completion/completions/parts
-	rm -rf $(to)/share/tipshare $(to)/share/doc/tipshare
+	$(where) packaging/install --remove
 
 deb: all
 	packaging/deb $(version)

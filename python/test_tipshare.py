@@ -70,6 +70,18 @@ class Calls(unittest.TestCase):
             with self.assertRaises(ValueError):
                 tipshare.keep(EXAMPLE, wrong)
 
+    def test_along(self):
+        file = tipshare.job(4, [[0, 1], [1, 2], ([2, 3], 2)])
+        self.assertEqual(tipshare.along(file), ([1, 1, 2], 1, 2))
+        self.assertEqual(tipshare.along(file, mounted=0), ([0, 2, 2], 1, 3))
+        self.assertEqual(tipshare.along(file, mounted=3), ([1, 1, 2], 2, 2))
+        self.assertEqual(tipshare.along(tipshare.job(4, [])), ([], 0, 0))
+        self.refused(16, 0, tipshare.along, file, 4)
+        self.refused(6, 0, tipshare.along, b"", 4)
+        for wrong in (-1, 2**64 - 1):
+            with self.assertRaises(ValueError):
+                tipshare.along(file, wrong)
+
     def test_check(self):
         file = tipshare.job(3, [([0], 2), ([0, 1], 3), ([1, 2], 3), ([2], 2)])
         tips, pairs, table = tipshare.best(file)
@@ -92,6 +104,28 @@ class Calls(unittest.TestCase):
         self.assertEqual(tipshare.order([]), [])
         parts = [tipshare.Part(0, 3, tall=True), (0, 3), tipshare.Part(0, 3, fine=True), (0, 3)]
         self.assertEqual(tipshare.order(parts, [(3, 1)]), [2, 3, 1, 0])
+
+    def test_windows(self):
+        self.assertEqual(tipshare.windows([]), [])
+        parts = [tipshare.Part(0, 3, tall=True), (0, 3), tipshare.Part(0, 3, fine=True), (0, 3)]
+        self.assertEqual(tipshare.windows(parts), [(3, 3), (1, 2), (0, 0), (1, 2)])
+        self.assertEqual(tipshare.windows(parts, [(3, 1)]), [(3, 3), (2, 2), (0, 0), (1, 1)])
+        self.refused(12, 1, tipshare.windows, [(0, 1), (1, 2)])
+        self.refused(13, 0, tipshare.windows, [(0, 1), (0, 1)], [(1, 1)])
+        self.refused(29, 0, tipshare.windows, [(0, 1), (0, 1)], [(0, 1), (1, 0)])
+
+    def test_order_by_tips(self):
+        self.assertEqual(tipshare.order_by_tips([], []), ([], 0))
+        self.assertEqual(tipshare.order_by_tips([(0, 2)] * 3, [5, 7, 5]), ([0, 2, 1], 1))
+        self.assertEqual(tipshare.order_by_tips([(0, 2)] * 3, [5, 7, 5], mounted=7), ([1, 0, 2], 1))
+        self.assertEqual(tipshare.order_by_tips([(0, 2)] * 3, [5, 7, 5], [(1, 0)], 5), ([2, 1, 0], 2))
+        self.refused(4, 0, tipshare.order_by_tips, [(0, 1), (0, 1)], [5])
+        self.refused(3, 1, tipshare.order_by_tips, [(0, 1), (0, 1)], [5, 64])
+        self.refused(16, 0, tipshare.order_by_tips, [(0, 1), (0, 1)], [5, 63], (), 64)
+        self.refused(29, 0, tipshare.order_by_tips, [(0, 1), (0, 1)], [5, 63], [(0, 1), (1, 0)])
+        for wrong in ([256, 0], [-1, 0]):
+            with self.assertRaises(ValueError):
+                tipshare.order_by_tips([(0, 1), (0, 1)], wrong)
 
     def test_plan(self):
         plan = tipshare.plan([("A", {0, 2}), ("B", {1}), ("C", range(2))])

@@ -20,8 +20,9 @@ import pathlib
 
 __version__ = "2.0.0"
 __all__ = [
-    "Refused", "Plan", "Part", "plan", "job", "read", "common", "keep", "goal", "quick", "best", "check", "junior",
-    "merge", "alone", "mend", "order", "report", "words", "version",
+    "Refused", "Plan", "Part", "plan", "job", "read", "common", "keep", "goal", "quick", "best", "along", "check",
+    "junior", "merge", "alone", "mend", "order", "windows", "order_by_tips",
+    "report", "words", "version",
 ]
 
 MOST_TIPS = 64
@@ -80,8 +81,9 @@ def _load():
     before = {
         "read": lent, "common": lent, "keep": lent + [ctypes.c_uint16] + lent, "goal": lent + [number] + lent,
         "quick": lent + [size] + lent, "best": lent + [size] + lent + lent,
-        "check": lent + lent + [number] + lent, "junior": lent + lent, "merge": lent + lent + lent,
+        "along": lent + [size] + lent, "check": lent + lent + [number] + lent, "junior": lent + lent, "merge": lent + lent + lent,
         "alone": lent + lent + lent, "mend": lent + lent + lent, "order": lent + lent + lent,
+        "windows": lent + lent + lent + lent, "order_by_tips": lent + lent + lent + [size] + lent,
     }
     for call, types in before.items():
         function = getattr(library, f"tipshare_{call}")
@@ -94,12 +96,12 @@ _library = _load()
 
 
 def _lent(kind, count):
-    """An array of so many places; never without a place, so that its address is good."""
+    """An array with this many places, at least one, so that its address is good."""
     return (kind * max(count, 1))()
 
 
 def _given(data):
-    """Bytes to be read, with their number. They are copied, for a call may not see them change."""
+    """Bytes to be read, with their number. They are copied, because they may not change during a call."""
     if isinstance(data, int):
         # bytes(5) would be five zeros.
         raise TypeError(f"{data} is a number and no bytes; give the bytes of a job file, as job() makes them")
@@ -116,7 +118,7 @@ def _in_range(what, value, most):
 
 
 def _mounted(tip):
-    # The number that stands for no tip in C is no tip here.
+    # C's number for no tip is no tip here.
     return _NO_TIP if tip is None else _in_range("the mounted tip", tip, _NO_TIP - 1)
 
 
@@ -160,7 +162,7 @@ def read(file):
 
 
 def common(file):
-    """The most placements that one tip can take, the least number off it, and the tips that can take so many."""
+    """The most placements that one tip can take, the least number off it, and the tips that can take that many."""
     answer = _call("common", *_given(file))
     return answer[1], answer[2], [tip for tip in range(MOST_TIPS) if answer[3] >> tip & 1]
 
@@ -173,7 +175,7 @@ def keep(file, k):
 
 
 def goal(file, pairs):
-    """The job file without the tips that no plan with so many pairs uses."""
+    """The job file without the tips that no plan with at least this many pairs uses."""
     out = _lent(ctypes.c_uint8, LONGEST_FILE)
     answer = _call("goal", *_given(file), _in_range("the goal", pairs, 2**32 - 1), out, len(out))
     return bytes(out[: answer[1]])
@@ -192,6 +194,13 @@ def best(file, mounted=None):
     table = _lent(ctypes.c_uint32, rack * rack)
     answer = _call("best", *_given(file), _mounted(mounted), plan_, len(plan_), table, len(table))
     return list(plan_[:count]), answer[1], list(table)
+
+
+def along(file, mounted=None):
+    """The tip of each line in the plan with the fewest tip changes along the list, its changes, and its pairs."""
+    plan_, count = _lent(ctypes.c_uint8, MOST_LINES), read(file)[1]
+    answer = _call("along", *_given(file), _mounted(mounted), plan_, len(plan_))
+    return list(plan_[:count]), answer[1], answer[2]
 
 
 def check(file, tips, claim, table):
@@ -232,8 +241,8 @@ def mend(file):
     return bytes(out[: answer[1]]), changes
 
 
-def order(parts, rules=()):
-    """The order in which parts are placed: a Part, or first, last, fine and tall, for each; rules are pairs of parts."""
+def _placing(parts, rules):
+    """Parts and rules as the header has them, with the number of each."""
     most = 2**32 - 1
     numbers = [_in_range("a number of a part", int(value), most) for part in parts for value in Part(*part)]
     pairs = [_in_range("a part of a rule", value, most) for earlier, later in rules for value in (earlier, later)]
@@ -242,9 +251,28 @@ def order(parts, rules=()):
         array = _lent(ctypes.c_uint32, len(values))
         array[: len(values)] = values
         lent += [array, len(values)]
+    return lent
+
+
+def order(parts, rules=()):
+    """The order in which parts are placed: a Part, or first, last, fine and tall, for each; rules are pairs of parts."""
     placed = _lent(ctypes.c_uint8, MOST_PARTS)
-    answer = _call("order", *lent, placed, len(placed))
+    answer = _call("order", *_placing(parts, rules), placed, len(placed))
     return list(placed[: answer[1]])
+
+
+def windows(parts, rules=()):
+    """For each part the first and the last position that it has in any order that obeys."""
+    first, last = _lent(ctypes.c_uint8, MOST_PARTS), _lent(ctypes.c_uint8, MOST_PARTS)
+    answer = _call("windows", *_placing(parts, rules), first, len(first), last, len(last))
+    return list(zip(first[: answer[1]], last[: answer[1]]))
+
+
+def order_by_tips(parts, tips, rules=(), mounted=None):
+    """The order in which parts are placed, on one tip as long as it can be, given the tip of each part; and its tip changes."""
+    placed = _lent(ctypes.c_uint8, MOST_PARTS)
+    answer = _call("order_by_tips", *_placing(parts, rules), *_given(tips), _mounted(mounted), placed, len(placed))
+    return list(placed[: answer[1]]), answer[2]
 
 
 def report(file):

@@ -11,6 +11,7 @@ const FUNCTIONS = [
   ["goal", "buffer number buffer buffer"],
   ["quick", "buffer big buffer buffer"],
   ["best", "buffer big buffer buffer buffer"],
+  ["along", "buffer big buffer buffer"],
   ["check", "buffer buffer number buffer buffer"],
   ["junior", "buffer buffer buffer"],
   ["merge", "buffer buffer buffer buffer"],
@@ -18,6 +19,8 @@ const FUNCTIONS = [
   ["mend", "buffer buffer buffer buffer"],
   ["report", "buffer buffer"],
   ["order", "buffer buffer buffer buffer"],
+  ["windows", "buffer buffer buffer buffer buffer"],
+  ["order_by_tips", "buffer buffer buffer big buffer buffer"],
 ].map(([name, parameters]) => ({ name, parameters: parameters.split(" "), calls: 0 }));
 const END = 255;
 

@@ -20,6 +20,7 @@ pub enum Call {
     Goal { goal: u32, out: usize, answer: usize },
     Quick { mounted: usize, plan: usize, answer: usize },
     Best { mounted: usize, plan: usize, table: usize, answer: usize },
+    Along { mounted: usize, plan: usize, answer: usize },
     Check { claim: u32, plan: usize, table: usize, answer: usize },
     Junior { plan: usize, answer: usize },
     Merge { out: usize, answer: usize },
@@ -29,8 +30,8 @@ pub enum Call {
 }
 
 /// The names of the calls, in the order of their columns.
-pub const CALL_NAMES: [&str; 12] =
-    ["read", "common", "keep", "goal", "quick", "best", "check", "junior", "merge", "alone", "mend", "report"];
+pub const CALL_NAMES: [&str; 13] =
+    ["read", "common", "keep", "goal", "quick", "best", "along", "check", "junior", "merge", "alone", "mend", "report"];
 
 impl Call {
     /// Where the call stands among the names.
@@ -42,12 +43,13 @@ impl Call {
             Call::Goal { .. } => 3,
             Call::Quick { .. } => 4,
             Call::Best { .. } => 5,
-            Call::Check { .. } => 6,
-            Call::Junior { .. } => 7,
-            Call::Merge { .. } => 8,
-            Call::Alone { .. } => 9,
-            Call::Mend { .. } => 10,
-            Call::Report { .. } => 11,
+            Call::Along { .. } => 6,
+            Call::Check { .. } => 7,
+            Call::Junior { .. } => 8,
+            Call::Merge { .. } => 9,
+            Call::Alone { .. } => 10,
+            Call::Mend { .. } => 11,
+            Call::Report { .. } => 12,
         }
     }
 }
@@ -61,6 +63,12 @@ pub struct Lent<T> {
 }
 
 impl<T: Copy> Lent<T> {
+    /// A buffer with nothing around it.
+    pub(crate) fn of(cells: Vec<T>) -> Lent<T> {
+        let length = cells.len();
+        Lent { cells, start: 0, length }
+    }
+
     pub(crate) fn junk<const N: usize>(random: &mut Random, length: usize, cells: fn(u64) -> [T; N]) -> Lent<T> {
         let start = GUARD + random.below(16);
         let mut junk = Vec::with_capacity(start + length + GUARD + N);
@@ -115,7 +123,8 @@ impl Buffers {
         let (bytes, table, answer) = match *call {
             Call::Read { answer } | Call::Common { answer } => (0, 0, answer),
             Call::Keep { out, answer, .. } | Call::Goal { out, answer, .. } => (out, 0, answer),
-            Call::Quick { plan, answer, .. } | Call::Junior { plan, answer } => (plan, 0, answer),
+            Call::Quick { plan, answer, .. } | Call::Along { plan, answer, .. } => (plan, 0, answer),
+            Call::Junior { plan, answer } => (plan, 0, answer),
             Call::Best { plan, table, answer, .. } | Call::Check { plan, table, answer, .. } => (plan, table, answer),
             Call::Merge { out, answer } => (out, 0, answer),
             Call::Alone { plan, answer } => (plan, 0, answer),
@@ -155,6 +164,7 @@ macro_rules! made_by {
             Call::Goal { goal, .. } => $module::goal(file, goal, bytes, answer).into(),
             Call::Quick { mounted, .. } => $module::quick(file, mounted, bytes, answer).into(),
             Call::Best { mounted, .. } => $module::best(file, mounted, bytes, table, answer).into(),
+            Call::Along { mounted, .. } => $module::along(file, mounted, bytes, answer).into(),
             Call::Check { claim, .. } => $module::check(file, bytes, claim, table, answer).into(),
             Call::Junior { .. } => $module::junior(file, bytes, answer).into(),
             Call::Merge { .. } => $module::merge(file, other, bytes, answer).into(),

@@ -6,6 +6,7 @@
 use crate::check::Caller;
 use crate::sought;
 
+mod along;
 mod best;
 mod changes;
 mod checking;
@@ -40,7 +41,7 @@ pub fn mistakes() -> impl Iterator<Item = &'static Mistake> {
         reading::OF_VERSIONS,
     ];
     let of_tips = [best::OF_NAMED_TIPS, mounted::OF_REFUSED_MOUNTED_TIPS, mounted::OF_MOUNTED_TIPS];
-    let of_later_calls = [goal::OF_GOALS, junior::OF_JUNIOR];
+    let of_later_calls = [goal::OF_GOALS, junior::OF_JUNIOR, along::OF_ALONG];
     let of_checks = [checking::OF_CHECKED_PLANS, checking::OF_CHECKED_TABLES, checking::OF_ORDER_IN_CHECKS];
     of_calls.into_iter().chain(of_quantities).chain(of_tips).chain(of_checks).chain(of_later_calls).flatten()
 }

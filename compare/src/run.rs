@@ -19,10 +19,13 @@ use crate::record::Record;
 use crate::sought::{all_found, look, Sought};
 use crate::tally::{Event, Tally, SHORT_REPORT};
 
+mod along;
 mod goal;
 mod junior;
 mod mending;
 mod panels;
+
+pub use along::changes_in;
 
 /// Boards with at most this many plans are solved by trying every plan.
 const MOST_PLANS_TRIED: u64 = 1000;
@@ -160,6 +163,7 @@ impl Run {
         self.each_check(board, file, turn)?;
         self.each_goal(board, file)?;
         self.each_junior(board, file)?;
+        self.each_along(board, file)?;
         self.try_plans(board, file)?;
         let is_short = file.len() < 100;
         // Every cut of a short file, and some of a long one.
@@ -367,6 +371,7 @@ impl Run {
 
         self.goals(board, file, &best)?;
         self.juniors(board, file, &quick)?;
+        self.alongs(board, file, &quick)?;
 
         let any = self.random.below(100);
         let out = self.random.one_of(&[REPORT_SPACE, REPORT_SPACE, REPORT_SPACE + any, REPORT_SPACE - 1, any]);
@@ -403,6 +408,8 @@ impl Run {
         self.case(file, Call::Check { claim, plan, table, answer })?;
         let (plan, answer) = (self.length_around(count), self.answer_length());
         self.case(file, Call::Junior { plan, answer })?;
+        let (mounted, plan, answer) = (self.mounted_number(rack), self.length_around(count), self.answer_length());
+        self.case(file, Call::Along { mounted, plan, answer })?;
         let out = self.random.one_of(&[REPORT_SPACE, REPORT_SPACE, REPORT_SPACE, REPORT_SPACE - 1]);
         self.case(file, Call::Report { out })?;
         Ok(())
@@ -712,6 +719,18 @@ fn against_every_plan(board: &Board) -> Result<(), String> {
     };
     if board.rack <= JUNIOR_TIPS && count <= JUNIOR_LINES && !right {
         return Err(format!("junior {plan:?} with {pairs} pairs on {tips:?}, every plan {tried:?}"));
+    }
+    for mounted in [None].into_iter().chain((0..board.rack).map(Some)) {
+        let mut plan = vec![0; count];
+        let along = board.clone().along(mounted, &mut plan).value;
+        let changes = changes_in(&plan, mounted);
+        if !is_own_plan(board, &plan)
+            || pairs_in(&board.placed(&plan)) != along.pairs
+            || along.changes as usize != changes
+            || changes != tried.least_changes(mounted)
+        {
+            return Err(format!("along {plan:?} with {along:?}, {mounted:?}, every plan {tried:?}"));
+        }
     }
     // Both rules, whichever tip is mounted.
     for mounted in [None].into_iter().chain((0..board.rack).map(Some)) {

@@ -85,6 +85,15 @@ pub enum Event {
     JuniorManyLinesAndRack,
     JuniorRackAndShortPlan,
     JuniorShortPlanAndNoTips,
+    AlongOnOneTip,
+    AlongManyChanges,
+    AlongFewerThanQuick,
+    AlongFewerPairs,
+    AlongSeveralTips,
+    AlongByMounted,
+    AlongChangeBefore,
+    AlongMountedNotNamed,
+    AlongMountedAndShortPlan,
     FirstBoardBad,
     SecondBoardBad,
     BothBoardsBad,
@@ -120,7 +129,7 @@ pub enum Event {
     ShortReportAlone,
 }
 
-const EVENTS: [(Event, &str); 104] = [
+const EVENTS: [(Event, &str); 113] = [
     (Event::RackOf1, "boards with rack 1"),
     (Event::RackOf64, "boards with rack 64"),
     (Event::NoLines, "boards without lines"),
@@ -192,6 +201,15 @@ const EVENTS: [(Event, &str); 104] = [
     (Event::JuniorManyLinesAndRack, "junior with too many lines, and too large a rack"),
     (Event::JuniorRackAndShortPlan, "junior with too large a rack, and a short plan"),
     (Event::JuniorShortPlanAndNoTips, "junior with a short plan, and lines that no two tips serve"),
+    (Event::AlongOnOneTip, "along with several lines and no change"),
+    (Event::AlongManyChanges, "along with more than 255 changes"),
+    (Event::AlongFewerThanQuick, "along with fewer changes than quick"),
+    (Event::AlongFewerPairs, "along with fewer pairs than quick"),
+    (Event::AlongSeveralTips, "along with several tips for a segment"),
+    (Event::AlongByMounted, "along with a mounted tip, which changes the plan"),
+    (Event::AlongChangeBefore, "along with a mounted tip that does not suit the first line"),
+    (Event::AlongMountedNotNamed, "along with a mounted tip that no line names"),
+    (Event::AlongMountedAndShortPlan, "along with a mounted tip outside the rack, and a short plan"),
     (Event::FirstBoardBad, "two boards, the first refused and the second good"),
     (Event::SecondBoardBad, "two boards, the first good and the second refused"),
     (Event::BothBoardsBad, "two boards, both refused, with different numbers"),
@@ -289,6 +307,7 @@ fn needed(column: usize) -> Vec<u32> {
         "goal" => &[11, 25, 34, 100],
         "quick" => &[4, 16, 100],
         "best" => &[4, 5, 16, 25, 100],
+        "along" => &[4, 16, 100],
         "check" => &[4, 5, 19, 20, 25, 33, 100],
         "junior" => &[4, 24, 31, 100],
         "merge" => &[11, 17, 24, 100],
@@ -347,10 +366,10 @@ mod tests {
     fn what_never_occurred_is_missing() {
         let mut tally = Tally::default();
         let all = tally.missing().len();
-        // 0 and reading's 10 for 11 calls, 100 for 10, the short report; keep's 11, 26, quick's 4, 16, best's 4, 5, 16, 25,
-        // the check's 4, 5, 19, 20, 25, 33, the goal's 11, 25, 34, the Junior's 4, 24, 31, merge's 11, 17, 24, alone's 4;
-        // mend's 0, 1, 6, 7, 8, 11, 100.
-        assert_eq!(all, 11 * 11 + 10 + 1 + 8 + 6 + 3 + 3 + 4 + 7 + EVENTS.len());
+        // 0 and reading's 10 for 12 calls, 100 for 11, the short report; keep's 11, 26, quick's 4, 16, best's 4, 5, 16, 25,
+        // along's 4, 16, the check's 4, 5, 19, 20, 25, 33, the goal's 11, 25, 34, the Junior's 4, 24, 31, merge's 11, 17, 24,
+        // alone's 4; mend's 0, 1, 6, 7, 8, 11, 100.
+        assert_eq!(all, 12 * 11 + 11 + 1 + 8 + 2 + 6 + 3 + 3 + 4 + 7 + EVENTS.len());
         tally.count_call(25, 5);
         tally.count_event(Event::NoLines);
         assert_eq!(tally.missing().len(), all - 2);

@@ -18,8 +18,8 @@
 //! ```
 //!
 //! The crate links `target/staticlib/libtipshare_c.a` of this repository, which `make` proves and builds, or the file that
-//! the environment variable `TIPSHARE_LIB` names, as the `libtipshare.a` of an installation. It is for x86-64 Linux. What
-//! stands between a caller and that library, this file, is not proved.
+//! the environment variable `TIPSHARE_LIB` names, as the `libtipshare.a` of an installation. It is for x86-64 Linux. This
+//! file, which is between a caller and that library, is not proved.
 
 use std::fmt;
 
@@ -30,27 +30,27 @@ const WORDS: &str = include_str!("../words.txt");
 
 /// The places of an answer.
 pub const ANSWER_PLACES: usize = 4;
-/// The bytes that a report needs lent.
+/// The bytes that the buffer of a report needs.
 pub const REPORT_SPACE: usize = 16_384;
 /// The largest rack that is planned for the Junior.
 pub const JUNIOR_TIPS: usize = 8;
 /// The most lines that are planned for the Junior.
 pub const JUNIOR_LINES: usize = 64;
-/// The longest good job file: an output of keep, goal, merge or mend that always does.
+/// The longest good job file: an output of keep, goal, merge or mend that is always enough.
 pub const LONGEST_FILE: usize = 4_616;
-/// The longest report of a mending: one that always does.
+/// The longest report of a mending: a buffer that is always enough.
 pub const LONGEST_CHANGES: usize = 3_081;
-/// The mounted tip of the functions of the header where there is none.
+/// The mounted tip of the header's functions for no tip.
 pub const NO_TIP: usize = usize::MAX;
-/// The most parts to order: an order buffer that always does.
+/// The most parts to order: an order buffer, or one of positions, that is always enough.
 pub const MOST_PARTS: usize = 128;
 
 /// Why a call was refused.
 #[derive(Clone, Copy, PartialEq, Eq, Debug)]
 pub struct Refusal {
     pub number: u32,
-    /// The line that it is about, for 2, 3, 15, 25 and 30, the part for 12 and the rule for 13. Of two files it does not
-    /// tell which; 0 for the 30 of a panel.
+    /// The line that it is about, for 2, 3, 15, 25 and 30, the part for 12, and for 3 of an order by tips, and the rule for
+    /// 13. It does not say which of two files is meant; 0 for the 30 of a panel.
     pub line: u64,
     /// How far the bound is missed, for 26.
     pub margin: i64,
@@ -92,9 +92,8 @@ pub fn words(number: u32) -> &'static str {
     row.map_or("unknown number", |(_, words)| words)
 }
 
-/// The job file of lines, each a set of tips, bit t for tip t, and a quantity: of version 1 where every quantity is 1,
-/// else of version 2. Nothing is checked, so that the calls may refuse it; more than 512 lines, whatever their number,
-/// are refused.
+/// The job file of lines, each a set of tips, bit t for tip t, and a quantity: of version 1 if every quantity is 1, else
+/// of version 2. Nothing is checked here: the calls refuse what is wrong, more than 512 lines among it.
 ///
 /// ```
 /// let file = tipshare::job_file(3, &[(0b001, 1), (0b110, 1)]);
@@ -144,7 +143,7 @@ pub struct Kept {
     pub bytes: u64,
 }
 
-/// A plan of the Junior: its pairs of placements, and its two tips, which are equal where one serves every line.
+/// A plan of the Junior: its pairs of placements, and its two tips, which are equal if one serves every line.
 #[derive(Clone, Copy, PartialEq, Eq, Debug)]
 pub struct Junior {
     pub pairs: u64,
@@ -185,7 +184,7 @@ pub fn common(file: &[u8]) -> Result<CommonTip, Refusal> {
     Ok(CommonTip { top: answer[1], off: answer[2], tips: answer[3] })
 }
 
-/// Keeps within k and writes the kept board to out, as version 1 where every quantity is 1.
+/// Keeps within k and writes the kept board to out, as version 1 if every quantity is 1.
 ///
 /// ```
 /// let file = tipshare::job_file(3, &[(0b001, 1), (0b011, 1), (0b110, 1), (0b010, 1)]);
@@ -201,8 +200,8 @@ pub fn keep(file: &[u8], k: u16, out: &mut [u8]) -> Result<Kept, Refusal> {
     Ok(Kept { margin: answer[1] as i64, bytes: answer[2] })
 }
 
-/// Keeps, of lines that are runs, the tips that some plan with so many pairs uses, and writes the kept board to out, as
-/// version 1 where every quantity is 1; gives the number of bytes written.
+/// Strikes from lines that are runs the tips that no plan with at least this many pairs uses, and writes what is left to
+/// out, as version 1 if every quantity is 1; returns the number of bytes written.
 ///
 /// ```
 /// let file = tipshare::job_file(2, &[(0b01, 1), (0b11, 1)]);
@@ -215,12 +214,12 @@ pub fn goal(file: &[u8], goal: u32, out: &mut [u8]) -> Result<u64, Refusal> {
     Ok(answer_of(|answer| on_slices::goal(file, goal, out, answer))?[1])
 }
 
-/// The mounted tip as the header has it; the number that stands for none there is no tip here.
+/// The mounted tip as the header has it; the header's number for none is no tip here.
 fn number_of(mounted: Option<usize>) -> usize {
     mounted.map_or(NO_TIP, |tip| tip.min(NO_TIP - 1))
 }
 
-/// Plans by rounds, with the mounted tip first on a tie; gives the number of pairs of placements.
+/// Plans by rounds, with the mounted tip first on a tie; returns the number of pairs of placements.
 ///
 /// ```
 /// let file = tipshare::job_file(3, &[(0b001, 1), (0b110, 1)]);
@@ -233,7 +232,7 @@ pub fn quick(file: &[u8], mounted: Option<usize>, plan: &mut [u8]) -> Result<u64
 }
 
 /// Plans lines that are runs of the tips which some line has, with the most pairs of placements, and with the mounted tip
-/// first on a tie; gives the number of pairs.
+/// first on a tie; returns the number of pairs.
 ///
 /// ```
 /// let file = tipshare::job_file(3, &[(0b001, 2), (0b011, 3), (0b110, 3), (0b100, 2)]);
@@ -243,6 +242,30 @@ pub fn quick(file: &[u8], mounted: Option<usize>, plan: &mut [u8]) -> Result<u64
 /// ```
 pub fn best(file: &[u8], mounted: Option<usize>, plan: &mut [u8], table: &mut [u32]) -> Result<u64, Refusal> {
     Ok(answer_of(|answer| on_slices::best(file, number_of(mounted), plan, table, answer))?[1])
+}
+
+/// A plan along the list: its tip changes, with the one before the first line, and its pairs of placements.
+#[derive(Clone, Copy, PartialEq, Eq, Debug)]
+pub struct Along {
+    pub changes: u64,
+    pub pairs: u64,
+}
+
+/// Plans the lines in the order of the list, with the fewest tip changes.
+///
+/// ```
+/// let file = tipshare::job_file(4, &[(0b0011, 1), (0b0110, 1), (0b1100, 1)]);
+/// let mut plan = [0; 3];
+/// // Tip 1 serves the first two lines, and no tip serves all three.
+/// assert_eq!(tipshare::along(&file, None, &mut plan), Ok(tipshare::Along { changes: 1, pairs: 1 }));
+/// assert_eq!(plan, [1, 1, 2]);
+/// // Tip 0 is on the head, and serves the first line alone.
+/// assert_eq!(tipshare::along(&file, Some(0), &mut plan), Ok(tipshare::Along { changes: 1, pairs: 1 }));
+/// assert_eq!(plan, [0, 2, 2]);
+/// ```
+pub fn along(file: &[u8], mounted: Option<usize>, plan: &mut [u8]) -> Result<Along, Refusal> {
+    let answer = answer_of(|answer| on_slices::along(file, number_of(mounted), plan, answer))?;
+    Ok(Along { changes: answer[1], pairs: answer[2] })
 }
 
 /// Checks a plan from other software, with its claimed pairs and its table, for lines that are runs; what is accepted has
@@ -258,7 +281,7 @@ pub fn check(file: &[u8], plan: &[u8], claim: u32, table: &[u32]) -> Result<(), 
     Ok(())
 }
 
-/// Plans for the Junior, with one tip or two and the most pairs of placements of all such plans.
+/// Plans for the Junior, with one tip or two; no plan on one tip or two has more pairs of placements.
 ///
 /// ```
 /// let file = tipshare::job_file(3, &[(0b100, 1), (0b110, 1)]);
@@ -271,7 +294,7 @@ pub fn junior(file: &[u8], plan: &mut [u8]) -> Result<Junior, Refusal> {
 }
 
 /// Merges two boards of one rack and writes the panel to out, the lines of the first and then those of the second, as
-/// version 1 where every quantity is 1; gives the number of bytes.
+/// version 1 if every quantity is 1; returns the number of bytes.
 ///
 /// ```
 /// let file = tipshare::job_file(3, &[(0b001, 1)]);
@@ -283,8 +306,8 @@ pub fn merge(first: &[u8], second: &[u8], out: &mut [u8]) -> Result<u64, Refusal
     Ok(answer_of(|answer| on_slices::merge(first, second, out, answer))?[1])
 }
 
-/// Plans each of two boards alone by rounds; gives the pairs of placements in both plans, the second of which stands in
-/// the buffer behind the first.
+/// Plans each of two boards alone by rounds, the second plan after the first in the buffer; returns the pairs of placements
+/// of both.
 ///
 /// ```
 /// let (first, second) = (tipshare::job_file(3, &[(0b001, 2)]), tipshare::job_file(5, &[(0b10000, 1)]));
@@ -304,7 +327,7 @@ pub struct Mended {
     pub report: u64,
 }
 
-/// Mends a file whose first 8 bytes are good but for the count: writes a good file to out, and to the report three bytes
+/// Mends a file whose first 8 bytes are good, except for the count: writes a good file to out, and to the report three bytes
 /// for each change.
 ///
 /// ```
@@ -321,6 +344,13 @@ pub fn mend(file: &[u8], out: &mut [u8], report: &mut [u8]) -> Result<Mended, Re
     Ok(Mended { file: answer[1], report: answer[2] })
 }
 
+/// Parts and rules as the header has them: 4 numbers a part, and 2 a rule.
+fn numbers_of(parts: &[Part], rules: &[(u32, u32)]) -> (Vec<u32>, Vec<u32>) {
+    let of_part = |part: &Part| [part.first, part.last, part.fine.into(), part.tall.into()];
+    let of_rule = |&(earlier, later): &(u32, u32)| [earlier, later];
+    (parts.iter().flat_map(of_part).collect(), rules.iter().flat_map(of_rule).collect())
+}
+
 /// The order in which parts are placed: fine ones first, tall ones last, each within its positions, and of each rule's two
 /// parts the first before the second; of all such orders the least. A tall part's fine flag is ignored. Gives the number of
 /// parts.
@@ -334,10 +364,54 @@ pub fn mend(file: &[u8], out: &mut [u8], report: &mut [u8]) -> Result<Mended, Re
 /// assert_eq!(order, [2, 1, 0]);
 /// ```
 pub fn order(parts: &[Part], rules: &[(u32, u32)], order: &mut [u8]) -> Result<u64, Refusal> {
-    let of_part = |part: &Part| [part.first, part.last, part.fine.into(), part.tall.into()];
-    let parts: Vec<u32> = parts.iter().flat_map(of_part).collect();
-    let rules: Vec<u32> = rules.iter().flat_map(|&(earlier, later)| [earlier, later]).collect();
+    let (parts, rules) = numbers_of(parts, rules);
     Ok(answer_of(|answer| on_slices::order(&parts, &rules, order, answer))?[1])
+}
+
+/// Finds the first and the last position that each part has in any order that obeys positions, flags and rules as
+/// [`order()`] does, and writes one byte a part to each buffer; gives the number of parts.
+///
+/// ```
+/// let part = tipshare::Part { first: 0, last: 2, fine: false, tall: false };
+/// let (mut first, mut last) = ([0; 3], [0; 3]);
+/// // Part 2 goes before part 1.
+/// assert_eq!(tipshare::windows(&[part; 3], &[(2, 1)], &mut first, &mut last), Ok(3));
+/// assert_eq!((first, last), ([0, 1, 0], [2, 2, 1]));
+/// ```
+pub fn windows(parts: &[Part], rules: &[(u32, u32)], first: &mut [u8], last: &mut [u8]) -> Result<u64, Refusal> {
+    let (parts, rules) = numbers_of(parts, rules);
+    Ok(answer_of(|answer| on_slices::windows(&parts, &rules, first, last, answer))?[1])
+}
+
+/// The number of parts of an order by tips, and its tip changes, with the one before the first part.
+#[derive(Clone, Copy, PartialEq, Eq, Debug)]
+pub struct OrderedByTips {
+    pub parts: u64,
+    pub changes: u64,
+}
+
+/// The order in which parts are placed as [`order()`] has it, but a part on the tip of the part before it comes first where
+/// it can, and at position 0 one on the mounted tip. The plan has the tip of each part, 0 to 63.
+///
+/// ```
+/// let part = tipshare::Part { first: 0, last: 2, fine: false, tall: false };
+/// let mut order = [0; 3];
+/// // Parts 0 and 2 are on tip 5, and part 1 on tip 7.
+/// let ordered = tipshare::order_by_tips(&[part; 3], &[], &[5, 7, 5], None, &mut order);
+/// assert_eq!(ordered, Ok(tipshare::OrderedByTips { parts: 3, changes: 1 }));
+/// assert_eq!(order, [0, 2, 1]);
+/// ```
+pub fn order_by_tips(
+    parts: &[Part],
+    rules: &[(u32, u32)],
+    plan: &[u8],
+    mounted: Option<usize>,
+    order: &mut [u8],
+) -> Result<OrderedByTips, Refusal> {
+    let (parts, rules) = numbers_of(parts, rules);
+    let mounted = number_of(mounted);
+    let answer = answer_of(|answer| on_slices::order_by_tips(&parts, &rules, plan, mounted, order, answer))?;
+    Ok(OrderedByTips { parts: answer[1], changes: answer[2] })
 }
 
 /// The report for a file.
@@ -418,6 +492,20 @@ pub mod on_slices {
                 plan.len() as u64,
                 table.as_mut_ptr(),
                 table.len() as u64,
+                answer.as_mut_ptr(),
+                answer.len() as u64,
+            )
+        }
+    }
+
+    pub fn along(file: &[u8], mounted: usize, plan: &mut [u8], answer: &mut [u64]) -> u32 {
+        unsafe {
+            declared::tipshare_along(
+                file.as_ptr(),
+                file.len() as u64,
+                of_tip(mounted),
+                plan.as_mut_ptr(),
+                plan.len() as u64,
                 answer.as_mut_ptr(),
                 answer.len() as u64,
             )
@@ -513,6 +601,48 @@ pub mod on_slices {
         }
     }
 
+    pub fn windows(parts: &[u32], rules: &[u32], first: &mut [u8], last: &mut [u8], answer: &mut [u64]) -> u32 {
+        unsafe {
+            declared::tipshare_windows(
+                parts.as_ptr(),
+                parts.len() as u64,
+                rules.as_ptr(),
+                rules.len() as u64,
+                first.as_mut_ptr(),
+                first.len() as u64,
+                last.as_mut_ptr(),
+                last.len() as u64,
+                answer.as_mut_ptr(),
+                answer.len() as u64,
+            )
+        }
+    }
+
+    pub fn order_by_tips(
+        parts: &[u32],
+        rules: &[u32],
+        plan: &[u8],
+        mounted: usize,
+        order: &mut [u8],
+        answer: &mut [u64],
+    ) -> u32 {
+        unsafe {
+            declared::tipshare_order_by_tips(
+                parts.as_ptr(),
+                parts.len() as u64,
+                rules.as_ptr(),
+                rules.len() as u64,
+                plan.as_ptr(),
+                plan.len() as u64,
+                of_tip(mounted),
+                order.as_mut_ptr(),
+                order.len() as u64,
+                answer.as_mut_ptr(),
+                answer.len() as u64,
+            )
+        }
+    }
+
     pub fn report(file: &[u8], out: &mut [u8]) -> usize {
         unsafe {
             declared::tipshare_report(file.as_ptr(), file.len() as u64, out.as_mut_ptr(), out.len() as u64) as usize
@@ -575,6 +705,15 @@ mod declared {
             answer: *mut u64,
             answer_len: Size,
         ) -> u32;
+        pub fn tipshare_along(
+            file: *const u8,
+            file_len: Size,
+            mounted: Size,
+            plan: *mut u8,
+            plan_len: Size,
+            answer: *mut u64,
+            answer_len: Size,
+        ) -> u32;
         pub fn tipshare_check(
             file: *const u8,
             file_len: Size,
@@ -629,6 +768,31 @@ mod declared {
             parts_len: Size,
             rules: *const u32,
             rules_len: Size,
+            order: *mut u8,
+            order_len: Size,
+            answer: *mut u64,
+            answer_len: Size,
+        ) -> u32;
+        pub fn tipshare_windows(
+            parts: *const u32,
+            parts_len: Size,
+            rules: *const u32,
+            rules_len: Size,
+            first: *mut u8,
+            first_len: Size,
+            last: *mut u8,
+            last_len: Size,
+            answer: *mut u64,
+            answer_len: Size,
+        ) -> u32;
+        pub fn tipshare_order_by_tips(
+            parts: *const u32,
+            parts_len: Size,
+            rules: *const u32,
+            rules_len: Size,
+            plan: *const u8,
+            plan_len: Size,
+            mounted: Size,
             order: *mut u8,
             order_len: Size,
             answer: *mut u64,

@@ -1,8 +1,8 @@
 //! The linked library through its safe form.
 
 use tipshare::{
-    alone, best, check, common, goal, junior, keep, mend, merge, quick, read, report, CommonTip, Job, Junior, Kept,
-    Mended, Refusal, LONGEST_CHANGES, LONGEST_FILE,
+    alone, along, best, check, common, goal, junior, keep, mend, merge, quick, read, report, Along, CommonTip, Job,
+    Junior, Kept, Mended, Refusal, LONGEST_CHANGES, LONGEST_FILE,
 };
 
 /// The example of the rules: rack 3, lines {0} and {1,2}.
@@ -79,6 +79,30 @@ fn mounted_tip_wins_a_tie() {
         assert_eq!(quick(&EXAMPLE[..7], Some(mounted), &mut []), Err(refused(6, 0, 0)));
     }
     assert_eq!(refused(16, 0, 0).to_string(), "refused 16: the mounted tip is outside the rack");
+}
+
+#[test]
+fn fewest_changes_along_the_list() {
+    // {0} of 2 placements and {1,2} of 3: one change, two where another tip is mounted.
+    let mut plan = [7; 3];
+    for (mounted, changes) in [(None, 1), (Some(0), 1), (Some(1), 2), (Some(2), 2)] {
+        assert_eq!(along(&COUNTED, mounted, &mut plan), Ok(Along { changes, pairs: 4 }));
+        assert_eq!(plan, [0, 1, 7]);
+    }
+    // {0,1} instead of {0}: tip 1 serves both lines.
+    let mut file = COUNTED;
+    file[15] = 0b011;
+    assert_eq!(along(&file, None, &mut plan), Ok(Along { changes: 0, pairs: 10 }));
+    assert_eq!(plan, [1, 1, 7]);
+    assert_eq!(along(&file, Some(0), &mut plan), Ok(Along { changes: 1, pairs: 4 }));
+    assert_eq!(plan, [0, 1, 7]);
+    assert_eq!(along(b"TIP\0\x01\x40\0\0", Some(63), &mut []), Ok(Along { changes: 0, pairs: 0 }));
+    for mounted in [3, 64, 256, usize::MAX - 1, usize::MAX] {
+        assert_eq!(along(&COUNTED, Some(mounted), &mut []), Err(refused(16, 0, 0)));
+        assert_eq!(along(&COUNTED[..7], Some(mounted), &mut []), Err(refused(6, 0, 0)));
+    }
+    assert_eq!(along(&COUNTED, None, &mut plan[..1]), Err(refused(4, 0, 0)));
+    assert_eq!(plan, [0, 1, 7]);
 }
 
 #[test]
@@ -185,8 +209,8 @@ fn two_boards_on_one_panel() {
     other[23] = 0;
     assert_eq!(merge(&EXAMPLE, &other, &mut out), Err(refused(2, 1, 0)));
     assert_eq!(alone(&EXAMPLE[..7], &other, &mut plan), Err(refused(6, 0, 0)));
-    assert_eq!(refused(30, 0, 0).to_string(), "refused 30: the placements pass 2048");
-    assert_eq!(refused(30, 8, 0).to_string(), "refused 30: the placements pass 2048, line 8");
+    assert_eq!(refused(30, 0, 0).to_string(), "refused 30: there are over 2048 placements");
+    assert_eq!(refused(30, 8, 0).to_string(), "refused 30: there are over 2048 placements, line 8");
 }
 
 #[test]
@@ -234,7 +258,7 @@ fn refusals_of_quantities_carry_the_line() {
         passing.extend(b"\x00\x00\x00\x00\x00\x00\x00\x01\xFF");
     }
     assert_eq!(common(&passing), Err(refused(30, 8, 0)));
-    assert_eq!(refused(30, 8, 0).to_string(), "refused 30: the placements pass 2048, line 8");
+    assert_eq!(refused(30, 8, 0).to_string(), "refused 30: there are over 2048 placements, line 8");
 }
 
 #[test]
@@ -249,7 +273,7 @@ fn refusals_carry_line_and_margin() {
     assert_eq!(read(&file), Err(refused(3, 1, 0)));
     assert_eq!(common(&file[..7]), Err(refused(6, 0, 0)));
     assert_eq!(report(&file), b"refused 3\n");
-    assert_eq!(refused(3, 1, 0).to_string(), "refused 3: a line has a tip outside the rack, line 1");
+    assert_eq!(refused(3, 1, 0).to_string(), "refused 3: a line or a part has a tip outside the rack, line 1");
     assert_eq!(refused(26, 0, -1).to_string(), "refused 26: no plan meets the bound, margin -1");
     assert_eq!(refused(6, 0, 0).to_string(), "refused 6: the file is shorter than 8 bytes");
 }

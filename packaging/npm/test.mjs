@@ -73,6 +73,15 @@ test("a plan that is checked", () => {
   refused(25, 0, () => tipshare.best({ rack: 3, lines: [[0, 2], [1]] }));
 });
 
+test("plans along the list", () => {
+  const list = { rack: 4, lines: [[0, 1], [1, 2], { tips: [2, 3], quantity: 2 }] };
+  assert.deepEqual(tipshare.along(list), { tips: [1, 1, 2], changes: 1, pairs: 2 });
+  assert.deepEqual(tipshare.along(list, 0), { tips: [0, 2, 2], changes: 1, pairs: 3 });
+  assert.deepEqual(tipshare.along(list, 3), { tips: [1, 1, 2], changes: 2, pairs: 2 });
+  assert.deepEqual(tipshare.along({ rack: 4, lines: [] }), { tips: [], changes: 0, pairs: 0 });
+  refused(16, 0, () => tipshare.along(list, 4));
+});
+
 test("two boards, a damaged file, an order", () => {
   const other = { rack: 3, lines: [{ tips: [2], quantity: 2 }] };
   assert.deepEqual(tipshare.merge(EXAMPLE, other), job(3, [[0], [1, 2], { tips: [2], quantity: 2 }]));
@@ -82,6 +91,27 @@ test("two boards, a damaged file, an order", () => {
   assert.deepEqual(tipshare.order([]), []);
   const parts = [[0, 3, false, true], [0, 3], [0, 3, true], [0, 3]];
   assert.deepEqual(tipshare.order(parts, [[3, 1]]), [2, 3, 1, 0]);
+});
+
+test("the positions that parts can have", () => {
+  assert.deepEqual(tipshare.windows([]), []);
+  const parts = [[0, 3, false, true], [0, 3], [0, 3, true], [0, 3]];
+  assert.deepEqual(tipshare.windows(parts), [[3, 3], [1, 2], [0, 0], [1, 2]]);
+  assert.deepEqual(tipshare.windows(parts, [[3, 1]]), [[3, 3], [2, 2], [0, 0], [1, 1]]);
+  refused(12, 1, () => tipshare.windows([[0, 1], [1, 2]]));
+  refused(29, 0, () => tipshare.windows([[0, 1], [0, 1]], [[0, 1], [1, 0]]));
+});
+
+test("orders by tips", () => {
+  const parts = [[0, 2], [0, 2], [0, 2]];
+  assert.deepEqual(tipshare.orderByTips([], []), { order: [], changes: 0 });
+  assert.deepEqual(tipshare.orderByTips(parts, [5, 7, 5]), { order: [0, 2, 1], changes: 1 });
+  assert.deepEqual(tipshare.orderByTips(parts, [5, 7, 5], [], 7), { order: [1, 0, 2], changes: 1 });
+  assert.deepEqual(tipshare.orderByTips(parts, [5, 7, 5], [[1, 0]], 5), { order: [2, 1, 0], changes: 2 });
+  refused(4, 0, () => tipshare.orderByTips(parts, [5, 7]));
+  refused(3, 1, () => tipshare.orderByTips(parts, [5, 64, 5]));
+  refused(16, 0, () => tipshare.orderByTips(parts, [5, 7, 5], [], 64));
+  assert.throws(() => tipshare.orderByTips(parts, [5, 256, 5]), RangeError);
 });
 
 test("the largest board, many times: no call leaves anything behind", () => {

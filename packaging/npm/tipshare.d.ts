@@ -33,12 +33,20 @@ export interface Calls {
   goal(file: JobFile, pairs: number): Uint8Array;
   quick(file: JobFile, mounted?: number | null): Plan;
   best(file: JobFile, mounted?: number | null): Plan & { table: number[] };
+  along(file: JobFile, mounted?: number | null): Plan & { changes: number };
   check(file: JobFile, tips: number[], claim: number, table: number[]): void;
   junior(file: JobFile): Plan & { carried: [number, number] };
   merge(first: JobFile, second: JobFile): Uint8Array;
   alone(first: JobFile, second: JobFile): [Plan, Plan];
   mend(file: JobFile): { file: Uint8Array; changes: { line: number; what: number }[] };
   order(parts: Part[], rules?: [earlier: number, later: number][]): number[];
+  windows(parts: Part[], rules?: [earlier: number, later: number][]): [first: number, last: number][];
+  orderByTips(
+    parts: Part[],
+    tips: number[],
+    rules?: [earlier: number, later: number][],
+    mounted?: number | null,
+  ): { order: number[]; changes: number };
   report(file: JobFile): string;
 }
 

@@ -183,6 +183,13 @@ class Calls {
     return { tips: [...arrays[1].slice(0, count)], pairs: Number(answer[1]), table: [...arrays[2]] };
   }
 
+  /** The tip of each line in the plan with the fewest tip changes along the list, its changes, and its pairs. */
+  along(file, mounted) {
+    const { count } = this.read(file);
+    const { arrays, answer } = this.#answered("along", bytesOf(file), this.#mounted(mounted), new Uint8Array(MOST_LINES));
+    return { tips: [...arrays[1].slice(0, count)], changes: Number(answer[1]), pairs: Number(answer[2]) };
+  }
+
   /** Checks a plan from other software, its pairs and its table: if nothing is thrown, it is a best plan. */
   check(file, tips, claim, table) {
     const plan = Uint8Array.from(tips, (tip) => inRange("a tip of the plan", tip, 255));
@@ -225,16 +232,36 @@ class Calls {
     return { file: arrays[1].slice(0, Number(answer[1])), changes };
   }
 
-  /** The order in which parts are placed: of each its first and last position, and whether it is fine, and tall. */
-  order(parts, rules = []) {
+  /** Parts and rules as the header has them. */
+  #placing(parts, rules) {
     const flat = parts.flatMap(([first, last, fine = false, tall = false]) => [first, last, Number(fine), Number(tall)]);
     const numbers = Uint32Array.from(flat, (value) => inRange("a number of a part", value, MOST));
     const pairs = Uint32Array.from(
       rules.flatMap(([earlier, later]) => [earlier, later]),
       (value) => inRange("a part of a rule", value, MOST),
     );
-    const { arrays, answer } = this.#answered("order", numbers, pairs, new Uint8Array(MOST_PARTS));
+    return [numbers, pairs];
+  }
+
+  /** The order in which parts are placed: of each its first and last position, and whether it is fine, and tall. */
+  order(parts, rules = []) {
+    const { arrays, answer } = this.#answered("order", ...this.#placing(parts, rules), new Uint8Array(MOST_PARTS));
     return [...arrays[2].slice(0, Number(answer[1]))];
+  }
+
+  /** For each part the first and the last position that it has in any order that obeys. */
+  windows(parts, rules = []) {
+    const lent = [new Uint8Array(MOST_PARTS), new Uint8Array(MOST_PARTS)];
+    const { arrays, answer } = this.#answered("windows", ...this.#placing(parts, rules), ...lent);
+    return Array.from({ length: Number(answer[1]) }, (_, part) => [arrays[2][part], arrays[3][part]]);
+  }
+
+  /** The order in which parts are placed, on one tip as long as it can be, given the tip of each part; and its tip changes. */
+  orderByTips(parts, tips, rules = [], mounted = null) {
+    const plan = Uint8Array.from(tips, (tip) => inRange("a tip of the plan", tip, 255));
+    const lent = [...this.#placing(parts, rules), plan, this.#mounted(mounted), new Uint8Array(MOST_PARTS)];
+    const { arrays, answer } = this.#answered("order_by_tips", ...lent);
+    return { order: [...arrays[3].slice(0, Number(answer[1]))], changes: Number(answer[2]) };
   }
 
   /** The text that the program tipshare prints for a job file. */

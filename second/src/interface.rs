@@ -1,10 +1,13 @@
 //! The functions of include/tipshare.h, answered by this implementation on slices.
 
+use crate::along::Along;
 use crate::board::{Answer, Board};
+use crate::by_tips::{self, ByTips};
 use crate::file::read as read_file;
 use crate::junior::Junior;
-use crate::placing::{order_parts, Part, Placing, Rule};
+use crate::placing::{order_parts, Ordered, Part, Placing, Rule};
 use crate::refusal;
+use crate::windows::find_windows;
 
 /// The least length of an output for a report.
 pub const REPORT_SPACE: usize = 16_384;
@@ -99,6 +102,15 @@ pub fn best(file: &[u8], mounted: usize, plan: &mut [u8], table: &mut [u32], ans
     })
 }
 
+/// The fewest tip changes along the list: place, changes, pairs, 0.
+pub fn along(file: &[u8], mounted: usize, plan: &mut [u8], answer: &mut [u64]) -> u32 {
+    on_board(file, answer, |board, answer| {
+        let along = board.along(mounted_tip(mounted), plan);
+        let Along { changes, pairs } = along.value;
+        answered(answer, along.number, [along.place as u64, changes.into(), pairs.into(), 0])
+    })
+}
+
 /// The check of a plan from other software: place, 0, 0, 0.
 pub fn check(file: &[u8], plan: &[u8], claim: u32, table: &[u32], answer: &mut [u64]) -> u32 {
     on_board(file, answer, |board, answer| refused(answer, &board.check(plan, claim, table)))
@@ -157,8 +169,9 @@ pub fn mend(file: &[u8], out: &mut [u8], report: &mut [u8], answer: &mut [u64]) 
 pub const PART_PLACES: usize = 4;
 pub const RULE_PLACES: usize = 2;
 
-/// The placing order: place, parts, 0, 0.
-pub fn order(parts: &[u32], rules: &[u32], order: &mut [u8], answer: &mut [u64]) -> u32 {
+/// Answers by the call on parts and rules, unless the answer is short or a part or a rule is not whole: place, parts,
+/// changes, 0.
+fn on_parts(parts: &[u32], rules: &[u32], answer: &mut [u64], call: impl FnOnce(&Placing) -> ByTips) -> u32 {
     if answer.len() < ANSWER_PLACES {
         return refusal::SHORT_ANSWER;
     }
@@ -168,9 +181,36 @@ pub fn order(parts: &[u32], rules: &[u32], order: &mut [u8], answer: &mut [u64])
     let part = |of: &[u32]| Part { first: of[0], last: of[1], fine: of[2] != 0, tall: of[3] != 0 };
     let parts: Vec<Part> = parts.chunks(PART_PLACES).map(part).collect();
     let rules: Vec<Rule> = rules.chunks(RULE_PLACES).map(|of| (of[0], of[1])).collect();
-    let ordered = order_parts(&Placing { parts: &parts, rules: &rules }, order);
+    let ByTips { ordered, changes } = call(&Placing { parts: &parts, rules: &rules });
     let count = if ordered.number == refusal::NONE { parts.len() } else { 0 };
-    answered(answer, ordered.number, [ordered.place as u64, count as u64, 0, 0])
+    answered(answer, ordered.number, [ordered.place as u64, count as u64, changes as u64, 0])
+}
+
+/// What a call without tips gives.
+fn without_tips(ordered: Ordered) -> ByTips {
+    ByTips { ordered, changes: 0 }
+}
+
+/// The placing order.
+pub fn order(parts: &[u32], rules: &[u32], order: &mut [u8], answer: &mut [u64]) -> u32 {
+    on_parts(parts, rules, answer, |placing| without_tips(order_parts(placing, order)))
+}
+
+/// The first and the last position that each part can have.
+pub fn windows(parts: &[u32], rules: &[u32], first: &mut [u8], last: &mut [u8], answer: &mut [u64]) -> u32 {
+    on_parts(parts, rules, answer, |placing| without_tips(find_windows(placing, first, last)))
+}
+
+/// The placing order by tips.
+pub fn order_by_tips(
+    parts: &[u32],
+    rules: &[u32],
+    plan: &[u8],
+    mounted: usize,
+    order: &mut [u8],
+    answer: &mut [u64],
+) -> u32 {
+    on_parts(parts, rules, answer, |placing| by_tips::order_by_tips(placing, plan, mounted_tip(mounted), order))
 }
 
 /// Writes the report to out and gives its length, 0 where out is too short.

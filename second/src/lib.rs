@@ -3,7 +3,9 @@
 //! A line of a parts list has a set of tips that can pick its part, bit t for tip t, and stands for so many placements
 //! as its quantity says, all on one tip. Every call takes a board and hands one back in its answer.
 
+mod along;
 mod board;
+mod by_tips;
 mod checking;
 mod common;
 mod file;
@@ -16,10 +18,13 @@ mod refusal;
 mod report;
 mod sharing;
 mod trying;
+mod windows;
 
 pub mod interface;
 
+pub use along::Along;
 pub use board::{Answer, Board, Line, Stage, MOST_LINES, MOST_PLACEMENTS, MOST_TIPS};
+pub use by_tips::{order_by_tips, try_every_order_by_tips, ByTips};
 pub use common::CommonTip;
 pub use file::{read, Version, LONGEST_FILE};
 pub use junior::{Junior, JUNIOR_LINES, JUNIOR_TIPS};
@@ -29,3 +34,4 @@ pub use placing::{order_parts, try_every_order, Ordered, Part, Placing, Rule, MO
 pub use report::{report, LONGEST_INPUT};
 pub use sharing::pairs_in;
 pub use trying::{number_of_plans, try_every_plan, Tried};
+pub use windows::{find_windows, try_every_order_for_windows};

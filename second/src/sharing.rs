@@ -118,7 +118,7 @@ fn lay_stretch(laying: &Laying, plan: &mut [u8], a: usize, b: usize) {
 
 impl Board {
     /// The refusal of a plan for the board's state, then for the mounted tip, then for the plan buffer; 0 for none.
-    fn refusal_of_plan(&self, mounted: Option<usize>, plan: &[u8]) -> (u32, usize) {
+    pub(crate) fn refusal_of_plan(&self, mounted: Option<usize>, plan: &[u8]) -> (u32, usize) {
         let (number, place) = self.refusal_in(Stage::Closed);
         if number != refusal::NONE {
             return (number, place);

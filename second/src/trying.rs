@@ -16,6 +16,8 @@ pub struct Tried {
     by_pairs: BTreeMap<u32, Vec<u64>>,
     /// The most pairs of the plans with one tip or two, and the lowest such tips that reach them.
     with_two_tips: Option<(u32, (usize, usize))>,
+    /// For each tip the fewest changes of the plans whose first line is on it.
+    changes_from: BTreeMap<u8, usize>,
 }
 
 /// The plans with one number of placements off.
@@ -66,6 +68,14 @@ impl Tried {
         self.with_two_tips
     }
 
+    /// The fewest tip changes of a plan whose lines are placed in their order, with this tip mounted before them or none.
+    pub fn least_changes(&self, mounted: Option<usize>) -> usize {
+        let with_first = |(&tip, &changes): (&u8, &usize)| {
+            changes + usize::from(mounted.is_some_and(|mounted| mounted != usize::from(tip)))
+        };
+        self.changes_from.iter().map(with_first).min().unwrap_or(0)
+    }
+
     /// The numbers of pairs that plans have, the lowest first.
     pub fn numbers_of_pairs(&self) -> impl Iterator<Item = u32> + '_ {
         self.by_pairs.keys().copied()
@@ -111,7 +121,13 @@ fn next_plan(sets: &[u64], plan: &mut [u8]) -> bool {
 pub fn try_every_plan(board: &Board) -> Tried {
     let count = board.count;
     let sets = &board.sets[..count];
-    let mut tried = Tried { most_pairs: 0, by_off: BTreeMap::new(), by_pairs: BTreeMap::new(), with_two_tips: None };
+    let mut tried = Tried {
+        most_pairs: 0,
+        by_off: BTreeMap::new(),
+        by_pairs: BTreeMap::new(),
+        with_two_tips: None,
+        changes_from: BTreeMap::new(),
+    };
     let mut plan = vec![0; count];
     for line in 0..count {
         plan[line] = tip_from(sets[line], 0).expect("a line has a tip") as u8;
@@ -120,6 +136,11 @@ pub fn try_every_plan(board: &Board) -> Tried {
         let placed = board.placed(&plan);
         let pairs = pairs_in(&placed);
         tried.most_pairs = tried.most_pairs.max(pairs);
+        if let Some(&first) = plan.first() {
+            let changes = plan.windows(2).filter(|pair| pair[0] != pair[1]).count();
+            let least = tried.changes_from.entry(first).or_insert(changes);
+            *least = changes.min(*least);
+        }
         let used = tried.by_pairs.entry(pairs).or_insert_with(|| vec![0; count]);
         for line in 0..count {
             used[line] |= 1 << plan[line];

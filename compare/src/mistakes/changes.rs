@@ -7,14 +7,6 @@ use job_file::{Version, AT_COUNT, AT_VERSION};
 use second::interface::NO_TIP;
 use second::{Board, Line};
 
-impl<T> Lent<T> {
-    /// A buffer with nothing around it.
-    pub(super) fn of(cells: Vec<T>) -> Lent<T> {
-        let length = cells.len();
-        Lent { cells, start: 0, length }
-    }
-}
-
 /// The refusal number of a call, 0 for an accepted one and for a report.
 pub(super) fn refusal(call: &Call, returned: u64) -> u64 {
     match call {
@@ -132,6 +124,7 @@ pub(super) fn with_any_mounted(call: &Call, edit: impl FnOnce(usize) -> usize) -
     match *call {
         Call::Quick { mounted, plan, answer } => Call::Quick { mounted: edit(mounted), plan, answer },
         Call::Best { mounted, plan, table, answer } => Call::Best { mounted: edit(mounted), plan, table, answer },
+        Call::Along { mounted, plan, answer } => Call::Along { mounted: edit(mounted), plan, answer },
         other => other,
     }
 }
@@ -144,7 +137,9 @@ pub(super) fn with_mounted(call: &Call, edit: impl FnOnce(usize) -> usize) -> Ca
 /// The mounted tip of a call, where there is one.
 pub(super) fn mounted_tip(call: &Call) -> Option<usize> {
     match *call {
-        Call::Quick { mounted, .. } | Call::Best { mounted, .. } => Some(mounted).filter(|&tip| tip != NO_TIP),
+        Call::Quick { mounted, .. } | Call::Best { mounted, .. } | Call::Along { mounted, .. } => {
+            Some(mounted).filter(|&tip| tip != NO_TIP)
+        }
         _ => None,
     }
 }

@@ -7,13 +7,16 @@ use Rattle.model.specs.Limits.{most_lines, most_placements}
 use Rattle.placements.specs.Repeated.{repeated}
 use Rattle.refusal.specs.declared.Reason.TheVariants.{RackSize, ShortPlan, ShortTable, ShortOutput}
 use Rattle.refusal.specs.declared.Reason.TheVariants.{MountedOutside, RacksDiffer, ForeignTip, WrongClaim, TooManyLines, NoRun, NoPlan}
-use Rattle.refusal.specs.declared.Reason.TheVariants.{TooManyPlacements, NoTwoTips, WrongTable, GoalMissed}
+use Rattle.refusal.specs.declared.Reason.TheVariants.{TooManyPlacements, NoTwoTips, WrongTable, GoalMissed, TooManyNamed}
 use Rattle.goals.specs.Check.{entry}
 use Rattle.holders.specs.Holders.{NoneOnTips}
 use Rattle.job.specs.Job.{file_length, version_for}
 use Rattle.cases.specs.Cases.{Case, plain, placed}
 use Rattle.call_refusals.specs.Junior.{junior_lines, junior_tips}
+use Rattle.subsets.specs.Exact.{most_named}
+use Rattle.subsets.specs.Table.{table_places}
 use Rattle.line_calls.specs.Rules.{NoneWithin}
+use Rattle.line_calls.specs.Exact.{count_named}
 use Rattle.line_calls.specs.Goal.{NoneMeets}
 use Rattle.call_cases.specs.State.{line_cases}
 
@@ -60,6 +63,14 @@ plan_cases n room = plain ShortPlan (room < n) ∷ []
 abbrev pub best_cases : ℕ → List ℕ → ℕ → ℕ → List Case
 best_cases m lines room places =
     plain ShortPlan (room < length lines) ∷ plain ShortTable (places < m * m) ∷ placed NoRun (Broken lines) ∷ []
+
+-- exact sharing, where the table has the places: 4, 35, 5
+abbrev pub exact_cases : ℕ → List ℕ → ℕ → ℕ → List Case
+exact_cases m lines room places =
+    plain ShortPlan (room < length lines)
+    ∷ plain TooManyNamed (most_named < count_named m lines)
+    ∷ plain ShortTable (places < table_places (count_named m lines))
+    ∷ []
 
 -- the check of a plan that has a byte for each line, a claim and a table, after 4, 5 and 25: 19, 20, 33
 abbrev pub check_cases : ℕ → List ℕ → List ℕ → List ℕ → ℕ → List ℕ → List Case

@@ -12,7 +12,7 @@ use borrow.Author.Tests.{lt-ltb, le-ltb, eq-eqb, ne_eqb}
 use Rattle.model.proofs.Tests.{le_or_lt, test, true_T, false_T}
 use Rattle.flat_order.specs.declared.sets.PartSet.{PartSet}
 use Rattle.flat_order.specs.Sets.{has_part, single, joined, no_parts}
-use Rattle.flat_order.specs.Flat.{row_at, PartsAt}
+use Rattle.flat_order.specs.Flat.{row_at, AtPlaces, PartsAt}
 use Rattle.flat_order.proofs.Members.{has-single, has-joined}
 use Rattle.flat_order.proofs.Lasts.{first-none}
 
@@ -30,18 +30,17 @@ row-none zero v = refl
 row-none (suc n) zero = refl
 row-none (suc n) (suc v) = row-none n v
 
--- ---- each part at the place after its position
+-- ---- each part at its place
 
-pub parts_none : (positions : List ℕ) → PartsAt positions 0 (replicate 130 no_parts)
-parts_none positions = record {
-  size = length-replicate {A = PartSet} 130 no_parts;
-  each = λ w x l. rw (row-none 130 w) (first-none x ∙ rw (le-ltb x 0 (omega arith)));
+pub places_none : (place : ℕ → ℕ) (m : ℕ) → AtPlaces place m 0 (replicate m no_parts)
+places_none place m = record {
+  size = length-replicate {A = PartSet} m no_parts;
+  each = λ w x l. rw (row-none m w) (first-none x ∙ rw (le-ltb x 0 (omega arith)));
 }
 
-module _ (positions : List ℕ) (i : ℕ) (rows : List PartSet) (at : ℕ) (e : at ≡ get_or positions i 0 + 1) (l : at < 130)
-    (p : PartsAt positions i rows) where
+module _ (place : ℕ → ℕ) (m i : ℕ) (rows : List PartSet) (at : ℕ) (e : at ≡ place i) (l : at < m) (p : AtPlaces place m i rows) where
   abbrev f : ℕ → ℕ → Bool
-  f w x = eqb (get_or positions x 0 + 1) w
+  f w x = eqb (place x) w
 
   same : (a : Bool) → (true && a || false) ≡ (true && a)
   same true = refl
@@ -54,7 +53,7 @@ module _ (positions : List ℕ) (i : ℕ) (rows : List PartSet) (at : ℕ) (e : 
       (λ h. ⊎_elim
       (λ (k : x ≤ i). let q : i ≡ x = omega arith in
       let j : x < i + 1 = omega arith in
-      let y : f w x ≡ true = eq-eqb (get_or positions x 0 + 1) w (ap (λ m. get_or positions m 0 + 1) (sym q) ∙ sym e ∙ z) in
+      let y : f w x ≡ true = eq-eqb (place x) w (ap place (sym q) ∙ sym e ∙ z) in
       rw (y, eq-eqb i x q, le-ltb x i h, lt-ltb x (i + 1) j))
       (λ (k : i < x). rw (ne_eqb i x (λ q. omega arith), le-ltb x i h, le-ltb x (i + 1) (omega arith)))
       (le_or_lt x i))
@@ -67,15 +66,15 @@ module _ (positions : List ℕ) (i : ℕ) (rows : List PartSet) (at : ℕ) (e : 
       (λ h. ⊎_elim
       (λ (k : x ≤ i). let q : i ≡ x = omega arith in
       let j : x < i + 1 = omega arith in
-      let y : f w x ≡ false = ne_eqb (get_or positions x 0 + 1) w (λ t. z (e ∙ ap (λ m. get_or positions m 0 + 1) q ∙ t)) in
+      let y : f w x ≡ false = ne_eqb (place x) w (λ t. z (e ∙ ap place q ∙ t)) in
       rw (y, le-ltb x i h, lt-ltb x (i + 1) j))
       (λ (k : i < x). rw (le-ltb x i h, le-ltb x (i + 1) (omega arith)))
       (le_or_lt x i))
       (λ h. rw (lt-ltb x i h, lt-ltb x (i + 1) (omega arith)))
       (le_or_lt i x)
 
-  pub parts_more : PartsAt positions (i + 1) (set rows at (joined (row_at rows at) (single i)))
-  parts_more =
+  pub places_more : AtPlaces place m (i + 1) (set rows at (joined (row_at rows at) (single i)))
+  places_more =
       let row = joined (row_at rows at) (single i) in
       record {
         size = length-set rows at row ∙ p.size;

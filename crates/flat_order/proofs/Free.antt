@@ -34,6 +34,18 @@ module _ (all left : PartSet) (rows : List PartSet) where
   unfolding is_pick
   pick_free x t = and_right (has_part all x) (free x) t
 
+  -- a part that is ready is picked first: it is one of the candidates that are ready
+  pub pick-on : (on : PartSet) (x : ℕ) → is_pick (met all on) left rows x ≡ (is_pick all left rows x && has_part on x)
+  unfolding is_pick
+  pick-on on x = ap (λ b. b && free x) (has-met all on x) ∙ swap (has_part all x) (has_part on x) (free x)
+    where
+      swap : (a b c : Bool) → (a && b && c) ≡ (a && c && b)
+      swap false b c = refl
+      swap true false false = refl
+      swap true false true = refl
+      swap true true false = refl
+      swap true true true = refl
+
   -- the candidates still to be tried: each that can be picked is one of them
   pub record Trying (rest : PartSet) : Type 0 where
     pub tried : (i : ℕ) → T (is_pick all left rows i) → T (has_part rest i)

@@ -8,3 +8,5 @@ pub mod Ended
 pub mod Levels
 pub mod Picks
 pub mod Free
+pub mod Ready
+pub mod Counted

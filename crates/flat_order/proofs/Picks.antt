@@ -6,7 +6,7 @@ use mathlib.Core.Path.{◌≡◌, refl, ap, sym, ◌∙◌}
 use mathlib.Core.Logic.{⊎_elim}
 use mathlib.Core.Bool.{Bool, true, false, not, ◌&&◌}
 use mathlib.Core.List.{List}
-use mathlib.Core.Option.{none, some}
+use mathlib.Core.Option.{Option, none, some}
 use lib.Dec.{T, ltb, leb, not_T, T_not, ltb→lt, lt→ltb, leb→le, le→leb}
 use lib.ListN.{length, get_or, take, set, length-set}
 use lib.Bits.{bit_and, bit_xor}
@@ -14,15 +14,17 @@ use Rattle.std.proofs.lemmas.Nat.{and_le_l, and_le_r, xor_lt}
 use Rattle.model.specs.Count.{every}
 use borrow.Author.Tests.{lt-ltb}
 use Rattle.model.proofs.Tests.{le_or_lt, true_T, same_test, and_left, and_right, and_in, every_iff}
-use Rattle.ordering.specs.Number.{number, lowest, without}
+use Rattle.ordering.specs.Number.{number, lowest, lowest_on, without}
 use Rattle.ordering.specs.Order.{Task}
-use Rattle.ordering.specs.Least.{due, tight, is_free_part, fits as part_fits, pick, prepend, greedy}
-use Rattle.ordering.proofs.Number.{lowest_cong, lowest_is, without-left, number_cong, number-all, number-without}
+use Rattle.ordering.specs.Least.{due, tight, is_free_part, fits as part_fits, pick_by, prepend, greedy_by}
+use Rattle.ordering.proofs.Number.{lowest_is, without-left, number_cong, number-all, number-without}
+use Rattle.ordering.proofs.First.{on_found, on_other, on_cong}
 use Rattle.ordering.proofs.Agree.{greedy_cong}
 use Rattle.ordering.proofs.Loops.{prepend_all, prepend-none, prepend_end, placed-more, greedy_picks, greedy_stops}
 use Rattle.flat_order.specs.declared.sets.PartSet.{PartSet}
 use Rattle.flat_order.specs.Sets.{has_part, single, removed, met, apart}
-use Rattle.flat_order.specs.Flat.{row_at, flat_task, tight_of, candidates_at, is_pick, IsFirst, InPlace, Below, Levels, IsEnd}
+use Rattle.flat_order.specs.Flat.{row_at, flat_task, tight_of, candidates_at, is_pick, choose_ready, IsFirst, IsChosen, one_ready, none_ready}
+use Rattle.flat_order.specs.Flat.{InPlace, Below, Levels, IsEnd}
 use Rattle.flat_order.proofs.Members.{has-met, has-removed, apart_none, apart_if}
 use Rattle.flat_order.proofs.Settled.{left-without}
 use Rattle.flat_order.proofs.Free.{pick-among}
@@ -46,6 +48,11 @@ arrange true true false false = refl
 arrange true true true true = refl
 arrange true true true false = refl
 
+-- a part that is chosen passes
+pub chosen-passes : {on f : ℕ → Bool} {x : ℕ} → IsChosen on f x → T (f x)
+chosen-passes {on} {f} {x} (one_ready h) = and_left (f x) (on x) h.passes
+chosen-passes (none_ready m h) = h.passes
+
 -- the candidates are left
 pub among_left : (left begun : PartSet) (ends : List PartSet) (p v x : ℕ) → T (has_part (candidates_at p v (met left begun) ends) x)
     → T (has_part left x)
@@ -54,6 +61,11 @@ among_left left begun ends p v x u =
     let past = removed (row_at ends (v + 1)) (row_at ends p) in
     and_left (has_part left x) (has_part begun x) (rw (has-met left begun x) at
     (and_left (has_part (met left begun) x) (has_part past x) (rw (has-met (met left begun) past x) at u)))
+
+-- a part that can be picked is one of those to place
+pub pick_in : (rows : List PartSet) (left begun among : PartSet) (ends : List PartSet) (p v x n : ℕ) → ((i : ℕ) → T (has_part left i) → i < n)
+    → among ≡ candidates_at p v (met left begun) ends → T (is_pick among left rows x) → x < n
+pick_in rows left begun among ends p v x n inside e t = inside x (among_left left begun ends p v x (rw e at (pick-among among left rows x t)))
 
 module _ (firsts lasts : List ℕ) (rows : List PartSet) (left : PartSet) (inside : (i : ℕ) → T (has_part left i) → i < length lasts)
     (low : left.low < 2 ^ 64) (high : left.high < 2 ^ 64) where
@@ -101,11 +113,12 @@ module _ (firsts lasts : List ℕ) (rows : List PartSet) (left : PartSet) (insid
           ← not_before (get_or lasts x 0) p,
         ) (arrange (has_part left x) (leb (get_or firsts x 0) p) (leb (get_or lasts x 0) v) (ltb (get_or lasts x 0) p))
 
-    -- the search up to the end finds the pick
-    pub pick_is : (v : ℕ) → p < length lasts → v < length lasts → v ≡ p + tight_of left lasts p → pick t p (has_part left)
-        ≡ lowest (is_pick (candidates_at p v (met left begun) ends) left rows) (length lasts)
-    unfolding pick part_fits tight due tight_of is_pick
-    pick_is v k h e = rw (← e) (lowest_cong _ _ (length lasts) (λ x l. rw (free_is x)
+    -- the search up to the end, first among the parts that are ready, finds the pick
+    pub pick_is : (on : PartSet) (v : ℕ) → p < length lasts → v < length lasts → v ≡ p + tight_of left lasts p
+        → pick_by choose_ready t p on (has_part left)
+        ≡ lowest_on (has_part on) (is_pick (candidates_at p v (met left begun) ends) left rows) (length lasts)
+    unfolding pick_by part_fits tight due tight_of is_pick
+    pick_is on v k h e = rw (← e) (on_cong (has_part on) _ _ (length lasts) (λ x l. rw (free_is x)
         (ap (λ b. b && apart (row_at rows x) (removed left (single x))) (sym (among-is v x k h l)))))
 
     -- a pick is left, and its last position is neither before p nor after v
@@ -121,46 +134,80 @@ module _ (firsts lasts : List ℕ) (rows : List PartSet) (left : PartSet) (insid
         (and_left (has_part (candidates_at p v (met left begun) ends) x) (apart (row_at rows x) (removed left (single x))) u) in
         (and_left a b (and_left (a && b) d (and_left (a && b && d) e w)), leb→le (get_or lasts x 0) v (and_right (a && b && d) e w))
 
-    module _ (v : ℕ) (k : p < length lasts) (h : v < length lasts) (e : v ≡ p + tight_of left lasts p) where
+    module _ (on : PartSet) (v : ℕ) (k : p < length lasts) (h : v < length lasts) (e : v ≡ p + tight_of left lasts p) where
       abbrev among : PartSet
       among = candidates_at p v (met left begun) ends
 
       abbrev test : ℕ → Bool
       test = is_pick among left rows
 
-      -- the first part that can be picked is the pick
-      pub first_is : (x : ℕ) → IsFirst test x → (x ≡ pick t p (has_part left)) × T (has_part left x) × (get_or lasts x 0 ≤ v)
-      first_is x f =
-          let u = among_left left begun ends p v x (pick-among among left rows x f.passes) in
-          let l = inside x u in (
-            lowest_is test (length lasts) x (omega (arith, l)) (λ _. f.passes) (λ i m w. omega (arith, f.least i w)) ∙ sym (pick_is v k h e),
-            u,
-            (pick_known v x k h l f.passes).1,
+      abbrev n : ℕ
+      n = length lasts
+
+      -- a part that can be picked is left
+      known : (x : ℕ) → T (test x) → T (has_part left x) × (get_or lasts x 0 ≤ v)
+      known x f =
+          let u = among_left left begun ends p v x (pick-among among left rows x f) in
+          (u, (pick_known v x k h (inside x u) f).1)
+
+      -- the least of the parts that pass a test
+      least_is : (g : ℕ → Bool) (x : ℕ) → x < n → IsFirst g x → x ≡ lowest g n
+      least_is g x l f = lowest_is g n x (omega (arith, l)) (λ _. f.passes) (λ i m w. omega (arith, f.least i w))
+
+      none_below : (g : ℕ → Bool) → ((x : ℕ) → T (g x) → ⊥) → n ≡ lowest g n
+      none_below g f = lowest_is g n n (le_refl n) (λ m. absurd (omega arith)) (λ i m w. f i w)
+
+      -- the part chosen is the pick
+      pub chosen_is : (x : ℕ) → IsChosen (has_part on) test x
+          → (x ≡ pick_by choose_ready t p on (has_part left)) × T (has_part left x) × (get_or lasts x 0 ≤ v)
+      chosen_is x (one_ready f) =
+          let w = known x (and_left (test x) (has_part on x) f.passes) in
+          let l = inside x w.0 in
+          (on_found (has_part on) test n x (least_is (λ y. test y && has_part on y) x l f) l ∙ sym (pick_is on v k h e), w.0, w.1)
+      chosen_is x (none_ready m f) =
+          let w = known x f.passes in
+          let l = inside x w.0 in (
+            least_is test x l f
+                ∙ on_other (has_part on) test n n (none_below (λ y. test y && has_part on y) m) (le_refl n)
+                ∙ sym (pick_is on v k h e),
+            w.0,
+            w.1,
           )
 
-      pub none_is : ((x : ℕ) → T (test x) → ⊥) → length lasts ≤ pick t p (has_part left)
+      pub none_is : ((x : ℕ) → T (test x) → ⊥) → n ≤ pick_by choose_ready t p on (has_part left)
       none_is f =
-          let n = length lasts in
-          omega (arith, lowest_is test n n (le_refl n) (λ m. absurd (omega arith)) (λ i m w. f i w), pick_is v k h e)
+          let z = none_below test f in
+          let both = none_below (λ y. test y && has_part on y) (λ x u. f x (and_left (test x) (has_part on x) u)) in
+          let y = on_other (has_part on) test n n both (le_refl n) in
+          omega (arith, z, y, pick_is on v k h e)
 
 and-true : (a : Bool) → (a && true) ≡ a
 and-true true = refl
 and-true false = refl
 
--- at position p: the parts before it are in the order, and what is left to place
-pub record Placing (firsts lasts : List ℕ) (rows : List PartSet) (p : ℕ) (order : List ℕ) (left : PartSet) : Type 0 where
+-- from position p on with what is left and what is ready, as the best order goes on
+abbrev pub goes_on : List PartSet → Task → ℕ → ℕ → PartSet → (ℕ → Bool) → Option (List ℕ)
+goes_on after t k p on left = greedy_by choose_ready (row_at after) t k p on left
+
+-- at position p: the parts before it are in the order, what is left to place, and what is ready
+pub record Placing (firsts lasts : List ℕ) (rows : List PartSet) (start : PartSet) (after : List PartSet) (p : ℕ) (order : List ℕ)
+    (left on : PartSet) : Type 0 where
   pub size : length lasts ≤ length order
   pub inside : (i : ℕ) → T (has_part left i) → i < length lasts
   pub count : number (has_part left) (length lasts) + p ≡ length lasts
-  pub same : prepend_all (take p order) (greedy (flat_task firsts lasts rows) (length lasts - p) p (has_part left))
-      ≡ greedy (flat_task firsts lasts rows) (length lasts) 0 (λ _. true)
+  pub same : prepend_all (take p order) (goes_on after (flat_task firsts lasts rows) (length lasts - p) p on (has_part left))
+      ≡ goes_on after (flat_task firsts lasts rows) (length lasts) 0 start (λ _. true)
 
-module _ (firsts lasts : List ℕ) (rows : List PartSet) where
+module _ (firsts lasts : List ℕ) (rows : List PartSet) (start : PartSet) (after : List PartSet) where
   abbrev u : Task
   u = flat_task firsts lasts rows
 
+  left_cong : (k p : ℕ) (on : PartSet) (left other : ℕ → Bool) → ((i : ℕ) → i < length lasts → left i ≡ other i)
+      → goes_on after u k p on left ≡ goes_on after u k p on other
+  left_cong k p on left other h = greedy_cong choose_ready (row_at after) (λ s. on_cong (has_part s)) u k p on left other h
+
   pub placing_none : (order : List ℕ) (left : PartSet) → length lasts ≤ length order → ((x : ℕ) → has_part left x ≡ ltb x (length lasts))
-      → Placing firsts lasts rows 0 order left
+      → Placing firsts lasts rows start after 0 order left start
   placing_none order left e h = record {
     size = e;
     inside = λ i v. ltb→lt i (length lasts) (rw (h i) at v);
@@ -170,16 +217,16 @@ module _ (firsts lasts : List ℕ) (rows : List PartSet) where
     same =
         let n = length lasts in
         let z : n - 0 ≡ n = omega arith in
-        rw z (greedy_cong u n 0 (has_part left) (λ _. true) (λ i l. h i ∙ true_T (ltb i n) (lt→ltb i n l)));
+        rw z (left_cong n 0 start (has_part left) (λ _. true) (λ i l. h i ∙ true_T (ltb i n) (lt→ltb i n l)));
   }
 
-  module _ (order : List ℕ) (left : PartSet) (p : ℕ) (l : p < length lasts) (s : Placing firsts lasts rows p order left) where
-    pub placing_more : (x : ℕ) → x ≡ pick u p (has_part left) → x < length lasts → T (has_part left x)
-        → Placing firsts lasts rows (p + 1) (set order p x) (removed left (single x))
+  module _ (order : List ℕ) (left on : PartSet) (p : ℕ) (l : p < length lasts) (s : Placing firsts lasts rows start after p order left on) where
+    pub placing_more : (x : ℕ) → x ≡ pick_by choose_ready u p on (has_part left) → x < length lasts → T (has_part left x)
+        → Placing firsts lasts rows start after (p + 1) (set order p x) (removed left (single x)) (row_at after x)
     placing_more x e h t =
         let n = length lasts in
-        let k : pick u p (has_part left) < n = omega (arith, e) in
-        let more = greedy_picks u (has_part left) p l k in
+        let next = row_at after x in
+        let more = greedy_picks choose_ready (row_at after) u on (has_part left) p l x e h in
         record {
           size = omega (arith, length-set order p x, s.size);
           inside = λ i v. s.inside i (without-left (has_part left) x i (rw (left-without left x i) at v));
@@ -188,38 +235,44 @@ module _ (firsts lasts : List ℕ) (rows : List PartSet) where
               let g = number_cong (λ i. without x (has_part left) i && true) (has_part (removed left (single x))) n
               (λ i _. and-true (without x (has_part left) i) ∙ sym (left-without left x i)) in
               omega (arith, f, g, number_cong (λ i. has_part left i && true) (has_part left) n (λ i _. and-true (has_part left i)), s.count);
-          same = placed-more order p x (greedy u (n - (p + 1)) (p + 1) (has_part (removed left (single x)))) (omega (arith, s.size))
+          same = placed-more order p x (goes_on after u (n - (p + 1)) (p + 1) next (has_part (removed left (single x)))) (omega (arith, s.size))
               ∙ ap (λ r. prepend_all (take p order) (prepend x r))
-              (greedy_cong u (n - (p + 1)) (p + 1) (has_part (removed left (single x))) (without x (has_part left)) (λ i _. left-without left x i))
-              ∙ rw e (ap (prepend_all (take p order)) (sym more)) ∙ s.same;
+              (left_cong (n - (p + 1)) (p + 1) next (has_part (removed left (single x))) (without x (has_part left)) (λ i _. left-without left x i))
+              ∙ ap (prepend_all (take p order)) (sym more) ∙ s.same;
         }
 
-    pub placing_stops : length lasts ≤ pick u p (has_part left) → none ≡ greedy u (length lasts) 0 (λ _. true)
-    placing_stops h = sym (prepend-none (take p order)) ∙ ap (prepend_all (take p order)) (sym (greedy_stops u (has_part left) p l h)) ∙ s.same
+    pub placing_stops : length lasts ≤ pick_by choose_ready u p on (has_part left)
+        → none ≡ goes_on after u (length lasts) 0 start (λ _. true)
+    placing_stops h =
+        sym (prepend-none (take p order))
+        ∙ ap (prepend_all (take p order)) (sym (greedy_stops choose_ready (row_at after) u on (has_part left) p l h)) ∙ s.same
 
-  pub placing_all : (order : List ℕ) (left : PartSet) (p : ℕ) → p ≡ length lasts → Placing firsts lasts rows p order left
-      → some (take (length lasts) order) ≡ greedy u (length lasts) 0 (λ _. true)
-  unfolding greedy
-  placing_all order left p e s =
+  pub placing_all : (order : List ℕ) (left on : PartSet) (p : ℕ) → p ≡ length lasts → Placing firsts lasts rows start after p order left on
+      → some (take (length lasts) order) ≡ goes_on after u (length lasts) 0 start (λ _. true)
+  unfolding greedy_by
+  placing_all order left on p e s =
       let z : length lasts - p ≡ 0 = omega arith in
       ap (λ k. some (take k order)) (sym e) ∙ sym (prepend_end (take p order))
-      ∙ ap (λ k. prepend_all (take p order) (greedy u k p (has_part left))) (sym z) ∙ s.same
+      ∙ ap (λ k. prepend_all (take p order) (goes_on after u k p on (has_part left))) (sym z) ∙ s.same
 
 -- ---- the part that is found at position p
 
-module _ (firsts lasts : List ℕ) (rows ends : List PartSet) (p v : ℕ) (order levels : List ℕ) (left begun among : PartSet) (k : p < length lasts)
-    (s : Placing firsts lasts rows p order left) (d : Levels left lasts p levels) (is : IsEnd (length lasts) p levels v)
-    (low : left.low < 2 ^ 64) (high : left.high < 2 ^ 64) (within : InPlace (length lasts) lasts) (closes : Below lasts (length lasts) ends)
+module _ (firsts lasts : List ℕ) (rows : List PartSet) (start : PartSet) (after ends : List PartSet) (p v : ℕ) (order levels : List ℕ)
+    (left on begun among : PartSet) (k : p < length lasts) (s : Placing firsts lasts rows start after p order left on)
+    (d : Levels left lasts p levels) (is : IsEnd (length lasts) p levels v) (low : left.low < 2 ^ 64) (high : left.high < 2 ^ 64)
+    (within : InPlace (length lasts) lasts) (closes : Below lasts (length lasts) ends)
     (begins : (x : ℕ) → has_part begun x ≡ (ltb x (length lasts) && ltb (get_or firsts x 0) (p + 1)))
     (e : among ≡ candidates_at p v (met left begun) ends) where
   v_in : v < length lasts
   v_in = end_in left lasts levels p d s.count v within k is
 
-  pub found : (x : ℕ) → IsFirst (is_pick among left rows) x
-      → (x ≡ pick (flat_task firsts lasts rows) p (has_part left)) × T (has_part left x) × (get_or lasts x 0 ≤ v)
+  pub found : (x : ℕ) → IsChosen (has_part on) (is_pick among left rows) x
+      → (x ≡ pick_by choose_ready (flat_task firsts lasts rows) p on (has_part left)) × T (has_part left x) × (get_or lasts x 0 ≤ v)
   found x f =
-      first_is firsts lasts rows left s.inside low high ends begun p begins closes v k v_in (end_tight left lasts levels p d v is) x (rw e at f)
+      chosen_is firsts lasts rows left s.inside low high ends begun p begins closes on v k v_in (end_tight left lasts levels p d v is) x
+      (rw e at f)
 
-  pub found_none : ((x : ℕ) → T (is_pick among left rows x) → ⊥) → none ≡ greedy (flat_task firsts lasts rows) (length lasts) 0 (λ _. true)
-  found_none f = placing_stops firsts lasts rows order left p k s
-      (none_is firsts lasts rows left s.inside low high ends begun p begins closes v k v_in (end_tight left lasts levels p d v is) (rw e at f))
+  pub found_none : ((x : ℕ) → T (is_pick among left rows x) → ⊥)
+      → none ≡ goes_on after (flat_task firsts lasts rows) (length lasts) 0 start (λ _. true)
+  found_none f = placing_stops firsts lasts rows start after order left on p k s
+      (none_is firsts lasts rows left s.inside low high ends begun p begins closes on v k v_in (end_tight left lasts levels p d v is) (rw e at f))

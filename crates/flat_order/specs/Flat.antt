@@ -1,8 +1,11 @@
 -- The task that flat arrays describe: first and last positions, and the rows of the parts that are to precede each part.
+use Rattle.std.proofs.Math.Option.{Option}
 use Rattle.std.specs.Prelude.{ℕ, suc, ◌+◌, ◌-◌, ◌≤◌, ◌<◌, min, ◌≡◌, Bool, false, cond, ◌&&◌, List, T, ltb, leb, eqb, length, get_or}
 use Rattle.model.specs.Count.{list_of}
-use Rattle.ordering.specs.Number.{number, lowest}
+use Rattle.ordering.specs.Number.{number, lowest, comes_first, lowest_on}
 use Rattle.ordering.specs.Order.{Task}
+use Rattle.ordering.specs.Prefer.{Preference, Choice}
+use Rattle.ordering.specs.Least.{best_order}
 use Rattle.flat_order.specs.declared.sets.PartSet.{PartSet}
 use Rattle.flat_order.specs.Sets.{has_part, single, removed, met, apart, no_parts}
 
@@ -72,14 +75,34 @@ pub record IsFirst (f : ℕ → Bool) (x : ℕ) : Type 0 where
   pub passes : T (f x)
   pub least : (y : ℕ) → T (f y) → x ≤ y
 
+-- a part that is ready is preferred, and among those alike the lower number
+abbrev pub by_ready : Preference PartSet
+by_ready ready = comes_first (has_part ready)
+
+abbrev pub choose_ready : Choice PartSet
+choose_ready ready = lowest_on (has_part ready)
+
+-- the best order by it, from the parts ready at the start on; after part x the parts of its row are ready
+abbrev pub ready_order : PartSet → List PartSet → Task → Option (List ℕ)
+ready_order ready after t = best_order choose_ready (row_at after) ready t
+
+-- x is chosen: the least that passes both tests, or where none does the least that passes f
+pub data IsChosen (on f : ℕ → Bool) (x : ℕ) : Type 0 where
+  one_ready : IsFirst (λ y. f y && on y) x → IsChosen on f x
+  none_ready : ((y : ℕ) → T (f y && on y) → ⊥) → IsFirst f x → IsChosen on f x
+
 -- each of the first n positions is below n
 abbrev pub InPlace : ℕ → List ℕ → Type 0
 InPlace n positions = (i : ℕ) → i < n → get_or positions i 0 < n
 
+-- each of the first n parts is at its place, one of m
+pub record AtPlaces (place : ℕ → ℕ) (m n : ℕ) (rows : List PartSet) : Type 0 where
+  pub size : length rows ≡ m
+  pub each : (w x : ℕ) → w < m → has_part (row_at rows w) x ≡ (ltb x n && eqb (place x) w)
+
 -- each of the first n parts is at the place after its position
-pub record PartsAt (positions : List ℕ) (n : ℕ) (rows : List PartSet) : Type 0 where
-  pub size : length rows ≡ 130
-  pub each : (w x : ℕ) → w < 130 → has_part (row_at rows w) x ≡ (ltb x n && eqb (get_or positions x 0 + 1) w)
+abbrev pub PartsAt : List ℕ → ℕ → List PartSet → Type 0
+PartsAt positions n rows = AtPlaces (λ x. get_or positions x 0 + 1) 130 n rows
 
 -- at each place up to n are those of the first n parts whose positions are before it
 pub record Below (positions : List ℕ) (n : ℕ) (rows : List PartSet) : Type 0 where
@@ -97,3 +120,7 @@ pub record SizedFor (n : ℕ) (fs : List ℕ) (rs : List PartSet) : Type 0 where
   pub parts : n ≤ 128
   pub firsts : n ≤ length fs
   pub rows : n ≤ length rs
+
+-- each part of the order has a byte in the plan
+abbrev pub Tipped : List ℕ → List ℕ → Type 0
+Tipped plan order = (p : ℕ) → p < length order → get_or order p 0 < length plan

@@ -1,9 +1,10 @@
-// The least order by flat arrays, position by position. Slices have a place for each part.
+// The best order by flat arrays, position by position. Slices have a place for each part.
 ghost use Rattle.std.specs.Prelude.{◌≡◌, true, false, ℕ, ◌≤◌, ◌<◌, ltb, length, get_or, take, T, IfSome, IfNone};
 ghost use Rattle.std.proofs.Math.Option.{some, none};
-ghost use Rattle.ordering.specs.Least.{greedy};
+ghost use Rattle.ordering.specs.Least.{greedy_by};
 ghost use Rattle.flat_order.specs.Sets.{has_part};
-ghost use Rattle.flat_order.specs.Flat.{candidates_at, is_pick, flat_task, SizedFor, InPlace, Below, Levels, Raised, IsEnd, Held, IsFirst};
+ghost use Rattle.flat_order.specs.Flat.{row_at, candidates_at, is_pick, flat_task, choose_ready, IsFirst, IsChosen};
+ghost use Rattle.flat_order.specs.Flat.{SizedFor, InPlace, Below, Levels, Raised, IsEnd, Held};
 
 use crate::MOST_PARTS;
 use crate::positions::by_position;
@@ -94,7 +95,28 @@ fn lowest_free(
     None
 }
 
-// The pick for each position, in the first places; none where a position has no pick.
+// The lowest free candidate that is ready; where none is, the lowest free candidate.
+fn free_on(
+    ready: PartSet,
+    among: PartSet,
+    left: PartSet,
+    rows: &[PartSet],
+    waiting: &mut Waiting,
+) -> Option<usize>
+    requires inside { (x : ℕ) → T (has_part among x) → x < length rows.now }
+    requires held { Held left waiting.old.parts rows.now waiting.old.noted }
+    ensures some { IfSome result (λ x. (x < 128) × IsChosen (has_part ready) (is_pick among left rows.now) x) }
+    ensures none { IfNone result ((x : ℕ) → T (is_pick among left rows.now x) → ⊥) }
+    ensures held { Held left waiting.new.parts rows.now waiting.new.noted }
+{
+    if let Some(x) = lowest_free(among & ready, left, rows, &mut *waiting) {
+        return Some(x);
+    }
+    lowest_free(among, left, rows, waiting)
+}
+
+// The pick for each position, in the first places; none where a position has no pick. At the start the parts of `start` are ready, and after
+// each part those of its set in `after`.
 pub fn greedy_order(
     all: PartSet,
     firsts: &[usize],
@@ -102,6 +124,8 @@ pub fn greedy_order(
     rows: &[PartSet],
     ends: &[PartSet],
     levels: &mut [u8],
+    start: PartSet,
+    after: &[PartSet],
 ) -> Option<[u8; MOST_PARTS]>
     requires sized { SizedFor (length lasts.now) firsts.now rows.now }
     requires firsts { InPlace (length lasts.now) firsts.now }
@@ -109,10 +133,11 @@ pub fn greedy_order(
     requires all { (x : ℕ) → has_part all x ≡ ltb x (length lasts.now) }
     requires ends { Below lasts.now (length lasts.now) ends.now }
     requires levels { Levels all lasts.now 0 levels.old }
+    requires after { length lasts.now ≤ length after.now }
     ensures some { IfSome result (λ order. some (take (length lasts.now) order)
-        ≡ greedy (flat_task firsts.now lasts.now rows.now) (length lasts.now) 0 (λ _. true)) }
+        ≡ greedy_by choose_ready (row_at after.now) (flat_task firsts.now lasts.now rows.now) (length lasts.now) 0 start (λ _. true)) }
     ensures none { IfNone result (none
-        ≡ greedy (flat_task firsts.now lasts.now rows.now) (length lasts.now) 0 (λ _. true)) }
+        ≡ greedy_by choose_ready (row_at after.now) (flat_task firsts.now lasts.now rows.now) (length lasts.now) 0 start (λ _. true)) }
 {
     let n = lasts.len();
     let starts = by_position(&firsts[..n]);
@@ -122,6 +147,7 @@ pub fn greedy_order(
     };
     let mut begun = PartSet::EMPTY;
     let mut left = all;
+    let mut ready = start;
     let mut order = [0; MOST_PARTS];
     let mut end = 0;
     let mut reached = true;
@@ -129,10 +155,11 @@ pub fn greedy_order(
         begun = begun | starts[p + 1];
         end = tight_end(reached, end, p, &levels[..n]);
         let among = candidates(p, end, left & begun, ends);
-        let x = lowest_free(among, left, rows, &mut waiting)?;
+        let x = free_on(ready, among, left, rows, &mut waiting)?;
         order[p] = x as u8;
         waiting.parts = waiting.parts - waiting.noted[x];
         left = left - PartSet::single(x);
+        ready = after[x];
         reached = raise(p + 1, lasts[x], &mut *levels);
     }
     Some(order)

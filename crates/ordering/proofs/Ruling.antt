@@ -1,40 +1,26 @@
 -- What the call accepts obeys and is the least that does; past 12, 13 and 14, 29 is told exactly when none obeys.
 use Prim.Native.Nat.{ℕ}
 use native.Mathlib.Omega.{arith}
-use mathlib.Core.Path.{◌≡◌, refl, ap, sym, ◌∙◌}
-use mathlib.Core.Bool.{Bool, true, false, cond}
+use mathlib.Core.Path.{◌≡◌, ap, sym, ◌∙◌}
+use mathlib.Core.Bool.{Bool, cond}
 use mathlib.Core.List.{List}
-use mathlib.Core.Option.{Option, none, some}
+use mathlib.Core.Option.{Option, some}
 use lib.Dec.{T, ltb}
 use lib.ListN.{length, take, drop}
 use lib.Seq.{take_at}
-use borrow.Author.Tests.{eqb-true}
 use Rattle.model.specs.Count.{each, first_fail}
-use Rattle.model.proofs.Tests.{cond_case, T_true}
 use Rattle.refusal.specs.Told.{Refusal}
 use Rattle.refusal.specs.Refusal as R
-use Rattle.refusal.proofs.Laws.{or_none, or_next, when-none, when_taken, at_none}
+use Rattle.refusal.proofs.Laws.{or_none, at_none}
 use Rattle.ordering.specs.declared.Part.{Part}
 use Rattle.ordering.specs.declared.Rule.{Rule}
 use Rattle.ordering.specs.Order.{Obeys, LexLe, Least}
 use Rattle.ordering.specs.Parts.{window_ok, rule_ok, task_of, placing_order}
 use Rattle.ordering.proofs.Least.{least_obeys, least_at-most, least_none}
 use Rattle.ordering.proofs.Parts.{windows_good, placing-order}
-use Rattle.ordering.specs.Call.{absent, first_bad, parts_refusal, given_refusal, order_refusal, order_after, PlacingRule}
+use Rattle.ordering.specs.Call.{first_bad, parts_refusal, given_refusal, order_refusal, order_after, NoneObeys, PlacingRule}
 use Rattle.ordering.proofs.Refused.{accepted_buffer}
-
--- what the number of each of two refusals is not, that of the first that applies is not
-or_not : {n : ℕ} (first next : Refusal) → (first.number ≡ n → ⊥) → (next.number ≡ n → ⊥) → (R.or_else first next).number ≡ n → ⊥
-unfolding R.or_else
-or_not {n} first next a b = cond_case (λ (r : Refusal). r.number ≡ n → ⊥) (R.accepts first) (λ _. b) (λ _. a)
-
-absent_none : (o : Option (List ℕ)) → absent o ≡ true → o ≡ none
-absent_none none e = refl
-absent_none (some order) e = absurd (T_true {b = false} e)
-
-present_some : (o : Option (List ℕ)) → absent o ≡ false → (order : List ℕ) × (some order ≡ o)
-present_some none e = absurd (T_true {b = false} (sym e))
-present_some (some order) e = (order, refl)
+use Rattle.ordering.proofs.Searched.{or_not, number_only, accepted_some, none_obeys}
 
 module _ (parts : List Part) (rules : List Rule) (room : ℕ) where
   abbrev n : ℕ
@@ -55,7 +41,7 @@ module _ (parts : List Part) (rules : List Rule) (room : ℕ) where
   passed z = placing-order parts rules (windows_passed z)
 
   -- 29 is none of the numbers before it
-  given_not : given.number ≡ 29 → ⊥
+  pub given_not : given.number ≡ 29 → ⊥
   unfolding given_refusal R.scan
   given_not =
       or_not (parts_refusal parts) (R.or_else thirteen (R.when (ltb room n) 14))
@@ -77,48 +63,41 @@ module _ (parts : List Part) (rules : List Rule) (room : ℕ) where
 
       no : (test : Bool) (number place : ℕ) → (number ≡ 29 → ⊥)
           → (cond {A = Refusal} test (record { number = number; place = place }) R.none).number ≡ 29 → ⊥
-      no test number place a = cond_case (λ (r : Refusal). r.number ≡ 29 → ⊥) test (λ _. a) (λ _ e. omega (arith, e))
+      no test number place a = number_only test number place a (λ e. omega (arith, e))
 
-  accepted_some : (order_refusal parts rules room).number ≡ 0 → (given.number ≡ 0) × ((order : List ℕ) × (some order ≡ placing_order parts rules))
+  -- what is accepted has an order
+  pub order_obeys : (order_refusal parts rules room).number ≡ 0 → (given.number ≡ 0) × ((order : List ℕ) × Obeys (task_of parts rules) order)
   unfolding order_refusal
-  accepted_some z =
-      let (a, b) = or_none given _ z in
-      (a, present_some (placing_order parts rules) (when-none (absent (placing_order parts rules)) 29 (λ e. omega (arith, e)) b))
+  order_obeys z =
+      let (a, (order, h)) = accepted_some given (placing_order parts rules) z in
+      (a, (order, least_obeys (rw h (passed a))))
 
-  told_none : (order_refusal parts rules room).number ≡ 29 → (given.number ≡ 0) × (placing_order parts rules ≡ none)
-  unfolding order_refusal R.or_else
-  told_none = by (R.accepts given) refl
-    where
-      by : (b : Bool) → R.accepts given ≡ b → (cond b (R.when (absent (placing_order parts rules)) 29) given).number ≡ 29
-          → (given.number ≡ 0) × (placing_order parts rules ≡ none)
-      by true e h = (
-        eqb-true given.number 0 e,
-        absent_none (placing_order parts rules) (when_taken (absent (placing_order parts rules)) 29 (omega (arith, h))),
-      )
-      by false e h = absurd (given_not h)
-
-  none_told : given.number ≡ 0 → placing_order parts rules ≡ none → R.refuse 29 ≡ order_refusal parts rules room
+  pub order_none : NoneObeys (task_of parts rules) given (order_refusal parts rules room)
   unfolding order_refusal
-  none_told z e = or_next {d = given} refl _ z (rw e)
+  order_none = none_obeys given (placing_order parts rules) (task_of parts rules) given_not (λ z. least_none (passed z))
 
-pub placing_rule : (parts : List Part) (rules : List Rule) (buffer : List ℕ)
-    → PlacingRule parts rules (length buffer) (order_after parts rules buffer) (order_refusal parts rules (length buffer))
-placing_rule parts rules buffer = record {
-  obeys = λ z. (found z).0;
-  least = λ z other o. (found z).1 other o;
-  none = λ z. let (a, b) = told_none parts rules (length buffer) z in (least_none (passed parts rules (length buffer) a)).0 b;
-  told = λ z h.
-      let e = (least_none (passed parts rules (length buffer) z)).1 h in
-      sym (ap (λ (t : Refusal). t.number) (none_told parts rules (length buffer) z e));
-}
-  where
-    found : (order_refusal parts rules (length buffer)).number ≡ 0 →
-        Obeys (task_of parts rules) (take (length parts) (order_after parts rules buffer))
-        × ((other : List ℕ) → Obeys (task_of parts rules) other → LexLe (take (length parts) (order_after parts rules buffer)) other)
-    found z =
-        let (a, (order, h)) = accepted_some parts rules (length buffer) z in
-        let l : Least (task_of parts rules) (some order) = rw h (passed parts rules (length buffer) a) in
-        let b : take (length parts) (order_after parts rules buffer) ≡ order =
-        ap (take (length parts)) (sym (accepted_buffer parts rules buffer order z h))
-        ∙ take_at order (drop (length parts) buffer) (length parts) (least_obeys l).count in
-        (rw b (least_obeys l), λ other o. rw b (least_at-most l o))
+module _ (parts : List Part) (rules : List Rule) (buffer : List ℕ) where
+  abbrev given_here : Refusal
+  given_here = given_refusal parts rules (length buffer)
+
+  abbrev answer : Option (List ℕ)
+  answer = placing_order parts rules
+
+  found : (order_refusal parts rules (length buffer)).number ≡ 0 → Obeys (task_of parts rules) (take (length parts) (order_after parts rules buffer))
+      × ((other : List ℕ) → Obeys (task_of parts rules) other → LexLe (take (length parts) (order_after parts rules buffer)) other)
+  unfolding order_refusal
+  found z =
+      let (a, (order, h)) = accepted_some given_here answer z in
+      let l : Least (task_of parts rules) (some order) = rw h (passed parts rules (length buffer) a) in
+      let b : take (length parts) (order_after parts rules buffer) ≡ order =
+      ap (take (length parts)) (sym (accepted_buffer parts rules buffer order z h))
+      ∙ take_at order (drop (length parts) buffer) (length parts) (least_obeys l).count in
+      (rw b (least_obeys l), λ other o. rw b (least_at-most l o))
+
+  pub placing_rule : PlacingRule parts rules (length buffer) (order_after parts rules buffer) (order_refusal parts rules (length buffer))
+  unfolding order_refusal
+  placing_rule = record {
+    obeys = λ z. (found z).0;
+    least = λ z other o. (found z).1 other o;
+    none = order_none parts rules (length buffer);
+  }

@@ -3,7 +3,8 @@ use mathlib.Core.Path.{refl}
 use Rattle.model.specs.Count.{All, none, more, first_fail, every, list_of, lowest_at}
 use Rattle.refusal.specs.Refusal.{or_else, scan}
 use Rattle.ordering.specs.Number.{number, lowest}
-use Rattle.ordering.specs.Least.{due, tight, is_free_part, fits, pick, prepend, greedy, earliest, relax, settle, lasts_of, least_order}
+use Rattle.ordering.specs.Least.{due, tight, is_free_part, fits, pick_by, prepend, greedy_by, earliest, relax, settle, lasts_of, best_order}
+use Rattle.ordering.specs.Least.{least_order}
 use Rattle.ordering.specs.Parts.{ruled, by_flags, before, window_ok, rule_ok, placing_order}
 use Rattle.ordering.specs.Call.{given_refusal, order_refusal, order_after}
 use Rattle.ordering.specs.Rows.{run, rows, Gives}
@@ -11,9 +12,8 @@ use Rattle.ordering.specs.Rows.{B90_junk, B90_none, B91, B93, B94, B95, B96_late
 use Rattle.ordering.specs.Rows.{B104_twice, B105, B106}
 
 pub starred : All Gives rows
-unfolding run order_refusal order_after given_refusal or_else scan first_fail window_ok rule_ok placing_order least_order lasts_of settle earliest
-    relax greedy
-    pick prepend tight due fits is_free_part before by_flags ruled number lowest lowest_at every list_of
+unfolding run order_refusal order_after given_refusal or_else scan first_fail window_ok rule_ok placing_order least_order best_order lasts_of settle
+    earliest relax greedy_by pick_by prepend tight due fits is_free_part before by_flags ruled number lowest lowest_at every list_of
 starred =
     more {x = B90_junk} refl
     (more {x = B90_none} refl

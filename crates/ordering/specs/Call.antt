@@ -6,7 +6,7 @@ use Rattle.refusal.specs.Told.{Refusal}
 use Rattle.refusal.specs.Refusal.{when, or_else, scan, lent_by}
 use Rattle.ordering.specs.declared.Part.{Part}
 use Rattle.ordering.specs.declared.Rule.{Rule}
-use Rattle.ordering.specs.Order.{Obeys, LexLe}
+use Rattle.ordering.specs.Order.{Task, Obeys, LexLe}
 use Rattle.ordering.specs.Parts.{window_ok, rule_ok, task_of, placing_order}
 
 -- there is no order
@@ -41,9 +41,13 @@ unfoldable pub order_after : List Part → List Rule → List ℕ → List ℕ
 order_after parts rules buffer =
     lent_by (order_refusal parts rules (length buffer)) (length parts) (ordered (placing_order parts rules)) buffer
 
--- what is accepted obeys, and is the least of all orders that obey; past 12, 13 and 14, 29 is told exactly when no order obeys
+-- 29 is told exactly when no order obeys, past what is refused before a search
+pub record NoneObeys (t : Task) (given r : Refusal) : Type 0 where
+  pub means : r.number ≡ 29 → (other : List ℕ) → Obeys t other → ⊥
+  pub told : given.number ≡ 0 → ((other : List ℕ) → Obeys t other → ⊥) → r.number ≡ 29
+
+-- what is accepted obeys, and is the least of all orders that obey
 pub record PlacingRule (parts : List Part) (rules : List Rule) (room : ℕ) (buffer : List ℕ) (r : Refusal) : Type 0 where
   pub obeys : r.number ≡ 0 → Obeys (task_of parts rules) (take (length parts) buffer)
   pub least : r.number ≡ 0 → (other : List ℕ) → Obeys (task_of parts rules) other → LexLe (take (length parts) buffer) other
-  pub none : r.number ≡ 29 → (other : List ℕ) → Obeys (task_of parts rules) other → ⊥
-  pub told : (given_refusal parts rules room).number ≡ 0 → ((other : List ℕ) → Obeys (task_of parts rules) other → ⊥) → r.number ≡ 29
+  pub none : NoneObeys (task_of parts rules) (given_refusal parts rules room) r

@@ -25,23 +25,23 @@ abbrev pub Gives : Row → Type 0
 Gives row = run row ≡ row.result
 
 -- a part that may stand from one position to another: plain, fine, tall, or both
-abbrev plain : ℕ → ℕ → Part
+abbrev pub plain : ℕ → ℕ → Part
 plain a b = record { first = a; last = b; fine = false; tall = false }
 
-abbrev fine : ℕ → ℕ → Part
+abbrev pub fine : ℕ → ℕ → Part
 fine a b = record { first = a; last = b; fine = true; tall = false }
 
-abbrev tall : ℕ → ℕ → Part
+abbrev pub tall : ℕ → ℕ → Part
 tall a b = record { first = a; last = b; fine = false; tall = true }
 
-abbrev both : ℕ → ℕ → Part
+abbrev pub both : ℕ → ℕ → Part
 both a b = record { first = a; last = b; fine = true; tall = true }
 
-abbrev rule : ℕ → ℕ → Rule
+abbrev pub rule : ℕ → ℕ → Rule
 rule a b = record { earlier = a; later = b }
 
 -- a buffer that holds junk
-abbrev junk : ℕ → List ℕ
+abbrev pub junk : ℕ → List ℕ
 junk n = replicate n 9
 
 -- the order, in a buffer of the same length

@@ -4,6 +4,7 @@ use mathlib.Core.Path.{◌≡◌, sym, subst}
 use mathlib.Core.Logic.{◌↔◌, ◌⊎◌, inl, inr, ⊎_elim}
 use mathlib.Core.Bool.{not, ◌&&◌}
 use mathlib.Core.List.{List}
+use Rattle.model.specs.Choice.{Mounted}
 use lib.Dec.{T, T_not, not_T, eqb, eqb→eq}
 use lib.ListN.{length}
 use Rattle.model.proofs.Tests.{not_and, and_left, and_right, eqb_T}
@@ -14,10 +15,12 @@ use Rattle.cases.proofs.Laws.{told_or, told_when}
 use Rattle.ordering.specs.declared.Part.{Part}
 use Rattle.ordering.specs.declared.Rule.{Rule}
 use Rattle.ordering.specs.Call.{order_refusal}
-use Rattle.order_cases.specs.Cases.{order_cases}
-use Rattle.order_cases.proofs.Told.{order_told}
+use Rattle.ordering.specs.TipCall.{refusal_by_tips}
+use Rattle.order_cases.specs.Cases.{order_cases, tip_order_cases}
+use Rattle.order_cases.proofs.Told.{order_told, tip_order_told}
 use Rattle.placing.specs.Numbers.{parts_in, rules_in, numbers_refusal, order_in}
-use Rattle.placing.specs.Cases.{numbers_cases}
+use Rattle.placing.specs.ByTips.{refusal_by_tips_in}
+use Rattle.placing.specs.Cases.{broken_cases, numbers_cases, numbers_by_tips_cases}
 
 pub parts_told : (parts : List Part) (rules : List Rule) (room : ℕ) {r : Refusal} → r ≡ order_refusal parts rules room
     → Told (order_cases parts rules room) r
@@ -32,11 +35,29 @@ broken_iff x y = (
       ⊎_elim (λ n. n (eqb→eq x 0 (and_left (eqb x 0) (eqb y 0) t))) (λ n. n (eqb→eq y 0 (and_right (eqb x 0) (eqb y 0) t))) o),
 )
 
+broken_told : (parts rules : List ℕ) → Told (broken_cases parts rules) (numbers_refusal parts rules)
+unfolding numbers_refusal
+broken_told parts rules =
+    told_when BrokenRecord (not (eqb (length parts % 4) 0 && eqb (length rules % 2) 0)) (broken_iff (length parts % 4) (length rules % 2))
+
 pub numbers_told : (parts rules : List ℕ) (room : ℕ) {r : Refusal} → r ≡ order_in parts rules room → Told (numbers_cases parts rules room) r
-unfolding order_in numbers_refusal
+unfolding order_in
 numbers_told parts rules room e =
-    let fit = eqb (length parts % 4) 0 && eqb (length rules % 2) 0 in
     subst (Told (numbers_cases parts rules room)) (sym e)
-    (told_or (numbers_refusal parts rules) (order_refusal (parts_in parts) (rules_in rules) room) _ _
-    (told_when BrokenRecord (not fit) (broken_iff (length parts % 4) (length rules % 2)))
-    (λ _. order_told (parts_in parts) (rules_in rules) room))
+    (told_or (numbers_refusal parts rules) (order_refusal (parts_in parts) (rules_in rules) room) (broken_cases parts rules) _
+    (broken_told parts rules) (λ _. order_told (parts_in parts) (rules_in rules) room))
+
+-- and by tips
+module _ (plan : List ℕ) (mounted : Mounted) (room : ℕ) {r : Refusal} where
+  pub parts_by_tips_told : (parts : List Part) (rules : List Rule) → r ≡ refusal_by_tips parts rules plan mounted room
+      → Told (tip_order_cases parts rules plan mounted room) r
+  parts_by_tips_told parts rules e =
+      subst (Told (tip_order_cases parts rules plan mounted room)) (sym e) (tip_order_told parts rules room plan mounted)
+
+  pub numbers_by_tips_told : (parts rules : List ℕ) → r ≡ refusal_by_tips_in parts rules plan mounted room
+      → Told (numbers_by_tips_cases parts rules plan mounted room) r
+  unfolding refusal_by_tips_in
+  numbers_by_tips_told parts rules e =
+      subst (Told (numbers_by_tips_cases parts rules plan mounted room)) (sym e)
+      (told_or (numbers_refusal parts rules) (refusal_by_tips (parts_in parts) (rules_in rules) plan mounted room) (broken_cases parts rules) _
+      (broken_told parts rules) (λ _. tip_order_told (parts_in parts) (rules_in rules) room plan mounted))

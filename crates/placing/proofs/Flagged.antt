@@ -23,7 +23,7 @@ use Rattle.flat_order.proofs.Below.{row-set}
 
 -- ---- sets by a test
 
-has_nothing : (x : ℕ) → has_part no_parts x ≡ false
+pub has_nothing : (x : ℕ) → has_part no_parts x ≡ false
 has_nothing x = first-none x ∙ false_T (ltb x 0) (not_T (ltb x 0) (λ u. omega (arith, ltb→lt x 0 u)))
 
 has-when : (g : Bool) (s : PartSet) (x : ℕ) → has_part (cond g s no_parts) x ≡ (g && has_part s x)

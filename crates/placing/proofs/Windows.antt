@@ -6,9 +6,10 @@ use mathlib.Core.Logic.{⊎_elim}
 use mathlib.Core.Bool.{Bool, not}
 use mathlib.Core.List.{List}
 use lib.Dec.{T, ltb, leb, ltb→lt, leb→le}
-use lib.ListN.{length, get_or, take, set}
+use lib.ListN.{length, get_or, take, set, length-set}
 use lib.Seq.{get_or-take, length-take-le, get_or-set_same, get_or-set_other}
 use mathlib.Core.Option.{none, some}
+use mathlib.Core.Option as M
 use Rattle.std.proofs.Common as R
 use Rattle.std.proofs.Common.{IfSome, IfNone}
 use Rattle.std.specs.List.{position, position_or_len}
@@ -28,14 +29,12 @@ use Rattle.ordering.proofs.Least.{least-order, least_unique}
 use Rattle.ordering.proofs.Parts.{placing-order}
 use Rattle.flat_order.specs.declared.sets.PartSet.{PartSet}
 use Rattle.flat_order.specs.Flat.{flat_task, InPlace}
-use Rattle.std.specs.Prelude.{Option, Some, None, Result, Ok, Err}
-use Rattle.std.specs.Result.{IsErrAnd}
+use Rattle.std.specs.Prelude.{Option, Some, None}
 use Rattle.refusal.specs.Refusal as Refusal
-use Rattle.refusal.specs.declared.Reason.{Reason}
 use Rattle.refusal.specs.declared.Refused.{Refused}
-use Rattle.refusal.specs.Reasons.{reason_number, told_of, refusal_of, refused_at}
+use Rattle.refusal.specs.Reasons.{told_of, refused_at}
 use Rattle.refusal.proofs.Laws.{reason_not_0}
-use Rattle.placing.specs.Rows.{RowsFor}
+use Rattle.placing.specs.Rows.{RowsFor, PositionsOf}
 
 position_some : {A : Type 0} (f : A → Bool) (xs : List A)
     → IfSome (position (λ x. not (f x)) xs) (λ w. (w < length xs) × (w ≡ first_fail f xs))
@@ -65,13 +64,23 @@ module _ (parts : List Part) where
   no_bad_window e = rw (← e) at (position_none (window_ok (length parts)) parts)
 
 -- one place more is filled
-pub filled_at : (f : ℕ → ℕ) (xs : List ℕ) (i v : ℕ) → i < length xs → ((k : ℕ) → k < i → get_or xs k 0 ≡ f k) → v ≡ f i
-    → (k : ℕ) → k < i + 1 → get_or (set xs i v) k 0 ≡ f k
-filled_at f xs i v l h e k m =
+filled_at : (f : ℕ → ℕ) (xs : List ℕ) (i : ℕ) → i < length xs → ((k : ℕ) → k < i → get_or xs k 0 ≡ f k)
+    → (k : ℕ) → k < i + 1 → get_or (set xs i (f i)) k 0 ≡ f k
+filled_at f xs i l h k m =
     ⊎_elim
-    (λ (u : i ≤ k). let z : k ≡ i = omega arith in rw z (get_or-set_same xs i v 0 l ∙ e))
-    (λ (u : k < i). get_or-set_other xs i k v 0 (λ z. omega arith) ∙ h k u)
+    (λ (u : i ≤ k). let z : k ≡ i = omega arith in rw z (get_or-set_same xs i (f i) 0 l))
+    (λ (u : k < i). get_or-set_other xs i k (f i) 0 (λ z. omega arith) ∙ h k u)
     (le_or_lt i k)
+
+-- the positions of one part more
+pub positions_more : (parts : List Part) (i : ℕ) (firsts lasts : List ℕ) → i < 128 → PositionsOf parts i firsts lasts
+    → PositionsOf parts (i + 1) (set firsts i (part_at parts i).first) (set lasts i (part_at parts i).last)
+positions_more parts i firsts lasts l p = record {
+  firsts_size = length-set firsts i _ ∙ p.firsts_size;
+  lasts_size = length-set lasts i _ ∙ p.lasts_size;
+  opens = filled_at (λ k. (part_at parts k).first) firsts i (omega (arith, p.firsts_size)) p.opens;
+  closes = filled_at (λ k. (part_at parts k).last) lasts i (omega (arith, p.lasts_size)) p.closes;
+}
 
 -- where no window is bad the positions are below the number of parts
 module _ (parts : List Part) (windows : T (each (window_ok (length parts)) parts)) where
@@ -87,61 +96,45 @@ module _ (parts : List Part) (windows : T (each (window_ok (length parts)) parts
         ltb→lt x.last n (and_right (leb x.first x.last) (ltb x.last n) w),
       )
 
-  module _ (firsts lasts : List ℕ) (room : n ≤ length lasts) (fs : (i : ℕ) → i < n → get_or firsts i 0 ≡ (part_at parts i).first)
-      (ls : (i : ℕ) → i < n → get_or lasts i 0 ≡ (part_at parts i).last) where
+  module _ (few : n ≤ 128) (firsts lasts : List ℕ) (p : PositionsOf parts n firsts lasts) where
+    pub size : length (take n lasts) ≡ n
+    size = length-take-le n lasts (omega (arith, p.lasts_size))
+
     pub firsts_in : InPlace n firsts
-    firsts_in i l = omega (arith, fs i l, window_at i l)
+    firsts_in i l = omega (arith, p.opens i l, window_at i l)
 
     pub lasts_in : InPlace n (take n lasts)
-    lasts_in i l = omega (arith, get_or-take n lasts i 0 l, ls i l, window_at i l)
+    lasts_in i l = omega (arith, get_or-take n lasts i 0 l, p.closes i l, window_at i l)
 
     module _ (rules : List Rule) (rows : List PartSet) (r : RowsFor parts rules rows) where
       abbrev t : Task
       t = flat_task firsts (take n lasts) rows
 
-      agree : Agree t (task_of parts rules)
-      agree =
-          let size = length-take-le n lasts room in
-          record {
-            size = size;
-            first = λ i l. fs i (omega (arith, size));
-            last = λ i l. get_or-take n lasts i 0 (omega (arith, size)) ∙ ls i (omega (arith, size));
-            before = λ a b k l. r.has a b (omega (arith, size)) (omega (arith, size));
-          }
+      -- the flat arrays describe the parts
+      pub parts_agree : Agree t (task_of parts rules)
+      parts_agree = record {
+        size = size;
+        first = λ i l. p.opens i (omega (arith, size));
+        last = λ i l. get_or-take n lasts i 0 (omega (arith, size)) ∙ p.closes i (omega (arith, size));
+        before = λ a b k l. r.has a b (omega (arith, size)) (omega (arith, size));
+      }
 
-      below : (i : ℕ) → i < t.size → t.last i < t.size
-      below i l =
-          let size = length-take-le n lasts room in
-          omega (arith, size, lasts_in i (omega (arith, size)))
+      pub below : (i : ℕ) → i < t.size → t.last i < t.size
+      below i l = omega (arith, size, lasts_in i (omega (arith, size)))
 
       -- the least order by the flat arrays is the placing order
-      flat-order : least_order t ≡ placing_order parts rules
-      flat-order = least_unique (least_agree agree (least-order t below)) (placing-order parts rules windows)
+      pub flat-order : least_order t ≡ placing_order parts rules
+      flat-order = least_unique (least_agree parts_agree (least-order t below)) (placing-order parts rules windows)
 
-    module _ (rows : List PartSet) where
-      abbrev t₂ : Task
-      t₂ = flat_task firsts (take n lasts) rows
+-- what the search answers, where the order of the flat arrays is that of the parts
+module _ {k n : ℕ} (size : k ≡ n) {flat whole : M.Option (List ℕ)} (e : flat ≡ whole) where
+  pub order_some : (o : R.Option (List ℕ)) → IfSome o (λ order. some (take k order) ≡ flat) → IfSome o (λ order. some (take n order) ≡ whole)
+  order_some R.None h = tt
+  order_some (R.Some order) h = ap (λ j. some (take j order)) (sym size) ∙ h ∙ e
 
-      pub order_some : (o : R.Option (List ℕ)) → IfSome o (λ order. some (take (length (take n lasts)) order) ≡ least_order t₂)
-          → IfSome o (λ order. (rules : List Rule) → RowsFor parts rules rows → some (take n order) ≡ placing_order parts rules)
-      order_some R.None h = tt
-      order_some (R.Some order) h = λ rules r. ap (λ k. some (take k order)) (sym (length-take-le n lasts room)) ∙ h ∙ flat-order rules rows r
-
-      pub order_none : (o : R.Option (List ℕ)) → IfNone o (none ≡ least_order t₂)
-          → IfNone o ((rules : List Rule) → RowsFor parts rules rows → none ≡ placing_order parts rules)
-      order_none R.None h = λ rules r. h ∙ flat-order rules rows r
-      order_none (R.Some order) h = tt
-
--- the refusal of a call that ends with an error
-pub told_error : {A : Type 0} (r : Result A Refused) (e : Refused) → IsErrAnd r (λ x. x ≡ e) → refusal_of r ≡ told_of e
-told_error (Ok x) e h = absurd h
-told_error (Err x) e h = ap told_of h
-
--- and with a reason alone
-pub told_reason : {A : Type 0} (r : Result A Refused) (reason : Reason) → IsErrAnd r (λ x. x ≡ record { reason = reason; place = 0 })
-    → refusal_of r ≡ record { number = reason_number reason; place = 0 }
-told_reason (Ok x) reason h = absurd h
-told_reason (Err x) reason h = ap told_of h
+  pub order_none : (o : R.Option (List ℕ)) → IfNone o (none ≡ flat) → IfNone o (none ≡ whole)
+  order_none R.None h = h ∙ e
+  order_none (R.Some order) h = tt
 
 -- a bad window is refused at its place
 pub told_window : (parts : List Part) (e : Refused) (o : Option ℕ) → o ≡ position (λ x. not (window_ok (length parts) x)) parts

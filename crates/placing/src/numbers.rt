@@ -1,11 +1,16 @@
 // The placing order for parts and rules as plain numbers: four numbers a part, two a rule.
-ghost use Rattle.std.specs.Prelude.{◌≡◌, ℕ, ◌≤◌, ◌<◌, [], length, get_or};
-ghost use Rattle.refusal.specs.Reasons.{refusal_of};
+ghost use Rattle.std.specs.Prelude.{◌≡◌, ℕ, ◌/◌, ◌≤◌, ◌<◌, [], length, get_or, ltb, IfOk};
+ghost use Rattle.std.specs.Simd.{first_chunks};
+ghost use Rattle.refusal.specs.Refusal.{when};
+ghost use Rattle.refusal.specs.Reasons.{refusal_of, count_in};
 ghost use Rattle.ordering.specs.Parts.{part_at};
-ghost use Rattle.placing.specs.Numbers.{part_of_numbers, rule_in, order_in, order_after_in, PlacingRuleIn};
+ghost use Rattle.placing.specs.Numbers.{part_of_numbers, rule_in, numbers_refusal, order_in, order_after_in, PlacingRuleIn};
 ghost use Rattle.cases.specs.Cases.{Told};
-ghost use Rattle.placing.specs.Cases.{numbers_cases};
+ghost use Rattle.placing.specs.Cases.{numbers_cases, numbers_by_tips_cases};
+ghost use Rattle.head.specs.OnHead.{on_head};
+ghost use Rattle.placing.specs.ByTips.{refusal_by_tips_in, buffer_by_tips_in, changes_by_tips_in, TipsRuleIn};
 
+use crate::by_tips::place_by_tips;
 use crate::placement::place;
 use flat_order::MOST_PARTS;
 use ordering::{Part, Rule};
@@ -24,12 +29,34 @@ fn part_of(numbers: &[u32; 4]) -> Part
     }
 }
 
-// The parts, at most 128, in the first places.
-fn parts_of(records: &[[u32; 4]]) -> [Part; MOST_PARTS]
-    requires { length records.now ≤ 128 }
-    ensures size { length result ≡ 128 }
-    ensures parts { (i : ℕ) → i < length records.now → part_at result i ≡ part_of_numbers (get_or records.now i []) 0 }
+// The records of the parts and those of the rules.
+pub fn records_of<'p, 'r>(
+    parts: &'p [u32],
+    rules: &'r [u32],
+) -> Result<(&'p [[u32; 4]], &'r [[u32; 2]]), Refused>
+    ensures refusal { refusal_of result ≡ numbers_refusal parts.now rules.now }
+    ensures parts { IfOk result (λ r. r.0.now ≡ first_chunks 4 (length parts.now / 4) parts.now) }
+    ensures rules { IfOk result (λ r. r.1.now ≡ first_chunks 2 (length rules.now / 2) rules.now) }
 {
+    let (records, more) = parts.as_chunks::<4>();
+    let (pairs, one) = rules.as_chunks::<2>();
+    if !more.is_empty() || !one.is_empty() {
+        return Err(Reason::BrokenRecord.at(0));
+    }
+    Ok((records, pairs))
+}
+
+// The parts in the first places. Over 128 are refused at once, as no place is left for them.
+pub fn parts_of(records: &[[u32; 4]]) -> Result<[Part; MOST_PARTS], Refused>
+    ensures refusal { refusal_of result ≡ when (ltb 128 (length records.now)) 12 }
+    ensures parts { IfOk result (λ parts. (i : ℕ) → i < length records.now
+        → part_at parts i ≡ part_of_numbers (get_or records.now i []) 0) }
+    ensures few { IfOk result (λ parts. length records.now ≤ 128) }
+    ensures size { IfOk result (λ parts. length parts ≡ 128) }
+{
+    if MOST_PARTS < records.len() {
+        return Err(Reason::BadWindow.at(0));
+    }
     let none = Part {
         first: 0,
         last: 0,
@@ -40,11 +67,11 @@ fn parts_of(records: &[[u32; 4]]) -> [Part; MOST_PARTS]
     for (i, record) in records.iter().enumerate() {
         parts[i] = part_of(record);
     }
-    parts
+    Ok(parts)
 }
 
 #[tactic(auto, unfolding(crate::specs::Numbers::rule_in))]
-fn rule_of(numbers: &[u32; 2]) -> Rule
+pub fn rule_of(numbers: &[u32; 2]) -> Rule
     ensures { result ≡ rule_in numbers.now 0 }
 {
     let [earlier, later] = *numbers;
@@ -61,19 +88,39 @@ pub fn order_numbers(parts: &[u32], rules: &[u32], order: &mut [u8]) -> Result<(
     ensures rule { PlacingRuleIn parts.now rules.now (length order.old) order.new (refusal_of result) }
     ensures cases { Told (numbers_cases parts.now rules.now (length order.old)) (refusal_of result) }
 {
-    let (records, more) = parts.as_chunks::<4>();
-    let (pairs, one) = rules.as_chunks::<2>();
-    if !more.is_empty() || !one.is_empty() {
-        return Err(Reason::BrokenRecord.at(0));
-    }
-    if MOST_PARTS < records.len() {
-        return Err(Reason::BadWindow.at(0));
-    }
-    let given = parts_of(records);
+    let (records, pairs) = records_of(parts, rules)?;
+    let given = parts_of(records)?;
     place(
         &given[..records.len()],
         pairs.len(),
         |i| rule_of(&pairs[i]),
+        order,
+    )
+}
+
+// The placing order by tips of the parts and the rules that the numbers stand for.
+pub fn order_by_tips(
+    parts: &[u32],
+    rules: &[u32],
+    plan: &[u8],
+    mounted: Option<usize>,
+    order: &mut [u8],
+) -> Result<usize, Refused>
+    ensures refusal { refusal_of result ≡ refusal_by_tips_in parts.now rules.now plan.now (on_head mounted) (length order.old) }
+    ensures order { order.new ≡ buffer_by_tips_in parts.now rules.now plan.now (on_head mounted) order.old }
+    ensures changes { count_in result ≡ changes_by_tips_in parts.now rules.now plan.now (on_head mounted) (length order.old) }
+    ensures rule { TipsRuleIn parts.now rules.now plan.now (on_head mounted) (length order.old) order.new (refusal_of result)
+        (count_in result) }
+    ensures cases { Told (numbers_by_tips_cases parts.now rules.now plan.now (on_head mounted) (length order.old)) (refusal_of result) }
+{
+    let (records, pairs) = records_of(parts, rules)?;
+    let given = parts_of(records)?;
+    place_by_tips(
+        &given[..records.len()],
+        pairs.len(),
+        |i| rule_of(&pairs[i]),
+        plan,
+        mounted,
         order,
     )
 }

@@ -9,6 +9,7 @@ mod record;
 mod script;
 mod shown;
 
+use crate::lent::read;
 use crate::record::State;
 use crate::script::{Command, Line, ScriptError};
 use std::alloc::Global;
@@ -22,6 +23,22 @@ fn run<W: Write>(out: &mut W, state: &mut State, command: &Command) -> io::Resul
         Command::Read { length, patches } => state.read(out, *length, patches),
         Command::Every(stage) => state.every(out, *stage),
         Command::Order { room } => state.orders.order(out, *room, state.junk),
+        Command::OrderByTips {
+            room,
+            count,
+            mounted,
+        } => {
+            let plan = read(&state.plan, *count);
+            state
+                .orders
+                .order_by_tips(out, *room, plan, *mounted, state.junk)
+        }
+        Command::Windows {
+            first_room,
+            last_room,
+        } => state
+            .orders
+            .windows(out, *first_room, *last_room, state.junk),
         Command::Edit(edit) => {
             state.edit(*edit);
             Ok(())

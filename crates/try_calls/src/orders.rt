@@ -3,6 +3,7 @@ use crate::lent::{lent, read, written};
 use crate::record::fill;
 use crate::shown::{Told, Values};
 use ordering::{Part, Rule};
+use refusal::Refused;
 use std::io;
 use std::io::Write;
 
@@ -78,4 +79,118 @@ impl Orders {
         let order = Values::new(&order, junk, written(&told, self.part_count));
         writeln!(out, "{} order{order}", Told::new(&told))
     }
+
+    // By the tips of a plan: once over records, then over plain numbers.
+    pub(crate) fn order_by_tips<W: Write>(
+        &self,
+        out: &mut W,
+        room: Option<usize>,
+        plan: &[u8],
+        mounted: Option<usize>,
+        junk: u8,
+    ) -> io::Result<()> {
+        let parts = read(&self.parts, Some(self.part_count));
+        let rules = read(&self.rules, Some(self.rule_count));
+        let mut order = [junk; ORDER_ROOM];
+        let told = placing::order_by_tips(parts, rules, plan, mounted, lent(&mut order, room));
+        self.show_by_tips(out, &told, &order, junk)?;
+        let part_numbers = part_numbers(parts);
+        let rule_numbers = rule_numbers(rules);
+        let mut order = [junk; ORDER_ROOM];
+        let told = placing::numbers::order_by_tips(
+            read(&part_numbers, Some(4 * parts.len())),
+            read(&rule_numbers, Some(2 * rules.len())),
+            plan,
+            mounted,
+            lent(&mut order, room),
+        );
+        write!(out, " numbers")?;
+        self.show_by_tips(out, &told, &order, junk)?;
+        writeln!(out)
+    }
+
+    // The positions that the parts can have: once over records, then over plain numbers.
+    pub(crate) fn windows<W: Write>(
+        &self,
+        out: &mut W,
+        first_room: Option<usize>,
+        last_room: Option<usize>,
+        junk: u8,
+    ) -> io::Result<()> {
+        let parts = read(&self.parts, Some(self.part_count));
+        let rules = read(&self.rules, Some(self.rule_count));
+        let mut first = [junk; ORDER_ROOM];
+        let mut last = [junk; ORDER_ROOM];
+        let told = part_windows::part_windows(
+            parts,
+            rules,
+            lent(&mut first, first_room),
+            lent(&mut last, last_room),
+        );
+        self.show_windows(out, &told, &first, &last, junk)?;
+        let part_numbers = part_numbers(parts);
+        let rule_numbers = rule_numbers(rules);
+        let mut first = [junk; ORDER_ROOM];
+        let mut last = [junk; ORDER_ROOM];
+        let told = part_windows::numbers::window_numbers(
+            read(&part_numbers, Some(4 * parts.len())),
+            read(&rule_numbers, Some(2 * rules.len())),
+            lent(&mut first, first_room),
+            lent(&mut last, last_room),
+        );
+        write!(out, " numbers")?;
+        self.show_windows(out, &told, &first, &last, junk)?;
+        writeln!(out)
+    }
+
+    fn show_windows<W: Write>(
+        &self,
+        out: &mut W,
+        told: &Result<(), Refused>,
+        first: &[u8],
+        last: &[u8],
+        junk: u8,
+    ) -> io::Result<()> {
+        let first = Values::new(first, junk, written(told, self.part_count));
+        let last = Values::new(last, junk, written(told, self.part_count));
+        write!(out, "{} first{first} last{last}", Told::new(told))
+    }
+
+    fn show_by_tips<W: Write>(
+        &self,
+        out: &mut W,
+        told: &Result<usize, Refused>,
+        order: &[u8],
+        junk: u8,
+    ) -> io::Result<()> {
+        let changes = told.unwrap_or(0);
+        let order = Values::new(order, junk, written(told, self.part_count));
+        write!(out, "{} changes {changes} order{order}", Told::new(told))
+    }
+}
+
+fn number_of(position: usize) -> u32 {
+    u32::try_from(position).unwrap_or(u32::MAX)
+}
+
+// Four numbers a part.
+fn part_numbers(parts: &[Part]) -> [u32; 4 * ORDER_ROOM] {
+    let mut numbers = [0; 4 * ORDER_ROOM];
+    for (record, part) in numbers.chunks_exact_mut(4).zip(parts) {
+        record[0] = number_of(part.first);
+        record[1] = number_of(part.last);
+        record[2] = u32::from(part.fine);
+        record[3] = u32::from(part.tall);
+    }
+    numbers
+}
+
+// Two numbers a rule.
+fn rule_numbers(rules: &[Rule]) -> [u32; 2 * RULE_ROOM] {
+    let mut numbers = [0; 2 * RULE_ROOM];
+    for (record, rule) in numbers.chunks_exact_mut(2).zip(rules) {
+        record[0] = number_of(rule.earlier);
+        record[1] = number_of(rule.later);
+    }
+    numbers
 }

@@ -59,9 +59,23 @@ impl Error for ScriptError {}
 #[derive(Drop)]
 pub(crate) enum Command {
     Call(Call),
-    Read { length: usize, patches: Vec<Patch> },
+    Read {
+        length: usize,
+        patches: Vec<Patch>,
+    },
     Every(Stage),
-    Order { room: Option<usize> },
+    Order {
+        room: Option<usize>,
+    },
+    OrderByTips {
+        room: Option<usize>,
+        count: Option<usize>,
+        mounted: Option<usize>,
+    },
+    Windows {
+        first_room: Option<usize>,
+        last_room: Option<usize>,
+    },
     Edit(Edit),
 }
 
@@ -174,7 +188,7 @@ impl Call {
         }
     }
 
-    // The call of a goal, a check, the Junior, a plan along the list or two boards that a word stands for, if any does.
+    // The call of a goal, a check, the Junior, a plan along the list, exact sharing or two boards that a word stands for, if any does.
     fn of_plans(word: &str, numbers: &[u64]) -> Option<Call> {
         match (word, numbers) {
             ("goal", [goal]) => Some(Call::Goal {
@@ -191,6 +205,12 @@ impl Call {
             ("along", _) => Some(Call::Along {
                 room: given(numbers, 0),
                 mounted: given(numbers, 1),
+            }),
+            ("exact", [price, rest @ ..]) => Some(Call::Exact {
+                price: pairs(*price),
+                room: given(rest, 0),
+                places: given(rest, 1),
+                mounted: given(rest, 2),
             }),
             ("merge", []) => Some(Call::Merge),
             ("alone", _) => Some(Call::Alone {
@@ -282,6 +302,15 @@ impl Command {
             ("every", [number]) => Ok(Command::Every(stage(*number))),
             ("order", _) => Ok(Command::Order {
                 room: given(numbers, 0),
+            }),
+            ("tips", _) => Ok(Command::OrderByTips {
+                room: given(numbers, 0),
+                count: given(numbers, 1),
+                mounted: given(numbers, 2),
+            }),
+            ("windows", _) => Ok(Command::Windows {
+                first_room: given(numbers, 0),
+                last_room: given(numbers, 1),
             }),
             _ => Call::new(word, numbers)
                 .map(Command::Call)

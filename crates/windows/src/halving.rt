@@ -1,5 +1,5 @@
 // The first and the last position of one part, by halving its window: each test asks whether some order obeys with the window narrowed.
-ghost use Rattle.std.specs.Prelude.{◌≡◌, ◌<◌, T, length};
+ghost use Rattle.std.specs.Prelude.{◌≡◌, ◌<◌, ◌≤◌, leb, ℕ, Bool, T, length};
 ghost use Rattle.flat_order.specs.Flat.{flat_task};
 ghost use Rattle.windows.specs.Bounds.{solvable, due_by, not_before, soonest, latest};
 ghost use Rattle.windows.specs.Found.{Ready};
@@ -43,18 +43,18 @@ fn can_stand_from(
     has_order(&starts, lasts, rows)
 }
 
-// The first position of part i in any order that obeys, by halving its window: at each turn it is between both ends.
-pub fn first_position(firsts: &[usize], lasts: &[usize], rows: &[PartSet], i: usize) -> usize
-    requires ready { Ready firsts.now lasts.now rows.now }
-    requires part { i < length lasts.now }
-    requires solvable { T (solvable (flat_task firsts.now lasts.now rows.now)) }
-    ensures { result ≡ soonest (flat_task firsts.now lasts.now rows.now) i }
+// The first position from one to another that passes, by halving what is between them. A position after one that passes passes too.
+fn first_passing<F: Fn(usize) -> bool>(first: usize, last: usize, passes: F) -> usize
+    requires { (p : ℕ) → p < last → F.pre passes p }
+    ensures range { first ≤ last → result ≤ last }
+    ensures bound { (bound : ℕ) → first ≤ bound → bound ≤ last
+        → ((p : ℕ) (r : Bool) → p < last → F.post passes p r → r ≡ leb bound p) → result ≡ bound }
 {
-    let mut from = firsts[i];
-    let mut to = lasts[i];
+    let mut from = first;
+    let mut to = last;
     while from < to {
         let middle = from + (to - from) / 2;
-        if can_stand_by(firsts, lasts, rows, i, middle) {
+        if passes(middle) {
             to = middle;
         } else {
             from = middle + 1;
@@ -63,22 +63,28 @@ pub fn first_position(firsts: &[usize], lasts: &[usize], rows: &[PartSet], i: us
     to
 }
 
-// And the last.
-pub fn last_position(firsts: &[usize], lasts: &[usize], rows: &[PartSet], i: usize) -> usize
+// The first position of part i in any order that obeys: in its window, the first one by which it can stand.
+pub fn first_position(firsts: &[usize], lasts: &[usize], rows: &[PartSet], i: usize) -> u8
+    requires ready { Ready firsts.now lasts.now rows.now }
+    requires part { i < length lasts.now }
+    requires solvable { T (solvable (flat_task firsts.now lasts.now rows.now)) }
+    ensures { result ≡ soonest (flat_task firsts.now lasts.now rows.now) i }
+{
+    first_passing(firsts[i], lasts[i], |position| {
+        can_stand_by(firsts, lasts, rows, i, position)
+    }) as u8
+}
+
+// And the last, looked for from the window's end.
+pub fn last_position(firsts: &[usize], lasts: &[usize], rows: &[PartSet], i: usize) -> u8
     requires ready { Ready firsts.now lasts.now rows.now }
     requires part { i < length lasts.now }
     requires solvable { T (solvable (flat_task firsts.now lasts.now rows.now)) }
     ensures { result ≡ latest (flat_task firsts.now lasts.now rows.now) i }
 {
-    let mut from = firsts[i];
-    let mut to = lasts[i];
-    while from < to {
-        let middle = to - (to - from) / 2;
-        if can_stand_from(firsts, lasts, rows, i, middle) {
-            from = middle;
-        } else {
-            to = middle - 1;
-        }
-    }
-    to
+    let end = lasts[i];
+    let back = first_passing(0, end - firsts[i], |back| {
+        can_stand_from(firsts, lasts, rows, i, end - back)
+    });
+    (end - back) as u8
 }

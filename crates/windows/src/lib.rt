@@ -1,10 +1,9 @@
 // The first and the last position that each part has in any placing order that obeys, over flat arrays.
 #![tactic(auto)]
 
-ghost use Rattle.std.specs.Prelude.{◌≡◌, T, length};
+ghost use Rattle.std.specs.Prelude.{◌≡◌, ◌<◌, ℕ, length};
 ghost use Rattle.model.specs.Count.{list_of};
 ghost use Rattle.flat_order.specs.Flat.{flat_task};
-ghost use Rattle.windows.specs.Bounds.{solvable, soonest, latest};
 ghost use Rattle.windows.specs.Found.{Ready, FoundBounds, BoundsRule};
 
 mod halving;
@@ -14,27 +13,14 @@ use crate::halving::{first_position, last_position};
 use crate::orders::has_order;
 use flat_order::sets::PartSet;
 
-// The first position of each part, a byte for each.
-fn put_firsts(firsts: &[usize], lasts: &[usize], rows: &[PartSet], found: &mut [u8])
-    requires ready { Ready firsts.now lasts.now rows.now }
-    requires as_parts { length found.old ≡ length lasts.now }
-    requires solvable { T (solvable (flat_task firsts.now lasts.now rows.now)) }
-    ensures { found.new ≡ list_of (soonest (flat_task firsts.now lasts.now rows.now)) (length lasts.now) }
+// Each place filled with what is found for it.
+fn fill<F: Fn(usize) -> u8>(found: &mut [u8], position_of: F)
+    requires { (i : ℕ) → i < length found.old → F.pre position_of i }
+    ensures { (f : ℕ → ℕ) → ((i r : ℕ) → i < length found.old → F.post position_of i r → r ≡ f i)
+        → found.new ≡ list_of f (length found.old) }
 {
-    for i in 0..lasts.len() {
-        found[i] = first_position(firsts, lasts, rows, i) as u8;
-    }
-}
-
-// The last position of each part, a byte for each.
-fn put_lasts(firsts: &[usize], lasts: &[usize], rows: &[PartSet], found: &mut [u8])
-    requires ready { Ready firsts.now lasts.now rows.now }
-    requires as_parts { length found.old ≡ length lasts.now }
-    requires solvable { T (solvable (flat_task firsts.now lasts.now rows.now)) }
-    ensures { found.new ≡ list_of (latest (flat_task firsts.now lasts.now rows.now)) (length lasts.now) }
-{
-    for i in 0..lasts.len() {
-        found[i] = last_position(firsts, lasts, rows, i) as u8;
+    for i in 0..found.len() {
+        found[i] = position_of(i);
     }
 }
 
@@ -55,7 +41,7 @@ pub fn find_bounds(
     if !has_order(firsts, lasts, rows) {
         return false;
     }
-    put_firsts(firsts, lasts, rows, &mut *first);
-    put_lasts(firsts, lasts, rows, &mut *last);
+    fill(first, |i| first_position(firsts, lasts, rows, i));
+    fill(last, |i| last_position(firsts, lasts, rows, i));
     true
 }

@@ -56,6 +56,7 @@ pub fn check(board: &Board) {
     check_quick(board, &tried);
     check_best(board, &tried);
     check_junior(board);
+    check_along(board, &tried);
     check_files(board);
 }
 
@@ -177,6 +178,39 @@ fn check_junior(board: &Board) {
     let [on_u, on_v] = [u, v].map(with_both_on);
     let more_on_v = pairs_in(&board.placed(&on_v)) > pairs_in(&board.placed(&on_u));
     assert_eq!(&plan[..board.count], if more_on_v { on_v } else { on_u });
+}
+
+/// A plan of the fewest changes, which is the one that the rule says, whichever tip is mounted.
+fn check_along(board: &Board, tried: &Tried) {
+    for mounted in [None].into_iter().chain((0..board.rack).map(Some)) {
+        let mut plan = junk_plan(board);
+        let answer = board.clone().along(mounted, &mut plan);
+        assert_answer(&answer, board, 0, 0);
+        check_plan(board, &plan, answer.value.pairs);
+        let laid = &plan[..board.count];
+        let before = mounted.map(|tip| tip as u8).into_iter();
+        let heads: Vec<u8> = before.chain(laid.iter().copied()).collect();
+        let changes = heads.windows(2).filter(|pair| pair[0] != pair[1]).count();
+        assert_eq!((answer.value.changes as usize, changes), (changes, tried.least_changes(mounted)));
+        assert_eq!(laid, by_the_rule_along(board, mounted));
+    }
+}
+
+/// The plan in the rule's words: what is shared so far, until a line has none of it.
+fn by_the_rule_along(board: &Board, mounted: Option<usize>) -> Vec<u8> {
+    let mut plan = Vec::new();
+    let mut lines_of_segment = 0;
+    let mut shared = mounted.map_or(u64::MAX, |tip| 1 << tip);
+    for line in board.lines() {
+        if shared & line.set == 0 {
+            plan.resize(plan.len() + lines_of_segment, shared.trailing_zeros() as u8);
+            (lines_of_segment, shared) = (0, u64::MAX);
+        }
+        lines_of_segment += 1;
+        shared &= line.set;
+    }
+    plan.resize(plan.len() + lines_of_segment, shared.trailing_zeros() as u8);
+    plan
 }
 
 /// Hands on every plan of the board.

@@ -1,15 +1,8 @@
-use Rattle.flat_order.proofs.Settled.{least_settled}
+use Rattle.flat_order.proofs.Ready.{never_ready}
 use Rattle.flat_order.proofs.least_order.Goals as goal
 
 pub returns-clause-some : goal.returns-clause-some
-returns-clause-some c =
-    let a = c.args in
-    let s = c.settle_lasts in
-    let (n, e) = least_settled a.firsts.now a.lasts.now a.rows.now s.new.lasts (s.ensures.settled a.firsts.now) in
-    rw (e, n) at c.greedy_order.ensures.some
+returns-clause-some c = rw (never_ready _) at c.best_order.ensures.some
 
 pub returns-clause-none : goal.returns-clause-none
-returns-clause-none c =
-    let a = c.args in
-    let s = c.settle_lasts in
-    rw (least_settled a.firsts.now a.lasts.now a.rows.now s.new.lasts (s.ensures.settled a.firsts.now)).1 at c.greedy_order.ensures.none
+returns-clause-none c = rw (never_ready _) at c.best_order.ensures.none

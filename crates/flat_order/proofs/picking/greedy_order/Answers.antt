@@ -6,15 +6,15 @@ use Rattle.flat_order.specs.Sets.{has_part, joined, removed}
 use Rattle.flat_order.specs.Flat.{row_at, candidates_at, is_pick, PartsAt}
 use Rattle.flat_order.proofs.Below.{before-none, before_more, parts_taken}
 use Rattle.flat_order.proofs.Levels.{levels_next, levels_most, end_in, end_stays, end_of-taken, end_in_taken}
-use Rattle.flat_order.proofs.Picks.{placing_none, placing_more, placing_all, among_left, found, found_none}
-use Rattle.flat_order.proofs.Free.{pick-among, held_none, held_less}
+use Rattle.flat_order.proofs.Picks.{chosen-passes, pick_in, placing_none, placing_more, placing_all, among_left, found, found_none}
+use Rattle.flat_order.proofs.Free.{held_none, held_less}
 use Rattle.flat_order.proofs.picking.greedy_order.Goals as goal
 
 pub loop-p-init : goal.loop-p-init
 loop-p-init c =
     let a = c.args in
     record {
-      placing = placing_none a.firsts.now a.lasts.now a.rows.now _ a.all (omega (arith, c.requires.sized.parts)) c.requires.all;
+      placing = placing_none a.firsts.now a.lasts.now a.rows.now a.start a.after.now _ a.all (omega (arith, c.requires.sized.parts)) c.requires.all;
       levels = c.requires.levels;
       low = omega arith;
       high = omega arith;
@@ -50,8 +50,8 @@ candidates-among-requires-clause-to c =
     is in
     omega (arith, k, c.requires.sized.parts)
 
-pub lowest_free-requires-clause-inside : goal.lowest_free-requires-clause-inside
-lowest_free-requires-clause-inside c =
+pub free_on-requires-clause-inside : goal.free_on-requires-clause-inside
+free_on-requires-clause-inside c =
     let l = c.loop-p in
     let e = c.candidates-among.ensures ∙ ap (λ s. candidates_at l.p c.tight_end-end.result s c.args.ends.now) c.bitand.ensures in
     λ x t. omega (
@@ -84,7 +84,8 @@ returns-in_err-x-clause-none c =
     (arith, c.requires.sized.parts)) i.begun) in
     let e = c.candidates-among.ensures ∙ ap (λ s. candidates_at l.p c.tight_end-end.result s a.ends.now) c.bitand.ensures in
     if-none c.from_residual.result
-    (found_none a.firsts.now a.lasts.now a.rows.now a.ends.now l.p c.tight_end-end.result l.order l.levels l.left c.bitor-begun.result _
+    (found_none a.firsts.now a.lasts.now a.rows.now a.start a.after.now a.ends.now l.p c.tight_end-end.result l.order l.levels l.left l.ready
+    c.bitor-begun.result _
     c.loop-p-test.true i.placing i.levels is i.low i.high c.requires.lasts c.requires.ends begins e
     c.in_err-x.ensures.none)
 
@@ -92,16 +93,23 @@ pub bounds-lasts-x : goal.bounds-lasts-x
 bounds-lasts-x c =
     let l = c.loop-p in
     let e = c.candidates-among.ensures ∙ ap (λ s. candidates_at l.p c.tight_end-end.result s c.args.ends.now) c.bitand.ensures in
-    let t = pick-among _ l.left c.args.rows.now c.in_ok-x.x c.in_ok-x.ensures.some.1.passes in
-    l.invariant.placing.inside c.in_ok-x.x (among_left l.left c.bitor-begun.result c.args.ends.now l.p _ c.in_ok-x.x (rw e at t))
+    pick_in c.args.rows.now l.left _ _ c.args.ends.now _ _ c.in_ok-x.x _ l.invariant.placing.inside e (chosen-passes c.in_ok-x.ensures.some.1)
+
+pub bounds-after-x : goal.bounds-after-x
+bounds-after-x c =
+    let l = c.loop-p in
+    let e = c.candidates-among.ensures ∙ ap (λ s. candidates_at l.p c.tight_end-end.result s c.args.ends.now) c.bitand.ensures in
+    let k = pick_in c.args.rows.now l.left _ _ c.args.ends.now _ _ c.in_ok-x.x _ l.invariant.placing.inside e
+    (chosen-passes c.in_ok-x.ensures.some.1) in
+    omega (arith, k, c.requires.after)
 
 pub raise-reached-requires-clause-fits : goal.raise-reached-requires-clause-fits
 raise-reached-requires-clause-fits c =
     let l = c.loop-p in
-    let t = pick-among _ l.left c.args.rows.now c.in_ok-x.x c.in_ok-x.ensures.some.1.passes in
     let e = c.candidates-among.ensures ∙ ap (λ s. candidates_at l.p c.tight_end-end.result s c.args.ends.now) c.bitand.ensures in
-    let x = l.invariant.placing.inside c.in_ok-x.x (among_left l.left c.bitor-begun.result c.args.ends.now l.p _ c.in_ok-x.x (rw e at t)) in
-    let last = c.requires.lasts c.in_ok-x.x x in
+    let k = pick_in c.args.rows.now l.left _ _ c.args.ends.now _ _ c.in_ok-x.x _ l.invariant.placing.inside e
+    (chosen-passes c.in_ok-x.ensures.some.1) in
+    let last = c.requires.lasts c.in_ok-x.x k in
     λ v h k. omega (
       arith,
       last,
@@ -123,13 +131,14 @@ loop-p-preserved c =
     let e = c.candidates-among.ensures ∙ ap (λ s. candidates_at l.p c.tight_end-end.result s a.ends.now) c.bitand.ensures in
     let x = c.in_ok-x.x in
     let v = c.tight_end-end.result in
-    let (is_pick, t, m) = found a.firsts.now a.lasts.now a.rows.now a.ends.now l.p v l.order l.levels l.left c.bitor-begun.result _
+    let (is_pick, t, m) = found a.firsts.now a.lasts.now a.rows.now a.start a.after.now a.ends.now l.p v l.order l.levels l.left l.ready
+    c.bitor-begun.result _
     c.loop-p-test.true i.placing i.levels is i.low i.high c.requires.lasts c.requires.ends begins e
     x c.in_ok-x.ensures.some.1 in
     let h = i.placing.inside x t in
     let less = c.sub-left.ensures ∙ ap (removed l.left) c.single.ensures in
     record {
-      placing = rw less (placing_more a.firsts.now a.lasts.now a.rows.now l.order l.left l.p c.loop-p-test.true i.placing x is_pick h t);
+      placing = rw less (placing_more a.firsts.now a.lasts.now a.rows.now a.start a.after.now l.order l.left l.ready l.p c.loop-p-test.true i.placing x is_pick h t);
       levels = rw less (levels_next l.left a.lasts.now l.levels l.p i.levels x h t _ _ c.raise-reached.ensures);
       low = omega arith;
       high = omega arith;
@@ -139,5 +148,6 @@ loop-p-preserved c =
     }
 
 pub returns-clause-some : goal.returns-clause-some
-returns-clause-some c = placing_all c.args.firsts.now c.args.lasts.now c.args.rows.now c.loop-p.order c.loop-p.left c.loop-p.p
-    (omega arith) c.loop-p.invariant.placing
+returns-clause-some c =
+    placing_all c.args.firsts.now c.args.lasts.now c.args.rows.now c.args.start c.args.after.now c.loop-p.order c.loop-p.left c.loop-p.ready
+    c.loop-p.p (omega arith) c.loop-p.invariant.placing

@@ -6,7 +6,7 @@ use Rattle.flat_order.proofs.picking.greedy_order.Given as goal
 
 abbrev pub invariant-loop-p : goal.invariant-loop-p
 invariant-loop-p l = record {
-  placing : Placing l.firsts l.lasts l.rows l.p l.order l.left;
+  placing : Placing l.firsts l.lasts l.rows l.fn.start l.after l.p l.order l.left l.ready;
   levels : Levels l.left l.lasts l.p l.levels;
   low : l.left.low < 2 ^ 64;
   high : l.left.high < 2 ^ 64;

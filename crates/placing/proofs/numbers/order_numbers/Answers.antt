@@ -1,55 +1,33 @@
-use Rattle.std.proofs.Common.{rules, ◌≡◌, ◌<◌, ◌/◌, [], get_or, length, sym, ap, ◌∙◌, arith}
-use borrow.Author.Tests.{eqb-true, eqb-false}
-use Rattle.placing.specs.Numbers.{part_of_numbers, rule_in, rules_in}
-use Rattle.placing.proofs.Numbered.{Answers, misfit_told, misfit_parts, misfit_rules, fit_answer, too_many, parts_all, rule_at, rules_size}
-use Rattle.placing.proofs.Numbered.{part_in_record, rule_in_record}
-use Rattle.placing.proofs.numbers.order_numbers.Goals.{then-not-is_empty-via-then-not-is_empty}
-use Rattle.placing.proofs.numbers.order_numbers.Goals.{then-not-is_empty-via-else-not-is_empty+then-not-is_empty-2}
+use Rattle.std.proofs.Common.{rules, length}
+use Rattle.refusal.proofs.Laws.{reason_not_0, told_err}
+use Rattle.placing.specs.Numbers.{parts_in, rules_in}
+use Rattle.placing.proofs.Answers.{placed_given}
+use Rattle.placing.proofs.Numbered.{misfit, fit_answer, many_given, parts_given, rules_given}
 use Rattle.placing.proofs.CasesTold.{numbers_told}
 use Rattle.placing.proofs.numbers.order_numbers.Goals as goal
 
-pub returns-then-not-is_empty : goal.returns-then-not-is_empty
-returns-then-not-is_empty c =
-    let four = c.as_chunks.ensures.back_len in
-    let two = c.as_chunks-2.ensures.back_len in
-    let x : Answers c.args.parts.now c.args.rules.now c.args.order.now misfit_told c.args.order.now = elim c.then-not-is_empty.branch [
-      | then-not-is_empty-via-then-not-is_empty w ↦
-          misfit_parts _ _ _ (λ z. eqb-false _ 0 (sym c.is_empty.ensures ∙ w.if-not-is_empty.true) (four ∙ z))
-      | then-not-is_empty-via-else-not-is_empty+then-not-is_empty-2 w ↦
-          misfit_rules _ _ _ (sym four ∙ eqb-true _ 0 (sym c.is_empty.ensures ∙ w.if-not-is_empty.false))
-          (λ z. eqb-false _ 0 (sym w.is_empty-else-not-is_empty.ensures ∙ w.if-not-is_empty-2.true) (two ∙ z))
-    ] in
-    let told = numbers_told c.args.parts.now c.args.rules.now _ x.refusal in
-    rw c.at.ensures (record { refusal = x.refusal; order = x.order; rule = x.rule; cases = told })
+pub returns-in_err-records : goal.returns-in_err-records
+returns-in_err-records c =
+    let a = c.args in
+    let e = told_err c.from_residual.result c.in_err-records.field-0.0 c.from_residual.ensures in
+    let x = misfit a.parts.now a.rules.now a.order.now c.in_err-records.ensures.refusal (reason_not_0 _) in
+    rw e (record { refusal = x.refusal; order = x.order; rule = x.rule; cases = numbers_told a.parts.now a.rules.now _ x.refusal })
 
-pub returns-then-records-gt-MOST_PARTS : goal.returns-then-records-gt-MOST_PARTS
-returns-then-records-gt-MOST_PARTS c =
-    let four = sym c.as_chunks.ensures.back_len ∙ eqb-true _ 0 (sym c.is_empty.ensures ∙ c.if-not-is_empty.false) in
-    let two = sym c.as_chunks-2.ensures.back_len ∙ eqb-true _ 0 (sym c.is_empty-else-not-is_empty.ensures ∙ c.if-not-is_empty-2.false) in
-    let many : 128 < length c.args.parts.now / 4 = omega (arith, c.as_chunks.ensures.front_len, c.if-records-gt-MOST_PARTS.true) in
-    let x = too_many c.args.parts.now c.args.rules.now c.args.order.now four two many in
-    let told = numbers_told c.args.parts.now c.args.rules.now _ x.refusal in
-    rw c.at-then-records-gt-MOST_PARTS.ensures (record { refusal = x.refusal; order = x.order; rule = x.rule; cases = told })
+pub returns-in_err-given : goal.returns-in_err-given
+returns-in_err-given c =
+    let a = c.args in
+    let e = told_err c.from_residual-in_err-given.result c.in_err-given.field-0.0 c.from_residual-in_err-given.ensures in
+    let many = many_given a.parts.now a.rules.now (length a.order.now) c.in_ok-records.ensures.parts
+    c.in_err-given.ensures.refusal (reason_not_0 _) in
+    let x = fit_answer a.parts.now a.rules.now a.order.now c.in_ok-records.ensures.refusal
+    (placed_given (parts_in a.parts.now) (rules_in a.rules.now) a.order.now many (reason_not_0 _)) in
+    rw e (record { refusal = x.refusal; order = x.order; rule = x.rule; cases = numbers_told a.parts.now a.rules.now _ x.refusal })
 
 pub returns : goal.returns
 returns c =
     let a = c.args in
-    let four = sym c.as_chunks.ensures.back_len ∙ eqb-true _ 0 (sym c.is_empty.ensures ∙ c.if-not-is_empty.false) in
-    let two = sym c.as_chunks-2.ensures.back_len ∙ eqb-true _ 0 (sym c.is_empty-else-not-is_empty.ensures ∙ c.if-not-is_empty-2.false) in
-    let records = c.as_chunks.result.0.now in
-    let pairs = c.as_chunks-2.result.0.now in
-    let n = c.as_chunks.ensures.front_len in
-    let count = c.as_chunks-2.ensures.front_len in
-    let p = c.place.ensures (rules_in a.rules.now) (record {
-      size = rules_size a.rules.now ∙ sym count;
-      each = λ i r h q.
-          let z : r ≡ rule_in (get_or pairs i []) 0 = search rules in
-          let k : i < length a.rules.now / 2 = omega (arith, h, count) in
-          z ∙ ap (λ x. rule_in (get_or x i []) 0) c.as_chunks-2.ensures.front ∙ rule_in_record a.rules.now i k ∙ sym (rule_at a.rules.now i k);
-    }) in
-    let e = parts_all a.parts.now c.parts_of-given.result (omega (arith, n, c.parts_of-given.ensures.size, c.if-records-gt-MOST_PARTS.false))
-    (λ k h.
-    let l : k < length records = omega (arith, n, h) in
-    c.parts_of-given.ensures.parts k l ∙ ap (λ x. part_of_numbers (get_or x k []) 0) c.as_chunks.ensures.front ∙ part_in_record a.parts.now k h) in
-    let x = fit_answer a.parts.now a.rules.now a.order.now four two (rw e at (rw n at p)) in
-    record { refusal = x.refusal; order = x.order; rule = x.rule; cases = numbers_told c.args.parts.now c.args.rules.now _ x.refusal }
+    let g = c.in_ok-given.ensures in
+    let e = parts_given a.parts.now c.in_ok-given.given c.in_ok-records.ensures.parts g.few g.size g.parts in
+    let p = c.place.ensures _ (rules_given a.rules.now c.in_ok-records.ensures.rules (λ i r h q. search rules)) in
+    let x = fit_answer a.parts.now a.rules.now a.order.now c.in_ok-records.ensures.refusal (rw e at p) in
+    record { refusal = x.refusal; order = x.order; rule = x.rule; cases = numbers_told a.parts.now a.rules.now _ x.refusal }

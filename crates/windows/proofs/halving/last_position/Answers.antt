@@ -1,25 +1,24 @@
-use Rattle.std.proofs.Common.{◌∙◌, sym, arith}
+use Rattle.std.proofs.Common.{rules, ◌≡◌, ◌-◌, ◌∙◌, get_or, arith}
 use Rattle.flat_order.specs.Flat.{flat_task}
+use Rattle.windows.specs.Bounds.{solvable, not_before, latest}
 use Rattle.windows.proofs.Arrays.{below}
-use Rattle.windows.proofs.Narrowing.{latest_in, latest_yes, latest_no}
+use Rattle.windows.proofs.Narrowing.{latest_in, latest_test, from_end}
 use Rattle.windows.proofs.halving.last_position.Goals as goal
 
-pub loop-from-init : goal.loop-from-init
-loop-from-init c =
+pub overflow_sub-end : goal.overflow_sub-end
+overflow_sub-end c =
     let a = c.args in
-    let h = latest_in (flat_task a.firsts.now a.lasts.now a.rows.now) (below _ _ _ c.requires.ready) a.i c.requires.part c.requires.solvable in
-    (h.0, h.1, c.requires.ready.closes a.i c.requires.part)
+    let r = c.requires in
+    omega (arith, latest_in (flat_task a.firsts.now a.lasts.now a.rows.now) (below _ _ _ r.ready) a.i r.part r.solvable)
 
-pub loop-from-preserved-then-can_stand_from : goal.loop-from-preserved-then-can_stand_from
-loop-from-preserved-then-can_stand_from c =
+pub returns : goal.returns
+returns c =
     let a = c.args in
-    let h = latest_yes (flat_task a.firsts.now a.lasts.now a.rows.now) (below _ _ _ c.requires.ready) a.i c.requires.part c.requires.solvable _
-    (sym c.can_stand_from.ensures ∙ c.if-can_stand_from.true) in
-    omega (arith, h, c.loop-from.invariant, c.loop-from-test.true)
-
-pub loop-from-preserved : goal.loop-from-preserved
-loop-from-preserved c =
-    let a = c.args in
-    let h = latest_no (flat_task a.firsts.now a.lasts.now a.rows.now) (below _ _ _ c.requires.ready) a.i c.requires.part c.requires.solvable _
-    (sym c.can_stand_from.ensures ∙ c.if-can_stand_from.false) in
-    omega (arith, h, c.loop-from.invariant, c.loop-from-test.true)
+    let r = c.requires in
+    let t = flat_task a.firsts.now a.lasts.now a.rows.now in
+    let end = get_or a.lasts.now a.i 0 in
+    let h = latest_in t (below _ _ _ r.ready) a.i r.part r.solvable in
+    let e = c.first_passing-back.ensures.bound (end - latest t a.i) (omega arith) (omega (arith, h)) (λ back b l post.
+    let e : b ≡ solvable (not_before t a.i (end - back)) = search rules in
+    e ∙ latest_test t (below _ _ _ r.ready) a.i r.part r.solvable (end - back) ∙ from_end end back (latest t a.i) (omega (arith, l)) h.1) in
+    omega (arith, e, h)

@@ -1,0 +1,49 @@
+-- The placing order by tips: the parts that are ready, and the call for parts and rules as plain numbers.
+use Rattle.std.specs.Prelude.{ℕ, ◌<◌, ◌≡◌, cond, List, length}
+use Rattle.model.specs.Limits.{most_tips}
+use Rattle.model.specs.Choice.{Mounted}
+use Rattle.refusal.specs.Told.{Refusal}
+use Rattle.refusal.specs.Refusal.{accepts, or_else, told}
+use Rattle.ordering.specs.declared.Part.{Part}
+use Rattle.ordering.specs.declared.Rule.{Rule}
+use Rattle.ordering.specs.Tips.{tip_at, is_ready, head_after}
+use Rattle.ordering.specs.TipCall.{refusal_by_tips, buffer_by_tips, changes_by_tips, TipsRule}
+use Rattle.flat_order.specs.declared.sets.PartSet.{PartSet}
+use Rattle.flat_order.specs.Sets.{has_part}
+use Rattle.flat_order.specs.Flat.{row_at, AtPlaces}
+use Rattle.placing.specs.Numbers.{parts_in, rules_in, numbers_refusal}
+
+-- the first n parts, each in the set of its tip
+abbrev pub OnTips : List ℕ → ℕ → List PartSet → Type 0
+OnTips plan n sets = AtPlaces (tip_at plan) most_tips n sets
+
+-- after each of the first n parts, those on its tip
+pub record AfterEach (plan : List ℕ) (n : ℕ) (after : List PartSet) : Type 0 where
+  pub size : length after ≡ 128
+  pub each : (y x : ℕ) → y < n → x < length plan → has_part (row_at after y) x ≡ is_ready plan (head_after plan y) x
+
+-- the answer is that of the call for a placing order by tips, and so are the order buffer and the number of changes
+pub record PlacedByTips (parts : List Part) (rules : List Rule) (plan : List ℕ) (mounted : Mounted) (old new : List ℕ) (r : Refusal)
+    (changed : ℕ) : Type 0 where
+  pub refusal : r ≡ refusal_by_tips parts rules plan mounted (length old)
+  pub order : new ≡ buffer_by_tips parts rules plan mounted old
+  pub changes : changed ≡ changes_by_tips parts rules plan mounted (length old)
+
+-- 101, then the refusals for the parts and the rules that the numbers stand for
+unfoldable pub refusal_by_tips_in : List ℕ → List ℕ → List ℕ → Mounted → ℕ → Refusal
+refusal_by_tips_in parts rules plan mounted room =
+    or_else (numbers_refusal parts rules) (refusal_by_tips (parts_in parts) (rules_in rules) plan mounted room)
+
+-- the order buffer then, and the changes told
+unfoldable pub buffer_by_tips_in : List ℕ → List ℕ → List ℕ → Mounted → List ℕ → List ℕ
+buffer_by_tips_in parts rules plan mounted buffer =
+    cond (accepts (numbers_refusal parts rules)) (buffer_by_tips (parts_in parts) (rules_in rules) plan mounted buffer) buffer
+
+unfoldable pub changes_by_tips_in : List ℕ → List ℕ → List ℕ → Mounted → ℕ → ℕ
+changes_by_tips_in parts rules plan mounted room =
+    told (numbers_refusal parts rules) (changes_by_tips (parts_in parts) (rules_in rules) plan mounted room)
+
+-- what the answer means, for numbers that are four a part and two a rule
+abbrev pub TipsRuleIn : List ℕ → List ℕ → List ℕ → Mounted → ℕ → List ℕ → Refusal → ℕ → Type 0
+TipsRuleIn parts rules plan mounted room buffer r changed =
+    (numbers_refusal parts rules).number ≡ 0 → TipsRule (parts_in parts) (rules_in rules) plan mounted room buffer r changed
