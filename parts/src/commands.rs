@@ -21,7 +21,7 @@ use parts::limits::too_large;
 use parts::list::{Fault, List};
 use parts::mending;
 use parts::panel::Panel;
-use parts::planning::{Kept, Named};
+use parts::planning::{Along, Kept, Named, Wish};
 use parts::MOST_TIPS;
 
 use crate::arguments::{Arguments, FORCE, OUTPUT, START_TABLE, TABLE};
@@ -281,20 +281,35 @@ fn strike<N: FromStr>(
 
 pub fn plan(arguments: &Arguments) -> Result<(), Failure> {
     let [path] = arguments.files()[..] else { return Err(Failure::Arguments) };
-    let mounted = arguments.option("--mounted").map(tip_of).transpose()?;
     let format = text_behind(arguments, "--format")?.map(Format::of).transpose().map_err(Failure::Argument)?;
     let which = text_behind(arguments, "--plan")?;
     if format.is_none() && which.is_some() {
-        return Err(Failure::Argument("--plan needs a --format; without one both plans are printed".into()));
+        return Err(Failure::Argument("--plan needs a --format; without one all plans are printed".into()));
     }
     let which = Which::of(which).map_err(Failure::Argument)?;
+    let wish = wish_of(arguments)?;
     let mut files = Files::of(arguments);
     let named = files.named(path)?;
     let text = match format {
-        None => named.plan(mounted),
-        Some(format) => named.exported(format, which, mounted),
+        None => named.plan(wish),
+        Some(format) => named.exported(format, which, wish),
     };
     files.give_text(&text.map_err(|why| about(path, why))?)
+}
+
+/// What the options ask for of the plans.
+fn wish_of(arguments: &Arguments) -> Result<Wish, Failure> {
+    let mounted = arguments.option("--mounted").map(tip_of).transpose()?;
+    let along = match (arguments.has("--in-order"), arguments.has("--in-placing-order")) {
+        (true, true) => {
+            let why = "--in-order and --in-placing-order name two orders; take one of them out";
+            return Err(Failure::Argument(why.into()));
+        }
+        (true, false) => Some(Along::List),
+        (false, true) => Some(Along::PlacingOrder),
+        (false, false) => None,
+    };
+    Ok(Wish { mounted, along })
 }
 
 pub fn check(arguments: &Arguments) -> Result<(), Failure> {

@@ -3,7 +3,7 @@
 use std::collections::HashMap;
 
 use crate::job::job_of;
-use crate::planning::{Named, Plans};
+use crate::planning::{Named, Plans, Wish};
 use crate::{counted, tips_in_words};
 
 /// One part of a board, or one row of a table, by what it is called.
@@ -106,7 +106,7 @@ impl Named {
         if rules(self) != rules(other) {
             text += "the rules of the placing order differ\n";
         }
-        let (before, after) = (self.plans(None)?, other.plans(None)?);
+        let (before, after) = (self.plans(Wish::default())?, other.plans(Wish::default())?);
         text += &changed("quick", &before.quick.pairs.to_string(), &after.quick.pairs.to_string());
         let best = |plans: &Plans| plans.best.as_ref().map_or("none".to_string(), |best| best.pairs.to_string());
         text += &changed("best", &best(&before), &best(&after));

@@ -2,7 +2,7 @@
 
 use crate::job::Job;
 use crate::json::Quoted;
-use crate::planning::{Named, Plan, Plans};
+use crate::planning::{Named, Plan, Plans, Wish};
 
 /// A form of a plan.
 #[derive(Clone, Copy, PartialEq, Eq, Debug)]
@@ -24,11 +24,11 @@ impl Format {
     }
 }
 
-/// Which of both plans.
+/// Which of the plans.
 #[derive(Clone, Copy, PartialEq, Eq, Debug)]
 pub enum Which {
-    /// The best plan, where there is one, else the quick one.
-    BestElseQuick,
+    /// The one that is asked for beside both, else the best one, else the quick one.
+    First,
     Quick,
     Best,
 }
@@ -36,7 +36,7 @@ pub enum Which {
 impl Which {
     /// The plan of the option `--plan`.
     pub fn of(word: Option<&str>) -> Result<Which, String> {
-        let Some(word) = word else { return Ok(Which::BestElseQuick) };
+        let Some(word) = word else { return Ok(Which::First) };
         match word.to_ascii_lowercase().as_str() {
             "quick" => Ok(Which::Quick),
             "best" => Ok(Which::Best),
@@ -55,16 +55,21 @@ struct Row {
 }
 
 impl Named {
-    /// A plan in this form, with a tip on the head or none.
-    pub fn exported(&self, format: Format, which: Which, mounted: Option<usize>) -> Result<String, String> {
-        let plans = self.plans(mounted)?;
-        let (name, plan) = match (which, &plans.best) {
-            (Which::Quick, _) | (Which::BestElseQuick, Err(_)) => ("quick", &plans.quick),
-            (_, Ok(best)) => ("best", best),
-            (Which::Best, &Err(line)) => {
-                return Err(format!("refused 25: {}; take --plan quick", self.no_run(&plans.job, line)));
-            }
+    /// A plan in this form.
+    pub fn exported(&self, format: Format, which: Which, wish: Wish) -> Result<String, String> {
+        let plans = self.plans(wish)?;
+        let all = plans.all();
+        let called =
+            |name: &str| all.iter().find(|(other, _)| *other == name).and_then(|&(name, plan)| Some((name, plan?)));
+        let found = match which {
+            Which::First => ["along", "best", "quick"].into_iter().find_map(called),
+            Which::Quick => called("quick"),
+            Which::Best => called("best"),
         };
+        let (name, plan) = found.ok_or_else(|| match plans.best {
+            Err(line) => format!("refused 25: {}; take --plan quick", self.no_run(&plans.job, line)),
+            Ok(_) => "there is no such plan".into(),
+        })?;
         Ok(match format {
             Format::Text => self.as_text(&plans.job, name, plan),
             Format::Csv => self.as_csv(&plans.job, name, plan),
@@ -113,7 +118,10 @@ impl Named {
             text += &format!("  \"mounted\": {tip},\n");
         }
         text += &format!("  \"tips used\": {},\n", plan.tips_used(rack));
-        text += &format!("  \"tip changes\": {},\n  \"placements\": [", plans.changes(plan));
+        for (order, changes) in plans.changes_of(plan) {
+            text += &format!("  \"changes in {order}\": {changes},\n");
+        }
+        text += "  \"placements\": [";
         for (number, row) in self.rows(&plans.job).iter().enumerate() {
             let (reference, label) = (Quoted(&row.reference), self.label(row.line));
             text += if number == 0 { "\n" } else { ",\n" };

@@ -118,22 +118,26 @@ pub const COMMANDS: [Command; 18] = [
     },
     Command {
         name: "plan",
-        arguments: "FILE [--mounted T] [--format FORMAT] [--plan PLAN]",
-        does: "print the quick and the best plan, part by part, and a summary of both;\n\
+        arguments: "FILE [--mounted T] [--in-order] [--in-placing-order] [--format FORMAT] [--plan PLAN]",
+        does: "print the quick and the best plan, part by part, and a table of both;\n\
                tip T, which is on the head, wins where tips suit equally;\n\
+               in order, a plan with the fewest tip changes along the list too, or along the placing order;\n\
                with a FORMAT one plan for other programs, a row for each reference designator",
         more: "Quick takes every list. Best has the most pairs of all plans, a pair being two placements on one tip;\n\
                it takes lists in which each part has every tip between its lowest and its highest, but for tips that\n\
                no part of the list has. Where a part has a gap, it is named with an order of the rack that helps, if\n\
                there is one.\n\
-               A quantity other than 1 stands behind the name, as x10; the summary then counts parts and placements.\n\
+               A quantity other than 1 stands behind the name, as x10; then parts and placements are counted.\n\
                Where several tips suit equally, the lowest is taken, or T where it is one of them. The pairs of the\n\
                best plan are the same with every T, those of the quick plan may be others.\n\
-               The summary counts tip changes for parts placed tip by tip: one less than the tips used. With a T that\n\
-               no part uses there is one more, at the start.\n\
-               FORMAT is text, csv or json: then one plan is printed, the best one or, where there is none, the quick\n\
-               one, a row for each reference designator that an import wrote into the comments, or else for each part.\n\
-               PLAN is quick or best. `parts check` reads each format.\n",
+               The table has the pairs of each plan, the tips that it uses, and its tip changes where the parts are\n\
+               placed in the order of the list: one wherever a part is on another tip than the one before it, and\n\
+               with a T one before the first part where that is on another tip.\n\
+               --in-order adds a plan, called along: no plan has fewer tip changes in the order of the list.\n\
+               --in-placing-order adds the plan with the fewest in the order that `parts order` prints.\n\
+               FORMAT is text, csv or json: then one plan is printed, the one along an order where it is asked for, else\n\
+               the best one or, where there is none, the quick one; a row for each reference designator that an import\n\
+               wrote into the comments, or else for each part. PLAN is quick or best. `parts check` reads each format.\n",
         example: "parts plan board.txt --mounted 3",
         run: commands::plan,
     },

@@ -7,16 +7,27 @@ use crate::{counted, MOST_PARTS};
 impl List {
     /// The order in which the parts are placed, or why there is none.
     pub fn order(&self) -> Result<String, String> {
-        let (parts, rules) = (self.placed_parts(), self.numbers_of_rules());
-        let mut order = vec![0; parts.len()];
-        library::order(&parts, &rules, &mut order).map_err(|refusal| {
-            format!("refused {}: {}", refusal.number, self.no_order(refusal.number, refusal.line as usize))
-        })?;
-        let mut text = format!("parts {} rules {}\n", parts.len(), rules.len());
-        for (position, &part) in order.iter().enumerate() {
-            text += &format!("position {position} {}\n", self.in_order(part.into()));
+        let mut text = self.counts();
+        for (position, part) in self.placing_order()?.into_iter().enumerate() {
+            text += &format!("position {position} {}\n", self.in_order(part));
         }
         Ok(text)
+    }
+
+    /// The parts in the order in which they are placed, or why there is none.
+    pub fn placing_order(&self) -> Result<Vec<usize>, String> {
+        let (parts, rules) = (self.placed_parts(), self.numbers_of_rules());
+        let mut order = vec![0; parts.len()];
+        library::order(&parts, &rules, &mut order).map_err(|refusal| self.without_order(refusal))?;
+        Ok(order.into_iter().map(usize::from).collect())
+    }
+
+    fn counts(&self) -> String {
+        format!("parts {} rules {}\n", self.parts.len(), self.rules.len())
+    }
+
+    fn without_order(&self, refusal: library::Refusal) -> String {
+        format!("refused {}: {}", refusal.number, self.no_order(refusal.number, refusal.line as usize))
     }
 
     /// The parts as the library takes them; where the list names no positions, a part may have any.

@@ -2,7 +2,7 @@
 
 use crate::job::{job_of, Job};
 use crate::picture::escaped;
-use crate::planning::{Named, Plan, Plans};
+use crate::planning::{Named, Plan, Plans, Wish};
 use crate::{counted, tips_in_words};
 
 /// The page with its style and its few lines of script; TITLE, PAPER and BODY are replaced.
@@ -13,7 +13,7 @@ const UPRIGHT: usize = 1100;
 impl Named {
     /// The page of the list, with a keep within k, or within the least k that is not refused.
     pub fn page(&self, name: &str, k: Option<u16>) -> Result<String, String> {
-        let plans = self.plans(None)?;
+        let plans = self.plans(Wish::default())?;
         let k = k.unwrap_or(u16::try_from(plans.common.off).unwrap_or(u16::MAX));
         let kept = self.keep(k).and_then(|kept| job_of(&kept.file));
         let title = escaped(&format!("Plan of {name}"));
@@ -121,7 +121,9 @@ fn summary(plans: &Plans) -> String {
     };
     let mut rows = row("pairs", &|plan| plan.pairs.to_string());
     rows += &row("tips used", &|plan| plan.tips_used(rack).to_string());
-    rows += &row("tip changes, parts placed tip by tip", &|plan| plans.changes(plan).to_string());
+    for (number, (order, _)) in plans.changes_of(&plans.quick).into_iter().enumerate() {
+        rows += &row(&format!("tip changes in {order}"), &|plan| plans.changes_of(plan)[number].1.to_string());
+    }
     let is_used = |tip: &usize| plans.quick.on_tip(*tip) + plans.best.as_ref().map_or(0, |best| best.on_tip(*tip)) > 0;
     for tip in (0..rack).filter(is_used) {
         rows += &row(&format!("placements on tip {tip}"), &|plan| plans.placements_on(plan, tip).to_string());

@@ -3,7 +3,7 @@
 use job_file::refusal::{FULL, RACKS_DIFFER, TOO_MANY_PLACEMENTS};
 
 use crate::job::{job_of, Job};
-use crate::planning::{common_in_words, no_run_in_words, Named, Plans};
+use crate::planning::{common_in_words, no_run_in_words, Named, Plans, Wish};
 use crate::{counted, quantity_in_words, tips_in_words, MOST_LINES, MOST_PLACEMENTS};
 
 /// Boards, each planned alone, and merged where they can be.
@@ -118,7 +118,7 @@ impl Boards<'_> {
             merged = file;
         }
         let panel = Named { file: merged, list: None };
-        let plans = panel.plans(None)?;
+        let plans = panel.plans(Wish::default())?;
         let (lines, rack) = (plans.job.lines.len(), plans.job.rack);
         let mut text = format!("panel lines {lines} rack {rack}\n{}", common_in_words(plans.common));
         text += &format!("quick {}\n{}", plans.quick.pairs, self.best_in_words(&plans));

@@ -3,7 +3,7 @@
 use std::ops::Range;
 
 use crate::job::{named_tips, Job};
-use crate::planning::{Named, Plan, Plans};
+use crate::planning::{Named, Plan, Plans, Wish};
 use crate::{counted, quantity_in_words};
 
 /// The side of a cell.
@@ -232,7 +232,7 @@ fn beginning_of(comment: &str) -> String {
 impl Named {
     /// The drawing of the list and both plans.
     pub fn picture(&self) -> Result<String, String> {
-        Ok(self.drawing_of(&self.plans(None)?))
+        Ok(self.drawing_of(&self.plans(Wish::default())?))
     }
 
     /// The drawing of the list and these plans.

@@ -22,13 +22,46 @@ pub struct Kept {
     pub list: String,
 }
 
+/// What is asked for of the plans.
+#[derive(Clone, Copy, Default)]
+pub struct Wish {
+    /// The tip on the head, where one is named.
+    pub mounted: Option<usize>,
+    /// The order along which a plan with the fewest changes is asked for.
+    pub along: Option<Along>,
+}
+
+/// An order along which a list is planned.
+#[derive(Clone, Copy, PartialEq, Eq, Debug)]
+pub enum Along {
+    List,
+    /// The order that `parts order` prints.
+    PlacingOrder,
+}
+
+impl Along {
+    pub(crate) fn in_words(self) -> &'static str {
+        match self {
+            Along::List => "the list's order",
+            Along::PlacingOrder => "the placing order",
+        }
+    }
+}
+
+impl Wish {
+    /// Both plans, with a tip on the head or none.
+    pub fn mounted(mounted: Option<usize>) -> Wish {
+        Wish { mounted, ..Wish::default() }
+    }
+}
+
 /// A tip for each line, and how many pairs of placements share one.
 pub struct Plan {
     pub pairs: u64,
     pub tips: Vec<u8>,
 }
 
-/// Both plans of a job.
+/// The plans of a job.
 pub struct Plans {
     pub job: Job,
     /// The tip on the head, where one is named.
@@ -37,6 +70,10 @@ pub struct Plans {
     pub quick: Plan,
     /// The best plan, else the first line that is no run.
     pub best: Result<Plan, usize>,
+    /// The plan with the fewest changes along an order, where it is asked for, and which order that is.
+    pub along: Option<(Plan, Along)>,
+    /// The parts in the order in which they are placed, where a plan along it is asked for.
+    pub placing_order: Option<Vec<usize>>,
 }
 
 impl Named {
@@ -100,8 +137,9 @@ impl Named {
         Ok(Kept { text, file, list })
     }
 
-    /// Both plans, with a tip on the head or none.
-    pub fn plans(&self, mounted: Option<usize>) -> Result<Plans, String> {
+    /// Both plans, and those that are asked for beside them.
+    pub fn plans(&self, wish: Wish) -> Result<Plans, String> {
+        let mounted = wish.mounted;
         let common = self.common()?;
         let job = job_of(&self.file)?;
         let mut tips = vec![0; job.lines.len()];
@@ -112,7 +150,35 @@ impl Named {
             })?;
         let quick = Plan { pairs, tips };
         let best = self.best(&job, mounted)?.map(|(plan, _)| plan);
-        Ok(Plans { job, mounted, common, quick, best })
+        let placing_order = match wish.along {
+            Some(Along::PlacingOrder) => Some(self.placing_order(&job)?),
+            _ => None,
+        };
+        let along = match wish.along {
+            Some(order) => Some((self.along(&job, placing_order.as_deref(), mounted)?, order)),
+            None => None,
+        };
+        Ok(Plans { job, mounted, common, quick, best, along, placing_order })
+    }
+
+    /// The plan with the fewest tip changes where the parts are placed in this order, else in that of the list.
+    fn along(&self, job: &Job, order: Option<&[usize]>, mounted: Option<usize>) -> Result<Plan, String> {
+        let in_list: Vec<usize> = (0..job.lines.len()).collect();
+        let order = order.unwrap_or(&in_list);
+        let lines = order.iter().map(|&line| job.lines[line]).collect();
+        let mut placed = vec![0; order.len()];
+        let planned = library::along(&Job { rack: job.rack, lines }.write(), mounted, &mut placed)
+            .map_err(|refusal| self.refused(refusal))?;
+        let mut tips = vec![0; order.len()];
+        for (&line, tip) in order.iter().zip(placed) {
+            tips[line] = tip;
+        }
+        Ok(Plan { pairs: planned.pairs, tips })
+    }
+
+    /// The parts in the order in which they are placed; in a job file any part may be placed anywhere.
+    fn placing_order(&self, job: &Job) -> Result<Vec<usize>, String> {
+        self.list.as_ref().map_or_else(|| Ok((0..job.lines.len()).collect()), List::placing_order)
     }
 
     /// The best plan with its table, else the first line that is no run.
@@ -136,9 +202,9 @@ impl Named {
         format!("best none, {}\n", self.no_run(job, line))
     }
 
-    /// Both plans line by line, and a summary.
-    pub fn plan(&self, mounted: Option<usize>) -> Result<String, String> {
-        let plans = self.plans(mounted)?;
+    /// The plans line by line, and a summary.
+    pub fn plan(&self, wish: Wish) -> Result<String, String> {
+        let plans = self.plans(wish)?;
         let lines = plans.job.lines.len();
         let mut text = format!("lines {lines} rack {}\n{}", plans.job.rack, common_in_words(plans.common));
         text += &format!("quick {}\n", plans.quick.pairs);
@@ -146,6 +212,10 @@ impl Named {
             Ok(best) => format!("best {}\n", best.pairs),
             Err(line) => self.no_best(&plans.job, *line),
         };
+        if let Some((along, order)) = &plans.along {
+            let changes = plans.changes_along(along) as u64;
+            text += &format!("along {}, {} in {}\n", along.pairs, counted(changes, "change"), order.in_words());
+        }
         for line in 0..lines {
             text += &format!("{} {}\n", self.label_in(&plans.job, line), plans.each(|plan| plan.tips[line]));
         }
@@ -166,10 +236,25 @@ impl Plan {
 }
 
 impl Plans {
-    /// What each plan has, `-` where there is no best plan.
+    /// Each plan by its name.
+    pub fn all(&self) -> Vec<(&'static str, Option<&Plan>)> {
+        let mut all = vec![("quick", Some(&self.quick)), ("best", self.best.as_ref().ok())];
+        all.extend(self.along.as_ref().map(|(along, _)| ("along", Some(along))));
+        all
+    }
+
+    /// What each plan has, `-` where there is no such plan.
     pub(crate) fn each<T: Display>(&self, of: impl Fn(&Plan) -> T) -> String {
-        let best = self.best.as_ref().map_or("-".into(), |best| of(best).to_string());
-        format!("quick {} best {best}", of(&self.quick))
+        let of = |plan: Option<&Plan>| plan.map_or("-".into(), |plan| of(plan).to_string());
+        self.all().into_iter().map(|(name, plan)| format!("{name} {}", of(plan))).collect::<Vec<_>>().join(" ")
+    }
+
+    /// The tip changes of the plan along an order, in that order.
+    fn changes_along(&self, along: &Plan) -> usize {
+        match &self.placing_order {
+            Some(order) => along.changes_in(order, self.mounted),
+            None => along.changes_in_list(self.mounted),
+        }
     }
 
     /// The placements on a tip.
@@ -178,45 +263,22 @@ impl Plans {
         on.map(|(line, _)| usize::from(line.quantity)).sum()
     }
 
-    /// Tips used, parts and placements on each, pairs and tip changes; without quantities they are the same.
+    /// Parts and placements on each tip, without quantities the same, and the table of the plans.
     pub(crate) fn summary(&self) -> String {
-        let rack = self.job.rack;
         let is_single = self.job.is_single();
         let mut text = String::new();
         if !is_single {
             text += &format!("parts {} placements {}\n", self.job.lines.len(), self.job.placements());
         }
-        text += &format!("tips used {}\n", self.each(|plan| plan.tips_used(rack)));
-        for tip in 0..rack {
-            let best = self.best.as_ref().map_or(0, |best| best.on_tip(tip));
-            if self.quick.on_tip(tip) + best > 0 {
-                text += &format!("parts on tip {tip} {}\n", self.each(|plan| plan.on_tip(tip)));
-                if !is_single {
-                    text += &format!("placements on tip {tip} {}\n", self.each(|plan| self.placements_on(plan, tip)));
-                }
+        let is_used =
+            |tip: &usize| self.all().into_iter().any(|(_, plan)| plan.is_some_and(|plan| plan.on_tip(*tip) > 0));
+        for tip in (0..self.job.rack).filter(is_used) {
+            text += &format!("parts on tip {tip} {}\n", self.each(|plan| plan.on_tip(tip)));
+            if !is_single {
+                text += &format!("placements on tip {tip} {}\n", self.each(|plan| self.placements_on(plan, tip)));
             }
         }
-        text += &format!("pairs {}\n", self.each(|plan| plan.pairs));
-        text + &format!(
-            "tip changes {}, parts placed tip by tip{}\n",
-            self.each(|plan| self.changes(plan)),
-            self.begins()
-        )
-    }
-
-    /// The tip changes where parts are placed tip by tip, a used tip that is mounted first.
-    pub fn changes(&self, plan: &Plan) -> usize {
-        let used = plan.tips_used(self.job.rack);
-        match self.mounted {
-            Some(tip) if plan.on_tip(tip) == 0 => used,
-            // Where none is named, the first tip is mounted before the first part is placed.
-            _ => used.saturating_sub(1),
-        }
-    }
-
-    /// What is mounted at the start, where that is named.
-    fn begins(&self) -> String {
-        self.mounted.map_or(String::new(), |tip| format!(", tip {tip} mounted"))
+        text + &self.table()
     }
 }
 

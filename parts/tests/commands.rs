@@ -311,10 +311,12 @@ fn quantities_are_made_shown_sorted_and_planned() {
         assert_eq!(run(&["sort", column, "-"], TWICE.as_bytes()), given(sorted), "{column}");
     }
     let plan = "lines 2 rack 3\noff 1 tips 0\nquick 1\nbest 1\nC1 x2 quick 0 best 0\nC2 quick 1 best 1\n\n\
-                parts 2 placements 3\ntips used quick 2 best 2\nparts on tip 0 quick 1 best 1\n\
+                parts 2 placements 3\nparts on tip 0 quick 1 best 1\n\
                 placements on tip 0 quick 2 best 2\nparts on tip 1 quick 1 best 1\n\
-                placements on tip 1 quick 1 best 1\npairs quick 1 best 1\n\
-                tip changes quick 1 best 1, parts placed tip by tip\n";
+                placements on tip 1 quick 1 best 1\n\
+                plan   pairs  tips  changes in the list's order\n\
+                quick      1     2                            1\n\
+                best       1     2                            1\n";
     assert_eq!(run(&["plan", "-"], TWICE.as_bytes()), given(plan.as_bytes()));
 }
 
@@ -427,17 +429,25 @@ fn wrong_arguments_print_the_usage_of_their_command() {
         ),
         (&["junior"], "FILE is missing", "junior FILE"),
         (&["junior", "a", "b"], "`b` is a word too many", "junior FILE"),
-        (&["plan"], "FILE is missing", "plan FILE [--mounted T] [--format FORMAT] [--plan PLAN]"),
-        (&["plan", "a", "b"], "`b` is a word too many", "plan FILE [--mounted T] [--format FORMAT] [--plan PLAN]"),
+        (
+            &["plan"],
+            "FILE is missing",
+            "plan FILE [--mounted T] [--in-order] [--in-placing-order] [--format FORMAT] [--plan PLAN]",
+        ),
+        (
+            &["plan", "a", "b"],
+            "`b` is a word too many",
+            "plan FILE [--mounted T] [--in-order] [--in-placing-order] [--format FORMAT] [--plan PLAN]",
+        ),
         (
             &["plan", "a", "--mounted"],
             "--mounted needs T behind it",
-            "plan FILE [--mounted T] [--format FORMAT] [--plan PLAN]",
+            "plan FILE [--mounted T] [--in-order] [--in-placing-order] [--format FORMAT] [--plan PLAN]",
         ),
         (
             &["plan", "a", "--mounted", "1", "--mounted", "2"],
             "--mounted stands twice; name it once",
-            "plan FILE [--mounted T] [--format FORMAT] [--plan PLAN]",
+            "plan FILE [--mounted T] [--in-order] [--in-placing-order] [--format FORMAT] [--plan PLAN]",
         ),
         (&["picture", "a", "--mounted", "1"], "parts picture has no option --mounted", "picture FILE"),
         (&["picture"], "FILE is missing", "picture FILE"),
@@ -546,8 +556,10 @@ fn list_that_is_standard_output_too_is_left_alone() {
     assert_eq!(fs::read_to_string(&list).unwrap(), LIST);
 }
 
-const SUMMARY: &str = "\ntips used quick 2 best 2\nparts on tip 0 quick 1 best 1\nparts on tip 1 quick 1 best 1\n\
-                       pairs quick 0 best 0\ntip changes quick 1 best 1, parts placed tip by tip\n";
+const SUMMARY: &str = "\nparts on tip 0 quick 1 best 1\nparts on tip 1 quick 1 best 1\n\
+                       plan   pairs  tips  changes in the list's order\n\
+                       quick      0     2                            1\n\
+                       best       0     2                            1\n";
 
 #[test]
 fn keep_plan_and_picture_take_lists_and_job_files() {
@@ -651,9 +663,10 @@ fn outputs_replace_only_job_files() {
 #[test]
 fn options_take_their_value_behind_a_space_or_a_sign() {
     for words in [&["plan", "-", "--mounted=1"][..], &["plan", "--mounted", "1", "-"]] {
-        assert!(run(words, LIST.as_bytes()).0.ends_with(b"tip 1 mounted\n"), "{words:?}");
+        let plan = String::from_utf8(run(words, LIST.as_bytes()).0).unwrap();
+        assert!(plan.contains("\ntip 1 mounted\n"), "{words:?}: {plan}");
     }
-    let usage = "usage: parts plan FILE [--mounted T] [--format FORMAT] [--plan PLAN]\n`parts plan --help` says more";
+    let usage = "usage: parts plan FILE [--mounted T] [--in-order] [--in-placing-order] [--format FORMAT] [--plan PLAN]\n`parts plan --help` says more";
     for (words, what) in [
         (&["plan", "-", "--force=1"][..], "--force takes nothing behind it"),
         (&["plan", "-", "--mounted=1", "--mounted=2"], "--mounted stands twice; name it once"),
@@ -795,8 +808,10 @@ fn pipe_is_written_to_as_it_is() {
 #[test]
 fn mounted_tip_is_named_before_the_file_or_behind_it() {
     let plan = "lines 2 rack 3\noff 1 tips 0 1 2\nquick 0\nbest 0\nC1 quick 0 best 0\nC2 quick 2 best 2\n\n\
-                tips used quick 2 best 2\nparts on tip 0 quick 1 best 1\nparts on tip 2 quick 1 best 1\n\
-                pairs quick 0 best 0\ntip changes quick 1 best 1, parts placed tip by tip, tip 2 mounted\n";
+                parts on tip 0 quick 1 best 1\nparts on tip 2 quick 1 best 1\ntip 2 mounted\n\
+                plan   pairs  tips  changes in the list's order\n\
+                quick      0     2                            2\n\
+                best       0     2                            2\n";
     for arguments in [["plan", "-", "--mounted", "2"], ["plan", "--mounted", "2", "-"]] {
         assert_eq!(run(&arguments, LIST.as_bytes()), given(plan.as_bytes()));
     }
@@ -990,7 +1005,10 @@ fn bash_completes_commands_and_options() {
     assert_eq!(completed(&["import", ""]), ["kicad", "openpnp", "csv"]);
     assert_eq!(completed(&["help", "import", "o"]), ["openpnp"]);
     assert_eq!(completed(&["completion", ""]), ["bash"]);
-    assert_eq!(completed(&["plan", "a", "--"]), ["--mounted", "--format", "--plan", "--force", "--help"]);
+    assert_eq!(
+        completed(&["plan", "a", "--"]),
+        ["--mounted", "--in-order", "--in-placing-order", "--format", "--plan", "--force", "--help"]
+    );
     assert_eq!(completed(&["plan", "a", "--format", ""]), ["text", "csv", "json"]);
     assert_eq!(completed(&["import", "csv", "a", "--c"]), ["--columns"]);
     assert_eq!(completed(&["import", "csv", "a", "--side", "b"]), ["bottom", "both"]);

@@ -45,7 +45,7 @@ fn page_has_tips_used_and_changes() {
     for (name, number) in [
         ("pairs", 4),
         ("tips used", 2),
-        ("tip changes, parts placed tip by tip", 1),
+        ("tip changes in the list&#x27;s order", 1),
         ("placements on tip 0", 3),
         ("placements on tip 2", 2),
     ] {

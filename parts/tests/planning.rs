@@ -2,7 +2,7 @@
 
 use parts::job::{list_in_words, Job};
 use parts::list::List;
-use parts::planning::Named;
+use parts::planning::{Along, Named, Wish};
 
 fn named(text: &str) -> Named {
     let list = List::read(text.as_bytes()).unwrap_or_else(|faults| panic!("{text:?}: {faults:?}"));
@@ -72,7 +72,7 @@ fn quantities_of_1_are_kept_as_version_1() {
     for k in [1, 2] {
         assert_eq!(longer.keep(k).unwrap().file, plain.keep(k).unwrap().file);
     }
-    assert!(longer.plan(None).unwrap().contains("\nline 3 quick 5 best 5\n\ntips used "));
+    assert!(longer.plan(Wish::default()).unwrap().contains("\nline 3 quick 5 best 5\n\nparts on tip "));
 }
 
 #[test]
@@ -93,9 +93,11 @@ fn plan_names_both_tips_and_sums_up() {
     let text =
         "lines 4 rack 3\noff 2 tips 0 1 2\nquick 2\nbest 2\nA quick 0 best 0\nB quick 2 best 2\nC quick 0 best 0\n\
          line 3 quick 2 best 2\n\n\
-         tips used quick 2 best 2\nparts on tip 0 quick 2 best 2\nparts on tip 2 quick 2 best 2\n\
-         pairs quick 2 best 2\ntip changes quick 1 best 1, parts placed tip by tip\n";
-    assert_eq!(named("rack 3\nA : 0\nB : 2\nC : 0-1\n: 1-2\n").plan(None), Ok(text.into()));
+         parts on tip 0 quick 2 best 2\nparts on tip 2 quick 2 best 2\n\
+         plan   pairs  tips  changes in the list's order\n\
+         quick      2     2                            3\n\
+         best       2     2                            3\n";
+    assert_eq!(named("rack 3\nA : 0\nB : 2\nC : 0-1\n: 1-2\n").plan(Wish::default()), Ok(text.into()));
 }
 
 #[test]
@@ -103,9 +105,11 @@ fn plan_names_the_line_that_is_no_run() {
     let text =
         "lines 4 rack 3\noff 2 tips 0 1 2\nquick 1\nbest none, D is no run: it lacks tip 1, which A has (with the tips in the order 1 0 2 every part is a run)\nA quick 1 best -\nB quick 2 best -\n\
          C quick 0 best -\nD quick 0 best -\n\n\
-         tips used quick 3 best -\nparts on tip 0 quick 2 best -\nparts on tip 1 quick 1 best -\n\
-         parts on tip 2 quick 1 best -\npairs quick 1 best -\ntip changes quick 2 best -, parts placed tip by tip\n";
-    assert_eq!(named("rack 3\nA : 1\nB : 2\nC : 0-1\nD : 0 2\n").plan(None), Ok(text.into()));
+         parts on tip 0 quick 2 best -\nparts on tip 1 quick 1 best -\nparts on tip 2 quick 1 best -\n\
+         plan   pairs  tips  changes in the list's order\n\
+         quick      1     3                            2\n\
+         best       -     -                            -\n";
+    assert_eq!(named("rack 3\nA : 1\nB : 2\nC : 0-1\nD : 0 2\n").plan(Wish::default()), Ok(text.into()));
 }
 
 #[test]
@@ -113,16 +117,18 @@ fn tip_that_no_part_has_may_be_missing() {
     let board = "rack 5\nA : 2 4\nB : 2\nC : 4\nD : 4\n";
     let text = "lines 4 rack 5\noff 1 tips 4\nquick 3\nbest 3\nA quick 4 best 4\nB quick 2 best 2\nC quick 4 best 4\n\
                 D quick 4 best 4\n\n\
-                tips used quick 2 best 2\nparts on tip 2 quick 1 best 1\nparts on tip 4 quick 3 best 3\n\
-                pairs quick 3 best 3\ntip changes quick 1 best 1, parts placed tip by tip\n";
-    assert_eq!(named(board).plan(None), Ok(text.into()));
+                parts on tip 2 quick 1 best 1\nparts on tip 4 quick 3 best 3\n\
+                plan   pairs  tips  changes in the list's order\n\
+                quick      3     2                            2\n\
+                best       3     2                            2\n";
+    assert_eq!(named(board).plan(Wish::default()), Ok(text.into()));
     // The first part that is no run, the lowest tip that it lacks, and the first part that has it.
     for (more, why) in [
         ("E : 3\n", "A is no run: it lacks tip 3, which E has (with the tips in the order 2 4 3 every part is a run)"),
         (": 1 4\nF : 3\nG : 3\n", "A is no run: it lacks tip 3, which F has (with the tips in the order 1 4 2 3 every part is a run)"),
         (": 0-1\n: 0 4\n", "line 5 is no run: it lacks tip 1, which line 4 has (with the tips in the order 1 0 4 2 every part is a run)"),
     ] {
-        let plan = named(&(board.to_string() + more)).plan(None).unwrap();
+        let plan = named(&(board.to_string() + more)).plan(Wish::default()).unwrap();
         assert!(plan.contains(&format!("\nbest none, {why}\nA quick 4 best -\n")), "{plan}");
     }
 }
@@ -132,33 +138,39 @@ fn plan_counts_parts_and_placements() {
     // Without the quantities quick begins with tip 1, which can pick B, C and D; with them tip 0 takes A and B first.
     let text = "lines 4 rack 3\noff 2 tips 0\nquick 79\nbest 79\nA x10 quick 0 best 0\nB x3 quick 0 best 0\n\
                 C quick 1 best 1\nline 3 quick 1 best 1\n\n\
-                parts 4 placements 15\ntips used quick 2 best 2\nparts on tip 0 quick 2 best 2\n\
+                parts 4 placements 15\nparts on tip 0 quick 2 best 2\n\
                 placements on tip 0 quick 13 best 13\nparts on tip 1 quick 2 best 2\n\
-                placements on tip 1 quick 2 best 2\npairs quick 79 best 79\n\
-                tip changes quick 1 best 1, parts placed tip by tip\n";
+                placements on tip 1 quick 2 best 2\n\
+                plan   pairs  tips  changes in the list's order\n\
+                quick     79     2                            1\n\
+                best      79     2                            1\n";
     let board = "rack 3\nA x10 : 0\nB x3 : 0-1\nC : 1-2\n: 1\n";
-    assert_eq!(named(board).plan(None), Ok(text.into()));
-    let without = named(&board.replace(" x10", "").replace(" x3", "")).plan(None).unwrap();
+    assert_eq!(named(board).plan(Wish::default()), Ok(text.into()));
+    let without = named(&board.replace(" x10", "").replace(" x3", "")).plan(Wish::default()).unwrap();
     assert!(without.contains("\nB quick 1 best 1\n") && !without.contains("placements"), "{without}");
 }
 
 #[test]
 fn most_placements_on_one_tip_are_planned() {
     let text = "lines 1 rack 1\noff 0 tips 0\nquick 32385\nbest 32385\nA x255 quick 0 best 0\n\n\
-                parts 1 placements 255\ntips used quick 1 best 1\nparts on tip 0 quick 1 best 1\n\
-                placements on tip 0 quick 255 best 255\npairs quick 32385 best 32385\n\
-                tip changes quick 0 best 0, parts placed tip by tip\n";
-    assert_eq!(named("rack 1\nA x255 : 0\n").plan(None), Ok(text.into()));
+                parts 1 placements 255\nparts on tip 0 quick 1 best 1\n\
+                placements on tip 0 quick 255 best 255\n\
+                plan   pairs  tips  changes in the list's order\n\
+                quick  32385     1                            0\n\
+                best   32385     1                            0\n";
+    assert_eq!(named("rack 1\nA x255 : 0\n").plan(Wish::default()), Ok(text.into()));
     let most = "rack 64\n".to_string() + &"x255 : 0-63\n".repeat(8) + "x8 : 5\n";
-    let summary = "parts 9 placements 2048\ntips used quick 1 best 1\nparts on tip 5 quick 9 best 9\n\
-                   placements on tip 5 quick 2048 best 2048\npairs quick 2096128 best 2096128\n\
-                   tip changes quick 0 best 0, parts placed tip by tip\n";
+    let summary = "parts 9 placements 2048\nparts on tip 5 quick 9 best 9\n\
+                   placements on tip 5 quick 2048 best 2048\n\
+                   plan     pairs  tips  changes in the list's order\n\
+                   quick  2096128     1                            0\n\
+                   best   2096128     1                            0\n";
     assert_eq!(summary_of(&most), summary);
 }
 
 /// What stands below the empty line of a plan.
 fn summary_of(text: &str) -> String {
-    let plan = named(text).plan(None).unwrap();
+    let plan = named(text).plan(Wish::default()).unwrap();
     plan.split_once("\n\n").expect("a summary").1.into()
 }
 
@@ -166,42 +178,95 @@ fn summary_of(text: &str) -> String {
 fn summary_counts_the_tips_of_either_plan() {
     // Quick: tip 3 takes C1, D1, Q1, U1 and U2, tip 1 R1 and R2, tip 4 J1. Best: four parts each on tips 1 and 4.
     let board = "rack 6\nR1 : 0-1\nR2 : 1-2\nC1 : 1-3\nD1 : 1-3\nQ1 : 3-4\nU1 : 3-4\nU2 : 3-5\nJ1 : 4-5\n";
-    let expected = "tips used quick 3 best 2\nparts on tip 1 quick 2 best 4\nparts on tip 3 quick 5 best 0\n\
-                    parts on tip 4 quick 1 best 4\npairs quick 11 best 12\n\
-                    tip changes quick 2 best 1, parts placed tip by tip\n";
+    let expected = "parts on tip 1 quick 2 best 4\nparts on tip 3 quick 5 best 0\n\
+                    parts on tip 4 quick 1 best 4\n\
+                    plan   pairs  tips  changes in the list's order\n\
+                    quick     11     3                            2\n\
+                    best      12     2                            1\n";
     assert_eq!(summary_of(board), expected);
     // The most pairs are on three tips, although two would do, with 12 pairs.
     let board = "rack 3\nA : 0\nB1 : 0-1\nB2 : 0-1\nB3 : 0-1\nC1 : 1-2\nC2 : 1-2\nC3 : 1-2\nD : 2\n";
-    let expected = "tips used quick 3 best 3\nparts on tip 0 quick 1 best 1\nparts on tip 1 quick 6 best 6\n\
-                    parts on tip 2 quick 1 best 1\npairs quick 15 best 15\n\
-                    tip changes quick 2 best 2, parts placed tip by tip\n";
+    let expected = "parts on tip 0 quick 1 best 1\nparts on tip 1 quick 6 best 6\n\
+                    parts on tip 2 quick 1 best 1\n\
+                    plan   pairs  tips  changes in the list's order\n\
+                    quick     15     3                            2\n\
+                    best      15     3                            2\n";
     assert_eq!(summary_of(board), expected);
 }
 
+/// The numbers of a plan in the table at the end, behind its name: pairs, tips, and the changes in each order.
+fn numbers(plan: &str, name: &str) -> Vec<String> {
+    let (_, table) = plan.split_once("\n\n").expect("a table");
+    let row = table.lines().map(|line| line.split_whitespace()).find(|row| row.clone().next() == Some(name));
+    row.unwrap_or_else(|| panic!("no {name}: {plan}")).skip(1).map(String::from).collect()
+}
+
 #[test]
-fn mounted_tip_wins_a_tie_and_spares_a_change_where_it_is_used() {
+fn mounted_tip_wins_a_tie_and_is_changed_where_the_first_part_is_on_another() {
     let board = named("rack 3\nA : 0\nB : 1-2\n");
-    for (mounted, tip) in [(None, 1), (Some(0), 1), (Some(1), 1), (Some(2), 2)] {
-        let plan = board.plan(mounted).unwrap();
+    for (mounted, tip, changes) in [(None, 1, "1"), (Some(0), 1, "1"), (Some(1), 1, "2"), (Some(2), 2, "2")] {
+        let plan = board.plan(Wish::mounted(mounted)).unwrap();
         assert!(plan.contains(&format!("\nA quick 0 best 0\nB quick {tip} best {tip}\n\n")), "{plan}");
-        let end = mounted.map_or(String::new(), |tip| format!(", tip {tip} mounted"));
-        assert!(plan.contains(&format!("\ntip changes quick 1 best 1, parts placed tip by tip{end}\n")), "{plan}");
+        let said = mounted.map_or(String::new(), |tip| format!("tip {tip} mounted\n"));
+        assert!(plan.contains(&format!("quick 1 best 1\n{said}plan ")), "{plan}");
+        assert_eq!(numbers(&plan, "quick"), ["0", "2", changes]);
+        assert_eq!(numbers(&plan, "best"), ["0", "2", changes]);
     }
     // No part uses tip 1, so that it is changed at the start, unless there is no part.
-    let plan = named("rack 3\nA : 0\nB : 2\n").plan(Some(1)).unwrap();
-    assert!(plan.ends_with("\ntip changes quick 2 best 2, parts placed tip by tip, tip 1 mounted\n"), "{plan}");
-    let plan = named("rack 3\n").plan(Some(1)).unwrap();
-    assert!(plan.ends_with("\ntip changes quick 0 best 0, parts placed tip by tip, tip 1 mounted\n"), "{plan}");
+    let plan = named("rack 3\nA : 0\nB : 2\n").plan(Wish::mounted(Some(1))).unwrap();
+    assert_eq!(numbers(&plan, "quick"), ["0", "2", "2"]);
+    let plan = named("rack 3\n").plan(Wish::mounted(Some(1))).unwrap();
+    assert_eq!(numbers(&plan, "best"), ["0", "0", "0"]);
     // Without a best plan there is no number for it.
-    let plan = named("rack 3\nA : 1\nB : 0 2\n").plan(Some(2)).unwrap();
+    let plan = named("rack 3\nA : 1\nB : 0 2\n").plan(Wish::mounted(Some(2))).unwrap();
     assert!(plan.contains("\nA quick 1 best -\nB quick 2 best -\n"), "{plan}");
-    assert!(plan.ends_with("\ntip changes quick 1 best -, parts placed tip by tip, tip 2 mounted\n"), "{plan}");
+    assert_eq!(numbers(&plan, "quick"), ["0", "2", "2"]);
+    assert_eq!(numbers(&plan, "best"), ["-", "-", "-"]);
+}
+
+/// In the order of the list A and B can share tip 1, then C and D tip 0. Quick and best have A, C and D on tip 0.
+const BETWEEN: &str = "rack 3\nA : 0-1\nB : 1-2\nC : 0\nD : 0-1\n";
+
+#[test]
+fn plan_along_the_list_has_fewer_changes() {
+    let along = |mounted| named(BETWEEN).plan(Wish { mounted, along: Some(Along::List) }).unwrap();
+    let text = "lines 4 rack 3\noff 1 tips 0 1\nquick 3\nbest 3\nalong 2, 1 change in the list's order\n\
+                A quick 0 best 0 along 1\nB quick 1 best 1 along 1\nC quick 0 best 0 along 0\n\
+                D quick 0 best 0 along 0\n\n\
+                parts on tip 0 quick 3 best 3 along 2\nparts on tip 1 quick 1 best 1 along 2\n\
+                plan   pairs  tips  changes in the list's order\n\
+                quick      3     2                            2\n\
+                best       3     2                            2\n\
+                along      2     2                            1\n";
+    assert_eq!(along(None), text);
+    // Tip 1 stays on the head for A and B; tip 2 serves B alone, so that it is changed before A.
+    assert_eq!(numbers(&along(Some(1)), "along"), ["2", "2", "1"]);
+    assert_eq!(numbers(&along(Some(2)), "along"), ["2", "2", "2"]);
+}
+
+#[test]
+fn plan_along_the_placing_order_has_fewer_changes_there() {
+    // D, A and B can share tip 1, and C is on tip 0; in the order of the list that is tip 1, 1, 0 and 1.
+    let board = named(&BETWEEN.replace("D :", "D fine :"));
+    let plan = board.plan(Wish { mounted: None, along: Some(Along::PlacingOrder) }).unwrap();
+    assert!(plan.contains("\nalong 3, 1 change in the placing order\nA quick 0 best 0 along 1\n"), "{plan}");
+    let heads = "\nplan   pairs  tips  changes in the list's order  changes in the placing order\n";
+    assert!(plan.contains(heads), "{plan}");
+    // D, A, B and C: quick and best have tips 0, 0, 1 and 0.
+    assert_eq!(numbers(&plan, "quick"), ["3", "2", "2", "2"]);
+    assert_eq!(numbers(&plan, "along"), ["3", "2", "2", "1"]);
+    let round = named("rack 1\nA fine tall : 0\nB : 0\nbefore A B\n");
+    let why = round.plan(Wish { mounted: None, along: Some(Along::PlacingOrder) }).unwrap_err();
+    assert!(why.starts_with("refused 29: no order obeys: A before B (rule on line 4)"), "{why}");
+    assert!(round.plan(Wish { mounted: None, along: Some(Along::List) }).is_ok());
 }
 
 #[test]
 fn mounted_tip_may_change_the_pairs_of_quick_alone() {
     let board = named("rack 3\nA : 0\nB : 2\nC : 0-1\nD : 1-2\n");
-    let pairs = |mounted| board.plans(mounted).map(|plans| (plans.quick.pairs, plans.best.map(|best| best.pairs)));
+    let pairs = |mounted| {
+        board.plans(Wish::mounted(mounted)).map(|plans| (plans.quick.pairs, plans.best.map(|best| best.pairs)))
+    };
     assert_eq!(pairs(None), Ok((2, Ok(2))));
     assert_eq!(pairs(Some(1)), Ok((1, Ok(2))));
     assert_eq!(pairs(Some(2)), Ok((2, Ok(2))));
@@ -210,16 +275,17 @@ fn mounted_tip_may_change_the_pairs_of_quick_alone() {
 #[test]
 fn mounted_tip_outside_the_rack_is_refused_in_words() {
     let why = "refused 16: the mounted tip 3 is outside the rack of 3; name a tip from 0 to 2, or none";
-    assert_eq!(named("rack 3\nA : 0\n").plan(Some(3)), Err(why.into()));
+    assert_eq!(named("rack 3\nA : 0\n").plan(Wish::mounted(Some(3))), Err(why.into()));
     // A bad file is told first.
     let damaged = Named { file: b"TIP\x00\x01\x03\x00\x02\x00".to_vec(), list: None };
-    assert!(damaged.plan(Some(3)).unwrap_err().starts_with("refused 10: "));
+    assert!(damaged.plan(Wish::mounted(Some(3))).unwrap_err().starts_with("refused 10: "));
 }
 
 #[test]
 fn summary_without_parts_has_no_tip_change() {
-    let expected = "tips used quick 0 best 0\npairs quick 0 best 0\n\
-                    tip changes quick 0 best 0, parts placed tip by tip\n";
+    let expected = "plan   pairs  tips  changes in the list's order\n\
+                    quick      0     0                            0\n\
+                    best       0     0                            0\n";
     assert_eq!(summary_of("rack 5\n"), expected);
 }
 
@@ -229,6 +295,6 @@ fn damaged_files_are_refused_in_words() {
     let why =
         "refused 10: the file names 2 lines, which take 24 bytes, and has 9; hand over the whole file and no more, or mend it: parts mend";
     assert_eq!(damaged.keep(1).err(), Some(why.into()));
-    assert_eq!(damaged.plan(None), Err(why.into()));
+    assert_eq!(damaged.plan(Wish::default()), Err(why.into()));
     assert_eq!(damaged.picture(), Err(why.into()));
 }

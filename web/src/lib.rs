@@ -6,6 +6,7 @@ use std::cell::RefCell;
 use std::fmt::Display;
 use std::panic;
 
+use parts::changes::tip_by_tip;
 use parts::import::csv::{self, Columns};
 use parts::import::openpnp::{Board, Packages, Parts};
 use parts::import::table::Table;
@@ -14,7 +15,7 @@ use parts::job::{has_mark, job_of, list_in_words};
 use parts::limits::too_large;
 use parts::list::{Fault, List};
 use parts::panel::{Merged, Panel};
-use parts::planning::{Kept, Named, Plan, Plans};
+use parts::planning::{Kept, Named, Plan, Plans, Wish};
 use parts::tips_in_words;
 
 /// What is wrong is told of this many lines.
@@ -97,7 +98,7 @@ fn answer_of(fields: &[&[u8]]) -> Result<Vec<Vec<u8>>, String> {
         [b"openpnp", packages, board, parts, side] => text(openpnp(packages, board, parts, side)?),
         [b"plan", list, mounted] => planned(&named(list)?, number_of(mounted)),
         [b"changed", list, rack, line, tip] => changed(read(list)?, number_of(rack), number_of(line), number_of(tip)),
-        [b"text", list] => text(named(list)?.plan(None)?),
+        [b"text", list] => text(named(list)?.plan(Wish::default())?),
         [b"keep", list, k] => kept(named(list)?.keep(number_of(k).ok_or("k is a number from 0 to 65535")?)?),
         [b"goal", list, goal] => kept(named(list)?.goal(number_of(goal).ok_or("a goal is a number of pairs")?)?),
         [b"picture", list] => text(named(list)?.picture()?),
@@ -182,28 +183,19 @@ fn numbers_of(plans: &Plans) -> Vec<Vec<u8>> {
     let of = |plan: Option<&Plan>| {
         plan.map_or(["-"; 4].map(String::from), |plan| {
             let tips = plan.tips_used(plans.job.rack);
-            let along = changes_along(plans.mounted, &plan.tips);
-            [plan.pairs.to_string(), tips.to_string(), along.to_string(), plans.changes(plan).to_string()]
+            let in_list = plan.changes_in_list(plans.mounted);
+            let by_tips = plan.changes_in(&tip_by_tip(&plan.tips, plans.mounted), plans.mounted);
+            [plan.pairs.to_string(), tips.to_string(), in_list.to_string(), by_tips.to_string()]
         })
     };
     let both = [of(Some(&plans.quick)), of(plans.best.as_ref().ok())];
     both.into_iter().flatten().map(String::into_bytes).collect()
 }
 
-/// How often the head changes its tip along these tips. Without a mounted tip the first is on the head at the start.
-fn changes_along(mounted: Option<usize>, tips: &[u8]) -> usize {
-    let between = tips.windows(2).filter(|pair| pair[0] != pair[1]).count();
-    let first = match (mounted, tips.first()) {
-        (Some(mounted), Some(&first)) => usize::from(mounted != usize::from(first)),
-        _ => 0,
-    };
-    first + between
-}
-
 /// In this order: rack, parts, placements, the least k, the numbers of both plans, why there is no best plan, the drawing, the
 /// job file, the plan as CSV, the plan in words.
 fn planned(named: &Named, mounted: Option<usize>) -> Result<Vec<Vec<u8>>, String> {
-    let plans = named.plans(mounted)?;
+    let plans = named.plans(Wish::mounted(mounted))?;
     let sizes = [plans.job.rack, plans.job.lines.len(), plans.job.placements(), plans.common.off as usize];
     let mut answer: Vec<Vec<u8>> = sizes.iter().map(|size| size.to_string().into_bytes()).collect();
     answer.extend(numbers_of(&plans));
@@ -213,7 +205,7 @@ fn planned(named: &Named, mounted: Option<usize>) -> Result<Vec<Vec<u8>>, String
         named.drawing_of(&plans).into_bytes(),
         named.file.clone(),
         table_of(named, &plans).into_bytes(),
-        named.plan(mounted)?.into_bytes(),
+        named.plan(Wish::mounted(mounted))?.into_bytes(),
     ]);
     Ok(answer)
 }
@@ -226,12 +218,12 @@ fn kept(kept: Kept) -> Result<Vec<Vec<u8>>, String> {
 /// The plans of the list as it is and of another one: with this rack, or with this line allowed on one more tip.
 fn changed(list: List, rack: Option<usize>, line: Option<usize>, tip: Option<usize>) -> Result<Vec<Vec<u8>>, String> {
     let mut job = list.job();
-    let before = Named::of_list(list).plans(None)?;
+    let before = Named::of_list(list).plans(Wish::default())?;
     job.rack = rack.unwrap_or(job.rack);
     if let (Some(line), Some(tip)) = (line.and_then(|line| job.lines.get_mut(line)), tip) {
         line.set |= u64::try_from(tip).ok().and_then(|_| 1u64.checked_shl(tip as u32)).unwrap_or(0);
     }
-    let after = Named { file: job.write(), list: None }.plans(None)?;
+    let after = Named { file: job.write(), list: None }.plans(Wish::default())?;
     Ok([numbers_of(&before), numbers_of(&after)].concat())
 }
 
