@@ -105,6 +105,15 @@ class Calls(unittest.TestCase):
         parts = [tipshare.Part(0, 3, tall=True), (0, 3), tipshare.Part(0, 3, fine=True), (0, 3)]
         self.assertEqual(tipshare.order(parts, [(3, 1)]), [2, 3, 1, 0])
 
+    def test_windows(self):
+        self.assertEqual(tipshare.windows([]), [])
+        parts = [tipshare.Part(0, 3, tall=True), (0, 3), tipshare.Part(0, 3, fine=True), (0, 3)]
+        self.assertEqual(tipshare.windows(parts), [(3, 3), (1, 2), (0, 0), (1, 2)])
+        self.assertEqual(tipshare.windows(parts, [(3, 1)]), [(3, 3), (2, 2), (0, 0), (1, 1)])
+        self.refused(12, 1, tipshare.windows, [(0, 1), (1, 2)])
+        self.refused(13, 0, tipshare.windows, [(0, 1), (0, 1)], [(1, 1)])
+        self.refused(29, 0, tipshare.windows, [(0, 1), (0, 1)], [(0, 1), (1, 0)])
+
     def test_plan(self):
         plan = tipshare.plan([("A", {0, 2}), ("B", {1}), ("C", range(2))])
         self.assertEqual((plan.rack, plan.off, plan.common), (3, 1, [0, 1]))

@@ -21,7 +21,7 @@ import pathlib
 __version__ = "2.0.0"
 __all__ = [
     "Refused", "Plan", "Part", "plan", "job", "read", "common", "keep", "goal", "quick", "best", "along", "check",
-    "junior", "merge", "alone", "mend", "order", "report", "words", "version",
+    "junior", "merge", "alone", "mend", "order", "windows", "report", "words", "version",
 ]
 
 MOST_TIPS = 64
@@ -82,6 +82,7 @@ def _load():
         "quick": lent + [size] + lent, "best": lent + [size] + lent + lent,
         "along": lent + [size] + lent, "check": lent + lent + [number] + lent, "junior": lent + lent, "merge": lent + lent + lent,
         "alone": lent + lent + lent, "mend": lent + lent + lent, "order": lent + lent + lent,
+        "windows": lent + lent + lent + lent,
     }
     for call, types in before.items():
         function = getattr(library, f"tipshare_{call}")
@@ -239,8 +240,8 @@ def mend(file):
     return bytes(out[: answer[1]]), changes
 
 
-def order(parts, rules=()):
-    """The order in which parts are placed: a Part, or first, last, fine and tall, for each; rules are pairs of parts."""
+def _placing(parts, rules):
+    """Parts and rules as the header has them, with the number of each."""
     most = 2**32 - 1
     numbers = [_in_range("a number of a part", int(value), most) for part in parts for value in Part(*part)]
     pairs = [_in_range("a part of a rule", value, most) for earlier, later in rules for value in (earlier, later)]
@@ -249,9 +250,21 @@ def order(parts, rules=()):
         array = _lent(ctypes.c_uint32, len(values))
         array[: len(values)] = values
         lent += [array, len(values)]
+    return lent
+
+
+def order(parts, rules=()):
+    """The order in which parts are placed: a Part, or first, last, fine and tall, for each; rules are pairs of parts."""
     placed = _lent(ctypes.c_uint8, MOST_PARTS)
-    answer = _call("order", *lent, placed, len(placed))
+    answer = _call("order", *_placing(parts, rules), placed, len(placed))
     return list(placed[: answer[1]])
+
+
+def windows(parts, rules=()):
+    """For each part the first and the last position that it has in any order that obeys."""
+    first, last = _lent(ctypes.c_uint8, MOST_PARTS), _lent(ctypes.c_uint8, MOST_PARTS)
+    answer = _call("windows", *_placing(parts, rules), first, len(first), last, len(last))
+    return list(zip(first[: answer[1]], last[: answer[1]]))
 
 
 def report(file):

@@ -9,14 +9,14 @@
 #include <stdlib.h>
 #include <string.h>
 
-#define MOST_BUFFERS 4
-#define ORDER 13
+#define MOST_BUFFERS 5
+#define FUNCTIONS 15
 #define END 255
 
-static const char *const names[] = {"read",   "common", "keep",  "goal",  "quick", "best",   "along",
-                                    "check",  "junior", "merge", "alone", "mend",  "report", "order"};
+static const char *const names[FUNCTIONS] = {"read",   "common", "keep",  "goal", "quick",  "best",  "along",  "check",
+                                             "junior", "merge",  "alone", "mend", "report", "order", "windows"};
 /* The buffers of each function. */
-static const int buffers_of[] = {2, 2, 3, 3, 3, 4, 3, 4, 3, 4, 4, 4, 2, 4};
+static const int buffers_of[FUNCTIONS] = {2, 2, 3, 3, 3, 4, 3, 4, 3, 4, 4, 4, 2, 4, 5};
 
 /* A lent part of some cells, and all bytes of the cells: those lent to the call, and those that are expected afterwards. */
 struct buffer {
@@ -103,7 +103,8 @@ static uint64_t call(int function, uint64_t argument, struct buffer *lent)
     case 10: return tipshare_alone(at[0], len[0], at[1], len[1], at[2], len[2], at[3], len[3]);
     case 11: return tipshare_mend(at[0], len[0], at[1], len[1], at[2], len[2], at[3], len[3]);
     case 12: return tipshare_report(at[0], len[0], at[1], len[1]);
-    default: return tipshare_order(at[0], len[0], at[1], len[1], at[2], len[2], at[3], len[3]);
+    case 13: return tipshare_order(at[0], len[0], at[1], len[1], at[2], len[2], at[3], len[3]);
+    default: return tipshare_windows(at[0], len[0], at[1], len[1], at[2], len[2], at[3], len[3], at[4], len[4]);
     }
 }
 
@@ -140,7 +141,7 @@ static int is_met(int function, uint64_t which)
 int main(int argc, char **argv)
 {
     const uint32_t one = 1;
-    uint64_t calls = 0, of[ORDER + 1] = {0};
+    uint64_t calls = 0, of[FUNCTIONS] = {0};
     char mark[8];
     if (argc != 2 || *(const uint8_t *)&one != 1) {
         fprintf(stderr, "usage: replay FILE, on a little-endian machine\n");
@@ -156,7 +157,7 @@ int main(int argc, char **argv)
         fail("the file is no record");
     }
     for (int function; (function = (int)number(1)) != END; calls++) {
-        if (function > ORDER) {
+        if (function >= FUNCTIONS) {
             fail("the record has a function that is not known");
         }
         if (!is_met(function, calls)) {
@@ -167,8 +168,8 @@ int main(int argc, char **argv)
     if (number(8) != calls || fgetc(record) != EOF || calls == 0) {
         fail("the record is not whole");
     }
-    for (int function = 0; function <= ORDER; function++) {
-        printf("%s %llu%s", names[function], (unsigned long long)of[function], function < ORDER ? ", " : "\n");
+    for (int function = 0; function < FUNCTIONS; function++) {
+        printf("%s %llu%s", names[function], (unsigned long long)of[function], function < FUNCTIONS - 1 ? ", " : "\n");
     }
     printf("%llu calls made again, no difference\n", (unsigned long long)calls);
     return 0;

@@ -19,6 +19,7 @@ const FUNCTIONS = [
   ["mend", "buffer buffer buffer buffer"],
   ["report", "buffer buffer"],
   ["order", "buffer buffer buffer buffer"],
+  ["windows", "buffer buffer buffer buffer buffer"],
 ].map(([name, parameters]) => ({ name, parameters: parameters.split(" "), calls: 0 }));
 const END = 255;
 

@@ -63,6 +63,12 @@ pub struct Lent<T> {
 }
 
 impl<T: Copy> Lent<T> {
+    /// A buffer with nothing around it.
+    pub(crate) fn of(cells: Vec<T>) -> Lent<T> {
+        let length = cells.len();
+        Lent { cells, start: 0, length }
+    }
+
     pub(crate) fn junk<const N: usize>(random: &mut Random, length: usize, cells: fn(u64) -> [T; N]) -> Lent<T> {
         let start = GUARD + random.below(16);
         let mut junk = Vec::with_capacity(start + length + GUARD + N);

@@ -8,7 +8,7 @@ use std::{env, fs};
 use compare::check::Difference;
 use compare::mistakes::{mistakes, mistakes_of_panels_and_mendings};
 use compare::order_mistakes::order_mistakes;
-use compare::orders::Orders;
+use compare::orders::{Orders, CALL_NAMES};
 use compare::record::Record;
 use compare::run::{compare_program, Run};
 use compare::sought::Sought;
@@ -198,15 +198,17 @@ fn find_mistakes(settings: &Settings) -> ExitCode {
         if let Err(difference) = part(&mut run) {
             return fail(&difference);
         }
-        found.extend(run.sought.iter().map(|mistake| (mistake.what, mistake.found_after)));
+        found.extend(run.sought.iter().map(|mistake| (mistake.what.to_string(), mistake.found_after)));
     }
-    let sought = order_mistakes().map(Sought::new).collect();
+    let sought = order_mistakes().map(|of_call| of_call.into_iter().map(Sought::new).collect());
     let mut orders = Orders::new(settings.seed, settings.cases / CALLS_AN_ORDER).seeking(sought);
     if let Err(difference) = orders.all() {
         println!("{difference}");
         return ExitCode::FAILURE;
     }
-    found.extend(orders.sought.iter().map(|mistake| (mistake.what, mistake.found_after)));
+    for (name, of_call) in CALL_NAMES.iter().zip(&orders.sought) {
+        found.extend(of_call.iter().map(|mistake| (format!("{name}: {}", mistake.what), mistake.found_after)));
+    }
     for (what, found_after) in &found {
         match found_after {
             Some(calls) => println!("found  after {calls:>6} calls: {what}"),

@@ -1,20 +1,25 @@
-//! Ways in which the placing order can be wrong: the comparison must find each of them.
+//! Ways in which a call on parts and rules can be wrong: the comparison must find each of them.
 //!
 //! Every one is the linked library with other parts, rules or buffers lent to it, or with something changed in what it
-//! wrote.
+//! wrote. What each call does with parts, rules and its answer is tried on every call.
 
-use library::on_slices;
 use second::interface::{ANSWER_PLACES, PART_PLACES, RULE_PLACES};
 use second::MOST_PARTS;
 
-use crate::orders::{call_library, Buffers, Caller};
+use crate::check::Lent;
+use crate::orders::{call_library, Buffers, Caller, CALL_NAMES};
 use crate::sought;
+
+mod orders;
+mod windows;
 
 pub type OrderMistake = sought::Mistake<Caller>;
 
-/// Everything that the comparison of orders is tried with.
-pub fn order_mistakes() -> impl Iterator<Item = &'static OrderMistake> {
-    [OF_PARTS, OF_RULES, OF_ORDERS, OF_REFUSALS, OF_BUFFERS].into_iter().flatten()
+/// The mistakes that each call is tried with, in the order of the names of the calls.
+pub fn order_mistakes() -> [Vec<&'static OrderMistake>; CALL_NAMES.len()] {
+    let of_every_call = [OF_PARTS, OF_RULES, OF_RECORDS, OF_ANSWERS];
+    let of_one = [[orders::OF_ORDERS, orders::OF_BUFFERS], [windows::OF_WINDOWS, windows::OF_BUFFERS]];
+    of_one.map(|own| of_every_call.into_iter().chain(own).flatten().collect())
 }
 
 const OF_PARTS: &[OrderMistake] = &[
@@ -150,79 +155,8 @@ const OF_RULES: &[OrderMistake] = &[
     }),
 ];
 
-const OF_ORDERS: &[OrderMistake] = &[
-    ("the highest part is taken", |lent| {
-        let returned = with(lent, |parts, rules| {
-            let count = (parts.len() / PART_PLACES) as u32;
-            let turned: Vec<u32> = parts.chunks_exact(PART_PLACES).rev().flatten().copied().collect();
-            *parts = turned;
-            rules.iter_mut().filter(|part| **part < count).for_each(|part| *part = count - 1 - *part);
-        });
-        // A refusal's place is another one then.
-        if returned != 0 {
-            return call_library(lent);
-        }
-        each_part(lent, |count, part| count - 1 - part);
-        returned
-    }),
-    ("the lowest part is wanted at the last position first", |lent| {
-        // The same parts placed from the other end: positions, flags and rules turned round.
-        let returned = with(lent, |parts, rules| {
-            let last = (parts.len() / PART_PLACES).max(1) as u32 - 1;
-            if parts.chunks_exact(PART_PLACES).all(|part| part[0] <= part[1] && part[1] <= last) {
-                for part in parts.chunks_exact_mut(PART_PLACES) {
-                    (part[0], part[1]) = (last - part[1], last - part[0]);
-                    // From the other end tall parts come first.
-                    part.swap(2, 3);
-                }
-                rules.chunks_exact_mut(RULE_PLACES).for_each(|rule| rule.swap(0, 1));
-            }
-        });
-        if returned == 0 {
-            let count = lent.answer.inside()[1] as usize;
-            lent.order.inside()[..count].reverse();
-        }
-        returned
-    }),
-    ("the position of each part is written", |lent| {
-        let returned = call_library(lent);
-        if returned == 0 {
-            let count = lent.answer.inside()[1] as usize;
-            let order = lent.order.inside()[..count].to_vec();
-            for (position, part) in order.into_iter().enumerate() {
-                lent.order.inside()[usize::from(part)] = position as u8;
-            }
-        }
-        returned
-    }),
-    ("parts are counted from 1", |lent| {
-        let returned = call_library(lent);
-        if returned == 0 {
-            each_part(lent, |_, part| part + 1);
-        }
-        returned
-    }),
-    ("the last two parts are taken for each other", |lent| {
-        let returned = call_library(lent);
-        let count = lent.answer.inside().get(1).map_or(0, |&count| count as usize);
-        if returned == 0 && count > 1 {
-            lent.order.inside()[..count].swap(count - 1, count - 2);
-        }
-        returned
-    }),
-    ("an order is found where none obeys", |lent| {
-        let returned = call_library(lent);
-        if returned != 29 {
-            return returned;
-        }
-        let count = (lent.parts.inside().len() / PART_PLACES) as u8;
-        (0..count).for_each(|part| lent.order.inside()[usize::from(part)] = part);
-        lent.answer.inside()[1] = count.into();
-        0
-    }),
-];
-
-const OF_REFUSALS: &[OrderMistake] = &[
+/// Refusals of parts, rules and a short answer.
+const OF_RECORDS: &[OrderMistake] = &[
     ("the last part with bad positions is told", |lent| {
         let returned = call_library(lent);
         let parts = lent.parts.inside();
@@ -268,45 +202,6 @@ const OF_REFUSALS: &[OrderMistake] = &[
             _ => returned,
         }
     }),
-    ("a short order is looked at before positions and rules", |lent| {
-        let returned = call_library(lent);
-        let short = lent.order.inside().len() < lent.parts.inside().len() / PART_PLACES;
-        if short && matches!(returned, 12 | 13) {
-            lent.answer.inside()[0] = 0;
-            return 14;
-        }
-        returned
-    }),
-    ("a short order is looked at last", |lent| {
-        let returned = call_library(lent);
-        if returned != 14 {
-            return returned;
-        }
-        let (parts, rules) = (lent.parts.inside().to_vec(), lent.rules.inside().to_vec());
-        let mut answer = [0; ANSWER_PLACES];
-        match on_slices::order(&parts, &rules, &mut [0; MOST_PARTS], &mut answer) {
-            29 => 29,
-            _ => returned,
-        }
-    }),
-    ("an order buffer of n bytes is refused", |lent| {
-        let lengths = (lent.order.inside().len(), lent.parts.inside().len() / PART_PLACES);
-        refused_where(lent, |_, _| lengths.0 == lengths.1 && lengths.1 > 0, 14)
-    }),
-    ("one byte of the order may be missing", |lent| {
-        let returned = call_library(lent);
-        let count = lent.parts.inside().len() / PART_PLACES;
-        if returned == 14 && lent.order.inside().len() + 1 == count {
-            let (parts, rules) = (lent.parts.inside().to_vec(), lent.rules.inside().to_vec());
-            let mut whole = [0; MOST_PARTS];
-            let number = on_slices::order(&parts, &rules, &mut whole, lent.answer.inside());
-            if number == 0 {
-                lent.order.inside().copy_from_slice(&whole[..count - 1]);
-            }
-            return number;
-        }
-        returned
-    }),
     ("numbers behind the last whole part are passed over", |lent| {
         with(lent, |parts, _| parts.truncate(parts.len() / PART_PLACES * PART_PLACES))
     }),
@@ -329,7 +224,7 @@ const OF_REFUSALS: &[OrderMistake] = &[
     }),
 ];
 
-const OF_BUFFERS: &[OrderMistake] = &[
+const OF_ANSWERS: &[OrderMistake] = &[
     ("the number of parts is not told", |lent| at_refusal(lent, 0, |answer| answer[1] = 0)),
     ("the number of parts is told with 29", |lent| {
         let count = lent.parts.inside().len() / PART_PLACES;
@@ -351,28 +246,6 @@ const OF_BUFFERS: &[OrderMistake] = &[
         let returned = call_library(lent);
         if let Some(place) = lent.answer.inside().get_mut(4) {
             *place = 0;
-        }
-        returned
-    }),
-    ("bytes of the order from n on are cleared", |lent| {
-        let returned = call_library(lent);
-        if returned == 0 {
-            let count = lent.answer.inside()[1] as usize;
-            lent.order.inside()[count..].fill(0);
-        }
-        returned
-    }),
-    ("an order that no rule allows is begun all the same", |lent| {
-        let returned = call_library(lent);
-        if returned == 29 {
-            lent.order.inside()[0] ^= 1;
-        }
-        returned
-    }),
-    ("a refused call clears the order", |lent| {
-        let returned = call_library(lent);
-        if returned != 0 {
-            lent.order.inside().fill(0);
         }
         returned
     }),
@@ -412,7 +285,11 @@ fn kept(rules: &[u32], keep: impl Fn(&[u32]) -> bool) -> Vec<u32> {
 fn with(lent: &mut Buffers, change: impl Fn(&mut Vec<u32>, &mut Vec<u32>)) -> u32 {
     let (mut parts, mut rules) = (lent.parts.inside().to_vec(), lent.rules.inside().to_vec());
     change(&mut parts, &mut rules);
-    on_slices::order(&parts, &rules, lent.order.inside(), lent.answer.inside())
+    let given = (lent.parts.clone(), lent.rules.clone());
+    (lent.parts, lent.rules) = (Lent::of(parts), Lent::of(rules));
+    let returned = call_library(lent);
+    (lent.parts, lent.rules) = given;
+    returned
 }
 
 /// Whether parts and rules are whole records.
@@ -454,23 +331,17 @@ fn on_rules(lent: &mut Buffers, change: impl Fn(u32, &mut Vec<u32>)) -> u32 {
     with(lent, |parts, rules| change((parts.len() / PART_PLACES) as u32, rules))
 }
 
-/// Refuses an accepted call with this number, where its parts and rules are so many.
+/// Refuses an accepted call with this number, given the numbers of its parts and rules.
 fn refused_where(lent: &mut Buffers, is_refused: impl Fn(usize, usize) -> bool, number: u32) -> u32 {
     let lengths = (lent.parts.inside().len() / PART_PLACES, lent.rules.inside().len() / RULE_PLACES);
-    let before = lent.order.clone();
+    let before = lent.clone();
     let returned = call_library(lent);
     if returned != 0 || !is_refused(lengths.0, lengths.1) {
         return returned;
     }
-    lent.order = before;
-    lent.answer.inside()[1] = 0;
+    *lent = before;
+    lent.answer.inside()[..ANSWER_PLACES].fill(0);
     number
-}
-
-/// Changes each part of an order that was written, knowing their number.
-fn each_part(lent: &mut Buffers, change: fn(u8, u8) -> u8) {
-    let count = lent.answer.inside()[1] as usize;
-    lent.order.inside()[..count].iter_mut().for_each(|part| *part = change(count as u8, *part));
 }
 
 /// Changes the answer of a call that gives this number.

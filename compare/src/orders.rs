@@ -1,23 +1,53 @@
-//! Placing orders: fixed and seeded parts and rules, in both implementations and against every order of few parts.
+//! The calls on parts and rules, fixed and seeded ones, in both implementations and against every order of few parts.
 
 use std::collections::BTreeMap;
 use std::fmt;
 
 use library::on_slices;
 use second::interface::{self, ANSWER_PLACES, PART_PLACES, RULE_PLACES};
-use second::{try_every_order, Part, Placing, Rule, MOST_PARTS};
+use second::{try_every_order, try_every_order_for_windows, Part, Placing, Rule, MOST_PARTS};
 
 use crate::check::{first_difference, Lent};
 use crate::random::Random;
 use crate::record::Record;
 use crate::sought::{all_found, look, Sought};
 
-/// With at most so many parts every order is tried.
+/// With at most this many parts every order is tried.
 const MOST_PARTS_TRIED: usize = 6;
 /// With more numbers of rules than these not every length is tried.
 const MOST_RULES_OF_EACH_LENGTH: usize = 10_000;
+/// With more parts than these not every length is tried where the positions are found.
+const MOST_PARTS_OF_EACH_LENGTH: usize = 16;
 /// The numbers that a call must give.
 const NEEDED: [u32; 7] = [0, 12, 13, 14, 29, 100, 101];
+
+/// A call on parts and rules, with the lengths of the buffers that it is lent.
+#[derive(Clone, Copy, PartialEq, Eq, Debug)]
+pub enum Call {
+    Order { order: usize, answer: usize },
+    Windows { first: usize, last: usize, answer: usize },
+}
+
+/// The names of the calls, in the order of their columns.
+pub const CALL_NAMES: [&str; 2] = ["order", "windows"];
+
+impl Call {
+    /// The place of the call among the names.
+    pub fn column(&self) -> usize {
+        match self {
+            Call::Order { .. } => 0,
+            Call::Windows { .. } => 1,
+        }
+    }
+
+    /// Whether a buffer is too short for this many parts.
+    fn is_short(&self, count: usize) -> bool {
+        match *self {
+            Call::Order { order, .. } => order < count,
+            Call::Windows { first, last, .. } => first.min(last) < count,
+        }
+    }
+}
 
 /// What is handed over, as numbers: 4 a part and 2 a rule.
 #[derive(Clone, PartialEq, Eq, Debug, Default)]
@@ -26,12 +56,16 @@ pub struct Handed {
     pub rules: Vec<u32>,
 }
 
-/// Everything that one call can reach.
+/// A call, and everything that it can reach.
 #[derive(Clone, PartialEq)]
 pub struct Buffers {
+    call: Call,
     pub(crate) parts: Lent<u32>,
     pub(crate) rules: Lent<u32>,
     pub(crate) order: Lent<u8>,
+    /// The first and the last position of each part.
+    pub(crate) first: Lent<u8>,
+    pub(crate) last: Lent<u8>,
     pub(crate) answer: Lent<u64>,
 }
 
@@ -39,13 +73,20 @@ pub struct Buffers {
 pub type Caller = fn(&mut Buffers) -> u32;
 
 impl Buffers {
-    fn new(handed: &Handed, order: usize, answer: usize, junk: u64) -> Buffers {
+    fn new(handed: &Handed, call: Call, junk: u64) -> Buffers {
         let mut random = Random::new(junk);
         let halves = |number: u64| [number as u32, (number >> 32) as u32];
+        let (order, first, last, answer) = match call {
+            Call::Order { order, answer } => (order, 0, 0, answer),
+            Call::Windows { first, last, answer } => (0, first, last, answer),
+        };
         let mut buffers = Buffers {
+            call,
             parts: Lent::junk(&mut random, handed.parts.len(), halves),
             rules: Lent::junk(&mut random, handed.rules.len(), halves),
             order: Lent::junk(&mut random, order, u64::to_le_bytes),
+            first: Lent::junk(&mut random, first, u64::to_le_bytes),
+            last: Lent::junk(&mut random, last, u64::to_le_bytes),
             answer: Lent::junk(&mut random, answer, |number| [number]),
         };
         buffers.parts.begin_with(&handed.parts);
@@ -54,13 +95,25 @@ impl Buffers {
     }
 }
 
+/// A call made by the functions of one module.
+macro_rules! made_by {
+    ($module:ident, $lent:expr) => {{
+        let (parts, rules) = ($lent.parts.inside(), $lent.rules.inside());
+        let answer = $lent.answer.inside();
+        match $lent.call {
+            Call::Order { .. } => $module::order(parts, rules, $lent.order.inside(), answer),
+            Call::Windows { .. } => $module::windows(parts, rules, $lent.first.inside(), $lent.last.inside(), answer),
+        }
+    }};
+}
+
 /// The call of the linked library.
 pub fn call_library(lent: &mut Buffers) -> u32 {
-    on_slices::order(lent.parts.inside(), lent.rules.inside(), lent.order.inside(), lent.answer.inside())
+    made_by!(on_slices, lent)
 }
 
 fn call_second(lent: &mut Buffers) -> u32 {
-    interface::order(lent.parts.inside(), lent.rules.inside(), lent.order.inside(), lent.answer.inside())
+    made_by!(interface, lent)
 }
 
 /// A difference, with all that is needed to see it again.
@@ -98,9 +151,17 @@ enum Event {
     SeveralRefusals,
     ManyMoreRules,
     EveryOrderTried,
+    WindowsAsGiven,
+    WindowsByRules,
+    WindowsByFlags,
+    WindowsByOthers,
+    WindowsOfOne,
+    PositionBetween,
+    ShortFirstAlone,
+    ShortLastAlone,
 }
 
-const EVENTS: [(Event, &str); 18] = [
+const EVENTS: [(Event, &str); 26] = [
     (Event::NoParts, "orders without parts"),
     (Event::OnePart, "orders of one part"),
     (Event::MostParts, "orders of 128 parts, accepted"),
@@ -119,13 +180,21 @@ const EVENTS: [(Event, &str); 18] = [
     (Event::SeveralRefusals, "orders refused for several reasons"),
     (Event::ManyMoreRules, "orders by more than 65,535 rules, accepted"),
     (Event::EveryOrderTried, "orders found by trying every order"),
+    (Event::WindowsAsGiven, "windows as they are given, of several parts"),
+    (Event::WindowsByRules, "windows that rules narrow"),
+    (Event::WindowsByFlags, "windows that flags narrow"),
+    (Event::WindowsByOthers, "windows that the positions of other parts narrow, without flags and rules"),
+    (Event::WindowsOfOne, "windows of one position, of parts that are given several"),
+    (Event::PositionBetween, "windows with a position that the part has in no order"),
+    (Event::ShortFirstAlone, "windows with the buffer of the first positions alone too short"),
+    (Event::ShortLastAlone, "windows with the buffer of the last positions alone too short"),
 ];
 
 /// The counts of a run.
 #[derive(Default)]
 pub struct Tally {
     pub calls: u64,
-    numbers: BTreeMap<u32, u64>,
+    numbers: BTreeMap<(u32, usize), u64>,
     events: BTreeMap<Event, u64>,
 }
 
@@ -138,29 +207,42 @@ impl Tally {
 
     /// What must occur and did not.
     pub fn missing(&self) -> Vec<String> {
-        let numbers = NEEDED.iter().filter(|number| !self.numbers.contains_key(number));
+        let mut missing = Vec::new();
+        for (column, name) in CALL_NAMES.iter().enumerate() {
+            let numbers = NEEDED.iter().filter(|&&number| !self.numbers.contains_key(&(number, column)));
+            missing.extend(numbers.map(|number| format!("{name} with {number}")));
+        }
         let events = EVENTS.iter().filter(|(event, _)| !self.events.contains_key(event));
-        numbers.map(|number| format!("order with {number}")).chain(events.map(|(_, name)| name.to_string())).collect()
+        missing.extend(events.map(|(_, name)| name.to_string()));
+        missing
     }
 }
 
 impl fmt::Display for Tally {
     fn fmt(&self, to: &mut fmt::Formatter) -> fmt::Result {
-        writeln!(to, "{:>9}{:>10}", "number", "order")?;
-        for (number, calls) in &self.numbers {
-            writeln!(to, "{number:>9}{calls:>10}")?;
+        write!(to, "{:>9}", "number")?;
+        for name in CALL_NAMES {
+            write!(to, "{name:>10}")?;
+        }
+        writeln!(to)?;
+        for number in NEEDED {
+            write!(to, "{number:>9}")?;
+            for column in 0..CALL_NAMES.len() {
+                write!(to, "{:>10}", self.numbers.get(&(number, column)).copied().unwrap_or(0))?;
+            }
+            writeln!(to)?;
         }
         for (event, name) in EVENTS {
             writeln!(to, "{:>9} {name}", self.events.get(&event).copied().unwrap_or(0))?;
         }
-        write!(to, "{} orders", self.calls)
+        write!(to, "{} orders and windows", self.calls)
     }
 }
 
 /// The comparison of orders.
 pub struct Orders {
-    /// Mistakes that are to show beside it.
-    pub sought: Vec<Sought<Caller>>,
+    /// Mistakes that are to show beside it, for each call by its column.
+    pub sought: [Vec<Sought<Caller>>; CALL_NAMES.len()],
     /// Where some of the calls are put, if asked for.
     pub record: Option<Record>,
     random: Random,
@@ -170,21 +252,22 @@ pub struct Orders {
 
 impl Orders {
     pub fn new(seed: u64, least_calls: u64) -> Orders {
-        let (sought, record, tally) = (Vec::new(), None, Tally::default());
+        let (sought, record, tally) = (Default::default(), None, Tally::default());
         Orders { sought, record, random: Random::new(seed), least_calls, tally }
     }
 
     /// The same run, in which these mistakes are looked for.
-    pub fn seeking(self, sought: Vec<Sought<Caller>>) -> Orders {
+    pub fn seeking(self, sought: [Vec<Sought<Caller>>; CALL_NAMES.len()]) -> Orders {
         Orders { sought, ..self }
     }
 
-    /// Compares the fixed cases, then seeded ones until enough calls are made, or each mistake that is looked for has shown.
+    /// Compares the fixed cases of few parts, then seeded ones until enough calls are made, or each mistake that is looked for
+    /// has shown, and then the fixed cases of many parts, which take longest.
     pub fn all(&mut self) -> Result<(), Difference> {
-        for handed in fixed() {
-            self.each_length(&handed)?;
-        }
-        while self.tally.calls < self.least_calls && !all_found(&self.sought) {
+        let (few, many): (Vec<Handed>, Vec<Handed>) =
+            fixed().into_iter().partition(|handed| handed.parts.len() <= PART_PLACES * MOST_PARTS_OF_EACH_LENGTH);
+        few.iter().try_for_each(|handed| self.each_length(handed))?;
+        while self.tally.calls < self.least_calls && !self.sought.iter().all(|sought| all_found(sought)) {
             let handed = seeded(&mut self.random);
             self.good(&handed)?;
             if self.random.once_in(3) {
@@ -192,43 +275,69 @@ impl Orders {
                 for _ in 0..self.random.from_to(1, 2) {
                     damage(&mut self.random, &mut changed);
                 }
-                let (order, answer) = (self.length_around(changed.parts.len() / PART_PLACES), self.answer_length());
-                self.case(&changed, order, answer)?;
+                self.in_any_buffers(&changed)?;
             }
         }
-        Ok(())
+        many.iter().try_for_each(|handed| self.each_length(handed))
     }
 
-    /// Every length of the order up to one past the need, and of the answer; and parts and rules cut within a record.
+    /// Every length of each buffer up to one past the need, and of the answer; and parts and rules cut within a record.
     fn each_length(&mut self, handed: &Handed) -> Result<(), Difference> {
         let count = handed.parts.len() / PART_PLACES;
         self.good(handed)?;
         if handed.rules.len() > MOST_RULES_OF_EACH_LENGTH {
             return Ok(());
         }
-        for order in (0..=count + 1).filter(|order| count <= 8 || order + 2 >= count || *order == 0) {
-            self.case(handed, order, ANSWER_PLACES)?;
+        let answer = ANSWER_PLACES;
+        // The positions of many parts take long.
+        let is_short = count <= MOST_PARTS_OF_EACH_LENGTH;
+        for length in (0..=count + 1).filter(|length| count <= 8 || length + 2 >= count || *length == 0) {
+            self.case(handed, Call::Order { order: length, answer })?;
+            for (first, last) in [(length, count), (count, length), (length, length)] {
+                if is_short || first.min(last) < count || first > last {
+                    self.case(handed, Call::Windows { first, last, answer })?;
+                }
+            }
         }
         for answer in 0..=8 {
-            self.case(handed, count, answer)?;
-            self.case(handed, 0, answer)?;
+            for length in [count, 0] {
+                self.case(handed, Call::Order { order: length, answer })?;
+                if is_short || length == 0 || answer < ANSWER_PLACES {
+                    self.case(handed, Call::Windows { first: length, last: length, answer })?;
+                }
+            }
         }
         for cut in 1..PART_PLACES.min(handed.parts.len() + 1) {
             let parts = handed.parts[..handed.parts.len() - cut].to_vec();
-            self.case(&Handed { parts, rules: handed.rules.clone() }, count, ANSWER_PLACES)?;
+            self.in_exact_buffers(&Handed { parts, rules: handed.rules.clone() }, count)?;
         }
         let mut rules = handed.rules.clone();
         rules.push(0);
-        self.case(&Handed { parts: handed.parts.clone(), rules }, count, ANSWER_PLACES)
+        self.in_exact_buffers(&Handed { parts: handed.parts.clone(), rules }, count)
+    }
+
+    /// Each call in buffers for this many parts.
+    fn in_exact_buffers(&mut self, handed: &Handed, count: usize) -> Result<(), Difference> {
+        self.case(handed, Call::Order { order: count, answer: ANSWER_PLACES })?;
+        self.case(handed, Call::Windows { first: count, last: count, answer: ANSWER_PLACES })
+    }
+
+    /// Each call in buffers around the lengths that it needs.
+    fn in_any_buffers(&mut self, handed: &Handed) -> Result<(), Difference> {
+        let count = handed.parts.len() / PART_PLACES;
+        let (order, answer) = (self.length_around(count), self.answer_length());
+        self.case(handed, Call::Order { order, answer })?;
+        let (first, last) = (self.length_around(count), self.length_around(count));
+        let answer = self.answer_length();
+        self.case(handed, Call::Windows { first, last, answer })
     }
 
     /// Parts and rules as they are, in buffers that do, and sometimes in others; few parts against every order.
     fn good(&mut self, handed: &Handed) -> Result<(), Difference> {
         let count = handed.parts.len() / PART_PLACES;
-        self.case(handed, count, ANSWER_PLACES)?;
+        self.in_exact_buffers(handed, count)?;
         if self.random.once_in(4) {
-            let (order, answer) = (self.length_around(count), self.answer_length());
-            self.case(handed, order, answer)?;
+            self.in_any_buffers(handed)?;
         }
         let (parts, rules) = records_of(handed);
         let placing = Placing { parts: &parts, rules: &rules };
@@ -239,42 +348,85 @@ impl Orders {
                 let what = format!("second implementation {least:?}, every order {tried:?}");
                 return Err(Difference { handed: handed.clone(), what });
             }
+            let (windows, tried) = (placing.windows(), try_every_order_for_windows(&placing));
+            if windows != tried {
+                let what = format!("second implementation, windows {windows:?}, every order {tried:?}");
+                return Err(Difference { handed: handed.clone(), what });
+            }
         }
         Ok(())
     }
 
     /// One call in both implementations, on buffers of junk.
-    fn case(&mut self, handed: &Handed, order: usize, answer: usize) -> Result<(), Difference> {
+    fn case(&mut self, handed: &Handed, call: Call) -> Result<(), Difference> {
         let junk = self.random.number();
-        let before = Buffers::new(handed, order, answer, junk);
+        let before = Buffers::new(handed, call, junk);
         let (mut of_library, mut of_second) = (before.clone(), before.clone());
         let library = call_library(&mut of_library);
         let second = call_second(&mut of_second);
         self.tally.calls += 1;
-        *self.tally.numbers.entry(second).or_default() += 1;
+        *self.tally.numbers.entry((second, call.column())).or_default() += 1;
         if library != second || of_library != of_second {
-            let mut what = format!("order of {order} bytes, answer of {answer} places, junk {junk}\n");
+            let mut what = format!("{call:?}, junk {junk}\n");
             what += &format!("returned: library {library}, second {second}");
             what += &first_difference("parts", &of_library.parts, &of_second.parts);
             what += &first_difference("rules", &of_library.rules, &of_second.rules);
             what += &first_difference("order", &of_library.order, &of_second.order);
+            what += &first_difference("first positions", &of_library.first, &of_second.first);
+            what += &first_difference("last positions", &of_library.last, &of_second.last);
             what += &first_difference("answer", &of_library.answer, &of_second.answer);
             return Err(Difference { handed: handed.clone(), what });
         }
         if let Some(record) = &mut self.record {
-            record.order(second, &before, &of_second).expect("writing the file asked for with --record");
+            record.order(call, second, &before, &of_second).expect("writing the file asked for with --record");
         }
-        look(&mut self.sought, self.tally.calls, |caller| {
+        look(&mut self.sought[call.column()], self.tally.calls, |caller| {
             let mut lent = before.clone();
             caller(&mut lent) != second || lent != of_second
         });
         let count = handed.parts.len() / PART_PLACES;
-        if second == 0 || second == 29 {
-            self.count_decided(handed, second == 0);
-        } else if (12..=14).contains(&second) {
-            self.count_refused(handed, count, order, second);
+        match (call, second) {
+            (Call::Order { .. }, 0 | 29) => self.count_decided(handed, second == 0),
+            (Call::Windows { .. }, 0) => self.count_windows(handed, &mut of_second),
+            (_, 12..=14) => self.count_refused(handed, count, call, second),
+            _ => {}
         }
         Ok(())
+    }
+
+    /// What narrowed the positions of few parts.
+    fn count_windows(&mut self, handed: &Handed, found: &mut Buffers) {
+        let (parts, rules) = records_of(handed);
+        let count = parts.len();
+        if count > 12 || rules.len() > 40 {
+            return;
+        }
+        let windows: Vec<(u8, u8)> =
+            found.first.inside()[..count].iter().copied().zip(found.last.inside()[..count].iter().copied()).collect();
+        let given: Vec<(u8, u8)> = parts.iter().map(|part| (part.first as u8, part.last as u8)).collect();
+        let plain: Vec<Part> = parts.iter().map(|part| Part { fine: false, tall: false, ..*part }).collect();
+        let differs = |parts: &[Part], rules: &[Rule]| Placing { parts, rules }.windows().as_ref() != Some(&windows);
+        let lacks = |part: usize, position: u8| {
+            let mut parts = parts.clone();
+            (parts[part].first, parts[part].last) = (position.into(), position.into());
+            Placing { parts: &parts, rules: &rules }.least_order().is_none()
+        };
+        let between =
+            || (0..count).any(|part| (windows[part].0..windows[part].1).any(|position| lacks(part, position)));
+        self.tally.count_events(&[
+            (count > 1 && windows == given, Event::WindowsAsGiven),
+            (differs(&parts, &[]), Event::WindowsByRules),
+            (differs(&plain, &rules), Event::WindowsByFlags),
+            (
+                Placing { parts: &plain, rules: &[] }.windows().is_some_and(|alone| alone != given),
+                Event::WindowsByOthers,
+            ),
+            (
+                (0..count).any(|part| given[part].0 < given[part].1 && windows[part].0 == windows[part].1),
+                Event::WindowsOfOne,
+            ),
+            (between(), Event::PositionBetween),
+        ]);
     }
 
     /// What decided an order, or that there is none, on few parts alone; sizes on any.
@@ -328,15 +480,25 @@ impl Orders {
     }
 
     /// What else a refused call could be refused for.
-    fn count_refused(&mut self, handed: &Handed, count: usize, order: usize, number: u32) {
+    fn count_refused(&mut self, handed: &Handed, count: usize, call: Call, number: u32) {
         let (parts, rules) = records_of(handed);
         let bad_rule = rules.iter().any(|&(one, other)| one.max(other) as usize >= count || one == other);
         let several = match number {
-            12 => bad_rule && order < count,
-            13 => order < count,
+            12 => bad_rule && call.is_short(count),
+            13 => call.is_short(count),
             _ => Placing { parts: &parts, rules: &rules }.least_order().is_none(),
         };
-        self.tally.count_events(&[(several, Event::SeveralRefusals), (count > MOST_PARTS, Event::TooManyParts)]);
+        let short_alone = |one: usize, other: usize| number == 14 && one < count && other >= count;
+        let (first, last) = match call {
+            Call::Windows { first, last, .. } => (first, last),
+            Call::Order { .. } => (count, count),
+        };
+        self.tally.count_events(&[
+            (several, Event::SeveralRefusals),
+            (count > MOST_PARTS, Event::TooManyParts),
+            (short_alone(first, last), Event::ShortFirstAlone),
+            (short_alone(last, first), Event::ShortLastAlone),
+        ]);
     }
 
     /// Mostly the needed length of an answer, sometimes less or more.

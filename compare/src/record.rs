@@ -2,7 +2,8 @@
 //! again on another machine: `targets/replay.c` and `targets/replay.mjs` read the file.
 //!
 //! The file is the 8 bytes `TIPCALLS`, the calls, and then a byte 255 and the number of calls (64 bits). A call is
-//! - its function (8 bits): the place of its name in [`CALL_NAMES`], and the place after the last name for an order;
+//! - its function (8 bits): the place of its name in [`CALL_NAMES`], behind them the places of the calls on parts and rules, in the order of
+//!   [`orders::CALL_NAMES`];
 //! - the number among its arguments (64 bits): `k`, `goal`, `mounted` or `claim`, else 0;
 //! - the number that it must return (64 bits);
 //! - its buffers, in the order of the parameters.
@@ -21,8 +22,8 @@ use crate::orders;
 
 const MARK: &[u8] = b"TIPCALLS";
 const END: u8 = 255;
-/// The function of an order, behind those on job files.
-const ORDER: u8 = CALL_NAMES.len() as u8;
+/// The first function on parts and rules, behind those on job files.
+const ON_PARTS: usize = CALL_NAMES.len();
 
 /// A cell of a buffer, as bytes.
 trait Cell: Copy {
@@ -113,15 +114,28 @@ impl Record {
         self.write(&bytes)
     }
 
-    /// A placing order.
-    pub fn order(&mut self, returned: u32, before: &orders::Buffers, after: &orders::Buffers) -> io::Result<()> {
-        if !self.takes(ORDER, returned) {
+    /// A call on parts and rules: what it must return, and its buffers before and after.
+    pub fn order(
+        &mut self,
+        call: orders::Call,
+        returned: u32,
+        before: &orders::Buffers,
+        after: &orders::Buffers,
+    ) -> io::Result<()> {
+        let function = (ON_PARTS + call.column()) as u8;
+        if !self.takes(function, returned) {
             return Ok(());
         }
-        let mut bytes = head(ORDER, 0, returned.into());
+        let mut bytes = head(function, 0, returned.into());
         put(&mut bytes, &before.parts, &after.parts);
         put(&mut bytes, &before.rules, &after.rules);
-        put(&mut bytes, &before.order, &after.order);
+        match call {
+            orders::Call::Order { .. } => put(&mut bytes, &before.order, &after.order),
+            orders::Call::Windows { .. } => {
+                put(&mut bytes, &before.first, &after.first);
+                put(&mut bytes, &before.last, &after.last);
+            }
+        }
         put(&mut bytes, &before.answer, &after.answer);
         self.write(&bytes)
     }

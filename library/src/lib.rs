@@ -42,7 +42,7 @@ pub const LONGEST_FILE: usize = 4_616;
 pub const LONGEST_CHANGES: usize = 3_081;
 /// The mounted tip of the functions of the header where there is none.
 pub const NO_TIP: usize = usize::MAX;
-/// The most parts to order: an order buffer that always does.
+/// The most parts to order: an order buffer, or one of positions, that always does.
 pub const MOST_PARTS: usize = 128;
 
 /// Why a call was refused.
@@ -345,6 +345,13 @@ pub fn mend(file: &[u8], out: &mut [u8], report: &mut [u8]) -> Result<Mended, Re
     Ok(Mended { file: answer[1], report: answer[2] })
 }
 
+/// Parts and rules as the header has them: 4 numbers a part, and 2 a rule.
+fn numbers_of(parts: &[Part], rules: &[(u32, u32)]) -> (Vec<u32>, Vec<u32>) {
+    let of_part = |part: &Part| [part.first, part.last, part.fine.into(), part.tall.into()];
+    let of_rule = |&(earlier, later): &(u32, u32)| [earlier, later];
+    (parts.iter().flat_map(of_part).collect(), rules.iter().flat_map(of_rule).collect())
+}
+
 /// The order in which parts are placed: fine ones first, tall ones last, each within its positions, and of each rule's two
 /// parts the first before the second; of all such orders the least. A tall part's fine flag is ignored. Gives the number of
 /// parts.
@@ -358,10 +365,23 @@ pub fn mend(file: &[u8], out: &mut [u8], report: &mut [u8]) -> Result<Mended, Re
 /// assert_eq!(order, [2, 1, 0]);
 /// ```
 pub fn order(parts: &[Part], rules: &[(u32, u32)], order: &mut [u8]) -> Result<u64, Refusal> {
-    let of_part = |part: &Part| [part.first, part.last, part.fine.into(), part.tall.into()];
-    let parts: Vec<u32> = parts.iter().flat_map(of_part).collect();
-    let rules: Vec<u32> = rules.iter().flat_map(|&(earlier, later)| [earlier, later]).collect();
+    let (parts, rules) = numbers_of(parts, rules);
     Ok(answer_of(|answer| on_slices::order(&parts, &rules, order, answer))?[1])
+}
+
+/// Finds the first and the last position that each part has in any order that obeys positions, flags and rules as
+/// [`order()`] does, and writes one byte a part to each buffer; gives the number of parts.
+///
+/// ```
+/// let part = tipshare::Part { first: 0, last: 2, fine: false, tall: false };
+/// let (mut first, mut last) = ([0; 3], [0; 3]);
+/// // Part 2 goes before part 1.
+/// assert_eq!(tipshare::windows(&[part; 3], &[(2, 1)], &mut first, &mut last), Ok(3));
+/// assert_eq!((first, last), ([0, 1, 0], [2, 2, 1]));
+/// ```
+pub fn windows(parts: &[Part], rules: &[(u32, u32)], first: &mut [u8], last: &mut [u8]) -> Result<u64, Refusal> {
+    let (parts, rules) = numbers_of(parts, rules);
+    Ok(answer_of(|answer| on_slices::windows(&parts, &rules, first, last, answer))?[1])
 }
 
 /// The report for a file.
@@ -551,6 +571,23 @@ pub mod on_slices {
         }
     }
 
+    pub fn windows(parts: &[u32], rules: &[u32], first: &mut [u8], last: &mut [u8], answer: &mut [u64]) -> u32 {
+        unsafe {
+            declared::tipshare_windows(
+                parts.as_ptr(),
+                parts.len() as u64,
+                rules.as_ptr(),
+                rules.len() as u64,
+                first.as_mut_ptr(),
+                first.len() as u64,
+                last.as_mut_ptr(),
+                last.len() as u64,
+                answer.as_mut_ptr(),
+                answer.len() as u64,
+            )
+        }
+    }
+
     pub fn report(file: &[u8], out: &mut [u8]) -> usize {
         unsafe {
             declared::tipshare_report(file.as_ptr(), file.len() as u64, out.as_mut_ptr(), out.len() as u64) as usize
@@ -678,6 +715,18 @@ mod declared {
             rules_len: Size,
             order: *mut u8,
             order_len: Size,
+            answer: *mut u64,
+            answer_len: Size,
+        ) -> u32;
+        pub fn tipshare_windows(
+            parts: *const u32,
+            parts_len: Size,
+            rules: *const u32,
+            rules_len: Size,
+            first: *mut u8,
+            first_len: Size,
+            last: *mut u8,
+            last_len: Size,
             answer: *mut u64,
             answer_len: Size,
         ) -> u32;

@@ -93,6 +93,15 @@ test("two boards, a damaged file, an order", () => {
   assert.deepEqual(tipshare.order(parts, [[3, 1]]), [2, 3, 1, 0]);
 });
 
+test("the positions that parts can have", () => {
+  assert.deepEqual(tipshare.windows([]), []);
+  const parts = [[0, 3, false, true], [0, 3], [0, 3, true], [0, 3]];
+  assert.deepEqual(tipshare.windows(parts), [[3, 3], [1, 2], [0, 0], [1, 2]]);
+  assert.deepEqual(tipshare.windows(parts, [[3, 1]]), [[3, 3], [2, 2], [0, 0], [1, 1]]);
+  refused(12, 1, () => tipshare.windows([[0, 1], [1, 2]]));
+  refused(29, 0, () => tipshare.windows([[0, 1], [0, 1]], [[0, 1], [1, 0]]));
+});
+
 test("the largest board, many times: no call leaves anything behind", () => {
   const largest = { rack: 64, lines: Array.from({ length: 512 }, (_, line) => [line % 64]) };
   const first = tipshare.best(largest);

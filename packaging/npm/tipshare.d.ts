@@ -40,6 +40,7 @@ export interface Calls {
   alone(first: JobFile, second: JobFile): [Plan, Plan];
   mend(file: JobFile): { file: Uint8Array; changes: { line: number; what: number }[] };
   order(parts: Part[], rules?: [earlier: number, later: number][]): number[];
+  windows(parts: Part[], rules?: [earlier: number, later: number][]): [first: number, last: number][];
   report(file: JobFile): string;
 }
 

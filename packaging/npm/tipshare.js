@@ -232,16 +232,28 @@ class Calls {
     return { file: arrays[1].slice(0, Number(answer[1])), changes };
   }
 
-  /** The order in which parts are placed: of each its first and last position, and whether it is fine, and tall. */
-  order(parts, rules = []) {
+  /** Parts and rules as the header has them. */
+  #placing(parts, rules) {
     const flat = parts.flatMap(([first, last, fine = false, tall = false]) => [first, last, Number(fine), Number(tall)]);
     const numbers = Uint32Array.from(flat, (value) => inRange("a number of a part", value, MOST));
     const pairs = Uint32Array.from(
       rules.flatMap(([earlier, later]) => [earlier, later]),
       (value) => inRange("a part of a rule", value, MOST),
     );
-    const { arrays, answer } = this.#answered("order", numbers, pairs, new Uint8Array(MOST_PARTS));
+    return [numbers, pairs];
+  }
+
+  /** The order in which parts are placed: of each its first and last position, and whether it is fine, and tall. */
+  order(parts, rules = []) {
+    const { arrays, answer } = this.#answered("order", ...this.#placing(parts, rules), new Uint8Array(MOST_PARTS));
     return [...arrays[2].slice(0, Number(answer[1]))];
+  }
+
+  /** For each part the first and the last position that it has in any order that obeys. */
+  windows(parts, rules = []) {
+    const lent = [new Uint8Array(MOST_PARTS), new Uint8Array(MOST_PARTS)];
+    const { arrays, answer } = this.#answered("windows", ...this.#placing(parts, rules), ...lent);
+    return Array.from({ length: Number(answer[1]) }, (_, part) => [arrays[2][part], arrays[3][part]]);
   }
 
   /** The text that the program tipshare prints for a job file. */

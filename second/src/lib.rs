@@ -17,6 +17,7 @@ mod refusal;
 mod report;
 mod sharing;
 mod trying;
+mod windows;
 
 pub mod interface;
 
@@ -31,3 +32,4 @@ pub use placing::{order_parts, try_every_order, Ordered, Part, Placing, Rule, MO
 pub use report::{report, LONGEST_INPUT};
 pub use sharing::pairs_in;
 pub use trying::{number_of_plans, try_every_plan, Tried};
+pub use windows::{find_windows, try_every_order_for_windows};

@@ -33,9 +33,9 @@ pub type Rule = (u32, u32);
 
 /// The positions that a part can have, when all that must be before it and behind it is looked at too.
 #[derive(Clone, Copy)]
-struct Window {
-    first: i64,
-    last: i64,
+pub(crate) struct Window {
+    pub(crate) first: i64,
+    pub(crate) last: i64,
 }
 
 /// Parts and rules as they are handed over.
@@ -66,7 +66,7 @@ impl Placing<'_> {
     }
 
     /// Whether an order, the part at each position, has each part once and obeys windows, flags and rules.
-    fn is_obeyed_by(&self, order: &[u8]) -> bool {
+    pub(crate) fn is_obeyed_by(&self, order: &[u8]) -> bool {
         let count = self.parts.len();
         let mut position = vec![None; count];
         for (at, &part) in order.iter().enumerate() {
@@ -95,7 +95,7 @@ impl Placing<'_> {
     }
 
     /// For each part the parts that must be before it.
-    fn before(&self) -> Vec<Vec<usize>> {
+    pub(crate) fn before(&self) -> Vec<Vec<usize>> {
         let count = self.parts.len();
         let mut is_before = vec![vec![false; count]; count];
         for one in 0..count {
@@ -110,7 +110,7 @@ impl Placing<'_> {
     }
 
     /// The parts in some order in which each is behind all that must be before it; `None` if some form a cycle.
-    fn sorted(&self, before: &[Vec<usize>]) -> Option<Vec<usize>> {
+    pub(crate) fn sorted(&self, before: &[Vec<usize>]) -> Option<Vec<usize>> {
         let mut left: Vec<usize> = (0..self.parts.len()).collect();
         let mut sorted = Vec::new();
         while !left.is_empty() {
@@ -122,7 +122,7 @@ impl Placing<'_> {
     }
 
     /// The windows, made so narrow that of two parts the earlier begins and ends before the later.
-    fn windows(&self, before: &[Vec<usize>], sorted: &[usize]) -> Vec<Window> {
+    pub(crate) fn narrowed(&self, before: &[Vec<usize>], sorted: &[usize]) -> Vec<Window> {
         let own = |part: &Part| Window { first: part.first.into(), last: part.last.into() };
         let mut windows: Vec<Window> = self.parts.iter().map(own).collect();
         for &part in sorted {
@@ -143,7 +143,7 @@ impl Placing<'_> {
     pub fn least_order(&self) -> Option<Vec<u8>> {
         let before = self.before();
         let sorted = self.sorted(&before)?;
-        let windows = self.windows(&before, &sorted);
+        let windows = self.narrowed(&before, &sorted);
         let mut left: Vec<usize> = (0..self.parts.len()).collect();
         if !can_be_placed(&windows, &left, 0) {
             return None;
@@ -173,7 +173,7 @@ impl Window {
 
 /// Whether these parts fill the positions from the given one on, each within its window: at each position, of the parts
 /// that have begun, the one that ends first is taken.
-fn can_be_placed(windows: &[Window], parts: &[usize], from: usize) -> bool {
+pub(crate) fn can_be_placed(windows: &[Window], parts: &[usize], from: usize) -> bool {
     let mut waiting: Vec<Window> = parts.iter().map(|&part| windows[part]).collect();
     waiting.sort_by_key(|window| Reverse(window.first));
     let mut begun = BinaryHeap::new();
@@ -199,7 +199,7 @@ pub fn try_every_order(placing: &Placing) -> Option<Vec<u8>> {
 }
 
 /// Puts the next order in place of the given one; false after the last.
-fn next_order(order: &mut [u8]) -> bool {
+pub(crate) fn next_order(order: &mut [u8]) -> bool {
     let Some(at) = (1..order.len()).rev().find(|&at| order[at - 1] < order[at]) else {
         return false;
     };

@@ -29,7 +29,7 @@ pub const SHORT_OUTPUT: u32 = 11;
 pub const BAD_WINDOW: u32 = 12;
 /// An order, and a rule names a part that is absent, or the same part twice.
 pub const BAD_RULE: u32 = 13;
-/// The order buffer is shorter than the number of parts.
+/// The order buffer, or one for the positions of the parts, is shorter than the number of parts.
 pub const SHORT_ORDER: u32 = 14;
 /// A line's quantity is 0.
 pub const ZERO_QUANTITY: u32 = 15;

@@ -7,14 +7,6 @@ use job_file::{Version, AT_COUNT, AT_VERSION};
 use second::interface::NO_TIP;
 use second::{Board, Line};
 
-impl<T> Lent<T> {
-    /// A buffer with nothing around it.
-    pub(super) fn of(cells: Vec<T>) -> Lent<T> {
-        let length = cells.len();
-        Lent { cells, start: 0, length }
-    }
-}
-
 /// The refusal number of a call, 0 for an accepted one and for a report.
 pub(super) fn refusal(call: &Call, returned: u64) -> u64 {
     match call {

@@ -14,7 +14,7 @@ use crate::orders::Orders;
 const NOT_GIVEN: u64 = u64::MAX;
 
 /// The calls that `every` makes on a record, and with which numbers.
-const EVERY_CALL: [(&str, &[u64]); 12] = [
+const EVERY_CALL: [(&str, &[u64]); 13] = [
     ("add", &[1, 1]),
     ("close", &[]),
     ("common", &[]),
@@ -25,6 +25,7 @@ const EVERY_CALL: [(&str, &[u64]); 12] = [
     ("goal", &[1]),
     ("check", &[0]),
     ("junior", &[]),
+    ("along", &[]),
     ("merge", &[]),
     ("alone", &[]),
 ];
@@ -191,6 +192,16 @@ impl State {
         format!(" {} pairs {} u {} v {} plan{plan}{board}", show_number(&answer), found.pairs, found.u, found.v)
     }
 
+    fn along(&mut self, plan_room: u64, tip: u64) -> String {
+        self.plan.fill(self.junk);
+        let room = room(plan_room, junk::PLAN);
+        let answer = self.board.clone().along(mounted(tip), &mut self.plan[..room]);
+        let plan = show_list(&self.plan, self.junk, written(&answer, self.board.count));
+        let board = show_board(&self.board, &answer.board);
+        let found = answer.value;
+        format!(" {} changes {} pairs {} plan{plan}{board}", show_number(&answer), found.changes, found.pairs)
+    }
+
     fn check(&self, claim: u64, plan_room: u64, places: u64) -> String {
         let (room, places) = (room(plan_room, junk::PLAN), room(places, junk::TABLE));
         let claim = claim.try_into().expect("a claim");
@@ -284,6 +295,9 @@ impl State {
             ("check", &[claim, room, places]) => self.check(claim, room, places),
             ("junior", []) => self.junior(NOT_GIVEN),
             ("junior", &[room]) => self.junior(room),
+            ("along", []) => self.along(NOT_GIVEN, NOT_GIVEN),
+            ("along", &[room]) => self.along(room, NOT_GIVEN),
+            ("along", &[room, tip]) => self.along(room, tip),
             ("merge", []) => self.merge(),
             ("alone", []) => self.alone(NOT_GIVEN),
             ("alone", &[room]) => self.alone(room),
