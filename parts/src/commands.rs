@@ -404,6 +404,13 @@ pub fn order(arguments: &Arguments) -> Result<(), Failure> {
     files.give_text(&list.order().map_err(|why| about(path, why))?)
 }
 
+pub fn windows(arguments: &Arguments) -> Result<(), Failure> {
+    let [path] = arguments.files()[..] else { return Err(Failure::Arguments) };
+    let mut files = Files::of(arguments);
+    let list = files.list(path)?;
+    files.give_text(&list.windows().map_err(|why| about(path, why))?)
+}
+
 pub fn picture(arguments: &Arguments) -> Result<(), Failure> {
     let [path] = arguments.files()[..] else { return Err(Failure::Arguments) };
     let mut files = Files::of(arguments);

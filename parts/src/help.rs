@@ -20,7 +20,7 @@ pub struct Command {
 }
 
 /// The commands, in the order of the page.
-pub const COMMANDS: [Command; 18] = [
+pub const COMMANDS: [Command; 19] = [
     Command {
         name: "import kicad",
         arguments: "POS --tips TABLE [--side SIDE] [--start-table]",
@@ -224,6 +224,17 @@ pub const COMMANDS: [Command; 18] = [
                Where no order obeys, it is told which parts stand in each other's way.\n",
         example: "parts order board.txt",
         run: commands::order,
+    },
+    Command {
+        name: "windows",
+        arguments: "LIST",
+        does: "print the first and the last position that each part can have in the order of placing",
+        more: "They are those of all orders that obey the positions, words and rules of the list, as `parts order` has them:\n\
+               some order has the part at its first position, and none has it earlier; so with the last one. Between them\n\
+               a position may be impossible, as where another part has it. Narrow positions show where a rule or a word\n\
+               leaves little room. Where no order obeys, it is told which parts stand in each other's way.\n",
+        example: "parts windows board.txt",
+        run: commands::windows,
     },
     Command {
         name: "picture",

@@ -22,6 +22,22 @@ impl List {
         Ok(order.into_iter().map(usize::from).collect())
     }
 
+    /// The first and the last position that each part can have, or why no order obeys.
+    pub fn windows(&self) -> Result<String, String> {
+        let (parts, rules) = (self.placed_parts(), self.numbers_of_rules());
+        let (mut first, mut last) = (vec![0; parts.len()], vec![0; parts.len()]);
+        library::windows(&parts, &rules, &mut first, &mut last).map_err(|refusal| self.without_order(refusal))?;
+        let mut text = self.counts();
+        for (part, (first, last)) in first.into_iter().zip(last).enumerate() {
+            let positions = match first == last {
+                true => format!("position {first}"),
+                false => format!("positions {first} to {last}"),
+            };
+            text += &format!("{} {positions}\n", self.in_order(part));
+        }
+        Ok(text)
+    }
+
     fn counts(&self) -> String {
         format!("parts {} rules {}\n", self.parts.len(), self.rules.len())
     }

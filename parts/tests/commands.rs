@@ -281,6 +281,18 @@ fn file_to_be_imported_is_told_from_a_list() {
 }
 
 #[test]
+fn windows_are_printed() {
+    let list = b"rack 3\nC1 tall : 0\nC2 : 1-2\nC3 : 0\n";
+    let text = b"parts 3 rules 0\nC1 tall position 2\nC2 positions 0 to 1\nC3 positions 0 to 1\n";
+    assert_eq!(run(&["windows", "-"], list), given(text));
+    let why = "-: this is a job file and no parts list; `parts show` turns it into one";
+    assert_eq!(run(&["windows", "-"], &EXAMPLE), refused(why));
+    let many = "rack 1\n".to_string() + &": 0\n".repeat(129);
+    let why = "-: refused 12: 129 parts; an order has 128 at most, split the list";
+    assert_eq!(run(&["windows", "-"], many.as_bytes()), refused(why));
+}
+
+#[test]
 fn orders_are_printed() {
     let list = b"rack 3\nC1 tall : 0\nC2 : 1-2\nC3 fine : 0\n";
     let text = b"parts 3 rules 0\nposition 0 C3 fine\nposition 1 C2\nposition 2 C1 tall\n";
@@ -350,7 +362,7 @@ fn help_and_version_are_printed() {
     assert_eq!(run(&["--version"], b""), given(version.as_bytes()));
 }
 
-const COMMANDS: [&str; 18] = [
+const COMMANDS: [&str; 19] = [
     "import kicad",
     "import openpnp",
     "import csv",
@@ -366,6 +378,7 @@ const COMMANDS: [&str; 18] = [
     "panel",
     "mend",
     "order",
+    "windows",
     "picture",
     "page",
     "completion bash",

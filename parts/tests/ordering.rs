@@ -34,6 +34,23 @@ fn order_is_printed_by_name() {
 }
 
 #[test]
+fn windows_are_printed_by_name() {
+    // The fine part is first, the tall one last, and R2 before R1.
+    let text = "parts 4 rules 1\nJ1 tall position 3\nR1 position 2\nU1 fine position 0\nR2 position 1\n";
+    assert_eq!(list_of(LIST).windows(), Ok(text.into()));
+    // The only order of parts 0 and 2 beside part 1; and part 2 behind two that share the first positions.
+    let text = "parts 3 rules 0\nline 0 positions 0 to 2\nB at=1 position 1\nC positions 0 to 2\n";
+    assert_eq!(list_of("rack 1\n: 0\nB at=1 : 0\nC : 0\n").windows(), Ok(text.into()));
+    let text = "parts 3 rules 0\nA at=0-1 positions 0 to 1\nB at=0-1 positions 0 to 1\nC position 2\n";
+    assert_eq!(list_of("rack 1\nA at=0-1 : 0\nB at=0-1 : 0\nC : 0\n").windows(), Ok(text.into()));
+    assert_eq!(list_of("rack 1\n").windows(), Ok("parts 0 rules 0\n".into()));
+    for list in ["rack 1\nA : 0\nB : 0\nbefore A B\nbefore B A\n", "rack 1\nA at=0-5 : 0\n"] {
+        let why = list_of(list).windows().unwrap_err();
+        assert_eq!(Err(why), order(list));
+    }
+}
+
+#[test]
 fn tall_counts_where_a_part_is_fine_too() {
     let text = "parts 4 rules 0\nposition 0 U1 fine\nposition 1 R1\nposition 2 J1 fine tall\nposition 3 J2 tall\n";
     assert_eq!(order("rack 1\nJ1 fine tall : 0\nR1 : 0\nJ2 tall : 0\nU1 fine : 0\n"), Ok(text.into()));
