@@ -1,6 +1,6 @@
 //! Tip changes, walked part by part in an order, and the table of plans with theirs.
 
-use crate::planning::{Along, Plan, Plans};
+use crate::planning::{Along, Named, Plan, Plans};
 
 /// The tip changes where parts on these tips are placed one after another: one wherever a part is on another tip than the one
 /// before it, and one before the first part where a tip is mounted and it is on another.
@@ -40,23 +40,42 @@ impl Plan {
     }
 }
 
-impl Plans {
-    /// The tip changes of a plan in each order, with the name of the order.
-    pub(crate) fn changes_of(&self, plan: &Plan) -> Vec<(&'static str, usize)> {
-        let mut changes = vec![(Along::List.in_words(), plan.changes_in_list(self.mounted))];
-        let placed = self.placing_order.as_ref().map(|order| plan.changes_in(order, self.mounted));
-        changes.extend(placed.map(|changes| (Along::PlacingOrder.in_words(), changes)));
+impl Named {
+    /// The parts in the order by these tips, or why there is none. Where any part may be placed anywhere, there is one for any
+    /// number of parts.
+    pub fn by_tips(&self, tips: &[u8], mounted: Option<usize>) -> Result<Vec<usize>, String> {
+        match self.list.as_ref().filter(|list| !list.is_free()) {
+            Some(list) => list.order_by_tips(tips, mounted),
+            None => Ok(tip_by_tip(tips, mounted)),
+        }
+    }
+}
+
+/// The name of the order by tips.
+const BY_TIPS: &str = "the order by tips";
+
+impl Plans<'_> {
+    /// The tip changes of a plan in each order, with the name of the order, or why there is no such order.
+    pub fn changes_of(&self, plan: &Plan) -> Vec<(&'static str, Result<usize, String>)> {
+        let mounted = self.mounted;
+        let mut changes = vec![(Along::List.in_words(), Ok(plan.changes_in_list(mounted)))];
+        let placed = self.placing_order.as_ref().map(|order| plan.changes_in(order, mounted));
+        changes.extend(placed.map(|changes| (Along::PlacingOrder.in_words(), Ok(changes))));
+        let by_tips = self.named.by_tips(&plan.tips, mounted).map(|order| plan.changes_in(&order, mounted));
+        changes.push((BY_TIPS, by_tips));
         changes
     }
 
     /// A row for each plan: its pairs, the tips that it uses, and its tip changes in each order.
     pub(crate) fn table(&self) -> String {
+        let of_quick = self.changes_of(&self.quick);
         let mut rows = vec![["plan", "pairs", "tips"].map(String::from).to_vec()];
-        rows[0].extend(self.changes_of(&self.quick).iter().map(|(order, _)| format!("changes in {order}")));
+        rows[0].extend(of_quick.iter().map(|(order, _)| format!("changes in {order}")));
         for (name, plan) in self.all() {
             let numbers = plan.map_or(vec!["-".into(); rows[0].len() - 1], |plan| {
                 let counts = [plan.pairs.to_string(), plan.tips_used(self.job.rack).to_string()];
-                counts.into_iter().chain(self.changes_of(plan).iter().map(|(_, changes)| changes.to_string())).collect()
+                let changes = self.changes_of(plan).into_iter().map(|(_, changes)| in_cell(changes));
+                counts.into_iter().chain(changes).collect()
             });
             rows.push([vec![name.to_string()], numbers].concat());
         }
@@ -67,8 +86,15 @@ impl Plans {
             text += &(1..row.len()).map(|column| format!("  {:>1$}", row[column], width(column))).collect::<String>();
             text.push('\n');
         }
-        text
+        // Whether there is an order does not depend on the tips.
+        let missing = of_quick.into_iter().filter_map(|(order, changes)| Some((order, changes.err()?)));
+        text + &missing.map(|(order, why)| format!("no changes in {order}: {why}\n")).collect::<String>()
     }
+}
+
+/// A number of changes, `-` where there is no such order.
+pub fn in_cell(changes: Result<usize, String>) -> String {
+    changes.map_or("-".into(), |changes| changes.to_string())
 }
 
 #[cfg(test)]

@@ -7,7 +7,7 @@ use std::path::Path;
 use std::str::FromStr;
 
 use parts::checking::Refused;
-use parts::exporting::{Format, Which};
+use parts::exporting::Format;
 use parts::files::{of_standard_output, Identity, Input, Output};
 use parts::handed::Handed;
 use parts::import::csv::{self, Columns};
@@ -21,7 +21,7 @@ use parts::limits::too_large;
 use parts::list::{Fault, List};
 use parts::mending;
 use parts::panel::Panel;
-use parts::planning::{Along, Kept, Named, Wish};
+use parts::planning::{Along, Kept, Named, Which, Wish};
 use parts::MOST_TIPS;
 
 use crate::arguments::{Arguments, FORCE, OUTPUT, START_TABLE, TABLE};
@@ -286,7 +286,7 @@ pub fn plan(arguments: &Arguments) -> Result<(), Failure> {
     if format.is_none() && which.is_some() {
         return Err(Failure::Argument("--plan needs a --format; without one all plans are printed".into()));
     }
-    let which = Which::of(which).map_err(Failure::Argument)?;
+    let which = which.map_or(Ok(Which::First), Which::of).map_err(Failure::Argument)?;
     let wish = wish_of(arguments)?;
     let mut files = Files::of(arguments);
     let named = files.named(path)?;
@@ -400,8 +400,17 @@ pub fn mend(arguments: &Arguments) -> Result<(), Failure> {
 pub fn order(arguments: &Arguments) -> Result<(), Failure> {
     let [path] = arguments.files()[..] else { return Err(Failure::Arguments) };
     let mut files = Files::of(arguments);
+    let which = text_behind(arguments, TABLE)?.map(Which::of).transpose().map_err(Failure::Argument)?;
+    let mounted = arguments.option("--mounted").map(tip_of).transpose()?;
+    if which.is_none() && mounted.is_some() {
+        return Err(Failure::Argument(format!("--mounted needs {TABLE} and a plan; without it the tips do not count")));
+    }
     let list = files.list(path)?;
-    files.give_text(&list.order().map_err(|why| about(path, why))?)
+    let order = match which {
+        None => list.order(),
+        Some(which) => list.order_by_plan(which, mounted),
+    };
+    files.give_text(&order.map_err(|why| about(path, why))?)
 }
 
 pub fn windows(arguments: &Arguments) -> Result<(), Failure> {

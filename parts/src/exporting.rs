@@ -2,7 +2,7 @@
 
 use crate::job::Job;
 use crate::json::Quoted;
-use crate::planning::{Named, Plan, Plans, Wish};
+use crate::planning::{Named, Plan, Plans, Which, Wish};
 
 /// A form of a plan.
 #[derive(Clone, Copy, PartialEq, Eq, Debug)]
@@ -24,27 +24,6 @@ impl Format {
     }
 }
 
-/// Which of the plans.
-#[derive(Clone, Copy, PartialEq, Eq, Debug)]
-pub enum Which {
-    /// The one that is asked for beside both, else the best one, else the quick one.
-    First,
-    Quick,
-    Best,
-}
-
-impl Which {
-    /// The plan of the option `--plan`.
-    pub fn of(word: Option<&str>) -> Result<Which, String> {
-        let Some(word) = word else { return Ok(Which::First) };
-        match word.to_ascii_lowercase().as_str() {
-            "quick" => Ok(Which::Quick),
-            "best" => Ok(Which::Best),
-            _ => Err(format!("a plan is quick or best, and not {word}")),
-        }
-    }
-}
-
 /// One or more placements of a part.
 struct Row {
     /// The reference designator, else the name of the part, else its line.
@@ -58,18 +37,7 @@ impl Named {
     /// A plan in this form.
     pub fn exported(&self, format: Format, which: Which, wish: Wish) -> Result<String, String> {
         let plans = self.plans(wish)?;
-        let all = plans.all();
-        let called =
-            |name: &str| all.iter().find(|(other, _)| *other == name).and_then(|&(name, plan)| Some((name, plan?)));
-        let found = match which {
-            Which::First => ["along", "best", "quick"].into_iter().find_map(called),
-            Which::Quick => called("quick"),
-            Which::Best => called("best"),
-        };
-        let (name, plan) = found.ok_or_else(|| match plans.best {
-            Err(line) => format!("refused 25: {}; take --plan quick", self.no_run(&plans.job, line)),
-            Ok(_) => "there is no such plan".into(),
-        })?;
+        let (name, plan) = plans.chosen(which)?;
         Ok(match format {
             Format::Text => self.as_text(&plans.job, name, plan),
             Format::Csv => self.as_csv(&plans.job, name, plan),
@@ -119,6 +87,7 @@ impl Named {
         }
         text += &format!("  \"tips used\": {},\n", plan.tips_used(rack));
         for (order, changes) in plans.changes_of(plan) {
+            let changes = changes.map_or("null".into(), |changes| changes.to_string());
             text += &format!("  \"changes in {order}\": {changes},\n");
         }
         text += "  \"placements\": [";

@@ -132,7 +132,8 @@ pub const COMMANDS: [Command; 19] = [
                best plan are the same with every T, those of the quick plan may be others.\n\
                The table has the pairs of each plan, the tips that it uses, and its tip changes where the parts are\n\
                placed in the order of the list: one wherever a part is on another tip than the one before it, and\n\
-               with a T one before the first part where that is on another tip.\n\
+               with a T one before the first part where that is on another tip. Then come those in the order by tips,\n\
+               which `parts order --tips` prints; where any part may be placed anywhere, of any number of parts.\n\
                --in-order adds a plan, called along: no plan has fewer tip changes in the order of the list.\n\
                --in-placing-order adds the plan with the fewest in the order that `parts order` prints.\n\
                FORMAT is text, csv or json: then one plan is printed, the one along an order where it is asked for, else\n\
@@ -211,8 +212,9 @@ pub const COMMANDS: [Command; 19] = [
     },
     Command {
         name: "order",
-        arguments: "LIST",
-        does: "print the order in which the parts are placed: fine ones first, tall ones last",
+        arguments: "LIST [--tips PLAN] [--mounted T]",
+        does: "print the order in which the parts are placed: fine ones first, tall ones last;\n\
+               with a PLAN the order by its tips, in which the head seldom changes its tip",
         more:
             "The words fine and tall stand behind a part's name, and at=0-3 where it has only the positions 0 to 3,\n\
                counted from 0; at=2 is one position. A line `before R1 U1` has R1 placed before U1. A part has one\n\
@@ -221,8 +223,12 @@ pub const COMMANDS: [Command; 19] = [
                Of a part that is both only tall counts.\n\
                Of all orders that obey, the one is printed that has the first part of the list at position 0 where it\n\
                can be, else the second, and so on; then the same for position 1.\n\
-               Where no order obeys, it is told which parts stand in each other's way.\n",
-        example: "parts order board.txt",
+               Where no order obeys, it is told which parts stand in each other's way.\n\
+               PLAN is quick or best, and each part is on its tip there. Then a part on the tip of the part before it comes\n\
+               before any other part that may be next, at position 0 a part on tip T, which is on the head; among those\n\
+               alike the first of the list. So the tip is changed only where every order that obeys and begins alike\n\
+               changes it. The second line says how often it is changed in the order printed.\n",
+        example: "parts order board.txt --tips best",
         run: commands::order,
     },
     Command {

@@ -2,6 +2,7 @@
 
 use crate::list::{List, Part};
 use crate::no_order::{Because, OrderFault, Placing, Rule, Window};
+use crate::planning::{Named, Which, Wish};
 use crate::{counted, MOST_PARTS};
 
 impl List {
@@ -20,6 +21,35 @@ impl List {
         let mut order = vec![0; parts.len()];
         library::order(&parts, &rules, &mut order).map_err(|refusal| self.without_order(refusal))?;
         Ok(order.into_iter().map(usize::from).collect())
+    }
+
+    /// The parts in the order by these tips, or why there is none.
+    pub fn order_by_tips(&self, tips: &[u8], mounted: Option<usize>) -> Result<Vec<usize>, String> {
+        let (parts, rules) = (self.placed_parts(), self.numbers_of_rules());
+        let mut order = vec![0; parts.len()];
+        library::order_by_tips(&parts, &rules, tips, mounted, &mut order)
+            .map_err(|refusal| self.without_order(refusal))?;
+        Ok(order.into_iter().map(usize::from).collect())
+    }
+
+    /// The order by the tips of a plan, each part with its tip, or why there is none.
+    pub fn order_by_plan(&self, which: Which, mounted: Option<usize>) -> Result<String, String> {
+        let named = Named::of_list(self.clone());
+        let plans = named.plans(Wish::mounted(mounted))?;
+        let (name, plan) = plans.chosen(which)?;
+        let order = self.order_by_tips(&plan.tips, mounted)?;
+        let changes = counted(plan.changes_in(&order, mounted) as u64, "change");
+        let begins = mounted.map_or(String::new(), |tip| format!(", tip {tip} mounted"));
+        let mut text = self.counts() + &format!("tips of the {name} plan, {changes} in this order{begins}\n");
+        for (position, part) in order.into_iter().enumerate() {
+            text += &format!("position {position} {} tip {}\n", self.in_order(part), plan.tips[part]);
+        }
+        Ok(text)
+    }
+
+    /// Whether any part may be placed anywhere.
+    pub fn is_free(&self) -> bool {
+        self.rules.is_empty() && self.parts.iter().all(|part| !part.fine && !part.tall && part.at.is_none())
     }
 
     /// The first and the last position that each part can have, or why no order obeys.

@@ -1,5 +1,6 @@
 //! One page of a parts list, as HTML that needs no network: the drawing, tips used and changes, and a table of the parts.
 
+use crate::changes::in_cell;
 use crate::job::{job_of, Job};
 use crate::picture::escaped;
 use crate::planning::{Named, Plan, Plans, Wish};
@@ -122,7 +123,7 @@ fn summary(plans: &Plans) -> String {
     let mut rows = row("pairs", &|plan| plan.pairs.to_string());
     rows += &row("tips used", &|plan| plan.tips_used(rack).to_string());
     for (number, (order, _)) in plans.changes_of(&plans.quick).into_iter().enumerate() {
-        rows += &row(&format!("tip changes in {order}"), &|plan| plans.changes_of(plan)[number].1.to_string());
+        rows += &row(&format!("tip changes in {order}"), &|plan| in_cell(plans.changes_of(plan).swap_remove(number).1));
     }
     let is_used = |tip: &usize| plans.quick.on_tip(*tip) + plans.best.as_ref().map_or(0, |best| best.on_tip(*tip)) > 0;
     for tip in (0..rack).filter(is_used) {

@@ -61,8 +61,29 @@ pub struct Plan {
     pub tips: Vec<u8>,
 }
 
+/// Which of the plans.
+#[derive(Clone, Copy, PartialEq, Eq, Debug)]
+pub enum Which {
+    /// The one that is asked for beside both, else the best one, else the quick one.
+    First,
+    Quick,
+    Best,
+}
+
+impl Which {
+    /// The plan of this name.
+    pub fn of(word: &str) -> Result<Which, String> {
+        match word.to_ascii_lowercase().as_str() {
+            "quick" => Ok(Which::Quick),
+            "best" => Ok(Which::Best),
+            _ => Err(format!("a plan is quick or best, and not {word}")),
+        }
+    }
+}
+
 /// The plans of a job.
-pub struct Plans {
+pub struct Plans<'a> {
+    pub(crate) named: &'a Named,
     pub job: Job,
     /// The tip on the head, where one is named.
     pub mounted: Option<usize>,
@@ -138,7 +159,7 @@ impl Named {
     }
 
     /// Both plans, and those that are asked for beside them.
-    pub fn plans(&self, wish: Wish) -> Result<Plans, String> {
+    pub fn plans(&self, wish: Wish) -> Result<Plans<'_>, String> {
         let mounted = wish.mounted;
         let common = self.common()?;
         let job = job_of(&self.file)?;
@@ -158,7 +179,7 @@ impl Named {
             Some(order) => Some((self.along(&job, placing_order.as_deref(), mounted)?, order)),
             None => None,
         };
-        Ok(Plans { job, mounted, common, quick, best, along, placing_order })
+        Ok(Plans { named: self, job, mounted, common, quick, best, along, placing_order })
     }
 
     /// The plan with the fewest tip changes where the parts are placed in this order, else in that of the list.
@@ -235,7 +256,23 @@ impl Plan {
     }
 }
 
-impl Plans {
+impl Plans<'_> {
+    /// A plan with its name, or why there is none.
+    pub fn chosen(&self, which: Which) -> Result<(&'static str, &Plan), String> {
+        let all = self.all();
+        let called =
+            |name: &str| all.iter().find(|(other, _)| *other == name).and_then(|&(name, plan)| Some((name, plan?)));
+        let found = match which {
+            Which::First => ["along", "best", "quick"].into_iter().find_map(called),
+            Which::Quick => called("quick"),
+            Which::Best => called("best"),
+        };
+        found.ok_or_else(|| match self.best {
+            Err(line) => format!("refused 25: {}; take the quick plan", self.named.no_run(&self.job, line)),
+            Ok(_) => "there is no such plan".into(),
+        })
+    }
+
     /// Each plan by its name.
     pub fn all(&self) -> Vec<(&'static str, Option<&Plan>)> {
         let mut all = vec![("quick", Some(&self.quick)), ("best", self.best.as_ref().ok())];

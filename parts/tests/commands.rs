@@ -304,9 +304,18 @@ fn orders_are_printed() {
     assert_eq!(run(&["order", "-"], b"rack 3\nC1 : 0\nbefore C1 C4\n"), refused(why));
     let why = "-: this is a job file and no parts list; `parts show` turns it into one";
     assert_eq!(run(&["order", "-"], &EXAMPLE), refused(why));
-    let usage = "usage: parts order LIST\n`parts order --help` says more";
+    let usage = "usage: parts order LIST [--tips PLAN] [--mounted T]\n`parts order --help` says more";
     assert_eq!(run(&["order"], b""), wrong_argument(&format!("LIST is missing\n{usage}")));
     assert_eq!(run(&["order", "-", "-"], b""), wrong_argument(&format!("`-` is a word too many\n{usage}")));
+    let text =
+        b"parts 3 rules 0\ntips of the best plan, 3 changes in this order, tip 1 mounted\nposition 0 C3 fine tip 0\n\
+                 position 1 C2 tip 1\nposition 2 C1 tall tip 0\n";
+    let by_tips = run(&["order", "-", "--tips", "best", "--mounted", "1"], list);
+    assert_eq!(by_tips, given(text));
+    let why = "a plan is quick or best, and not 3";
+    assert_eq!(run(&["order", "-", "--tips", "3"], list), wrong_argument(why));
+    let why = "--mounted needs --tips and a plan; without it the tips do not count";
+    assert_eq!(run(&["order", "-", "--mounted", "1"], list), wrong_argument(why));
 }
 
 /// The list with a quantity, and its job file, which is of version 2.
@@ -326,9 +335,9 @@ fn quantities_are_made_shown_sorted_and_planned() {
                 parts 2 placements 3\nparts on tip 0 quick 1 best 1\n\
                 placements on tip 0 quick 2 best 2\nparts on tip 1 quick 1 best 1\n\
                 placements on tip 1 quick 1 best 1\n\
-                plan   pairs  tips  changes in the list's order\n\
-                quick      1     2                            1\n\
-                best       1     2                            1\n";
+                plan   pairs  tips  changes in the list's order  changes in the order by tips\n\
+                quick      1     2                            1                             1\n\
+                best       1     2                            1                             1\n";
     assert_eq!(run(&["plan", "-"], TWICE.as_bytes()), given(plan.as_bytes()));
 }
 
@@ -408,7 +417,7 @@ fn wrong_arguments_print_the_usage_of_their_command() {
         (&["page"], "FILE is missing", "page FILE [--keep K]"),
         (&["page", "a", "--keep"], "--keep needs K behind it", "page FILE [--keep K]"),
         (&["page", "a", "--k", "1"], "parts page has no option --k", "page FILE [--keep K]"),
-        (&["order"], "LIST is missing", "order LIST"),
+        (&["order"], "LIST is missing", "order LIST [--tips PLAN] [--mounted T]"),
         (&["junior", "--side", "top"], "parts junior has no option --side", "junior FILE"),
         (&["make"], "LIST is missing", "make LIST"),
         (&["make", "a", "b"], "`b` is a word too many", "make LIST"),
@@ -570,9 +579,9 @@ fn list_that_is_standard_output_too_is_left_alone() {
 }
 
 const SUMMARY: &str = "\nparts on tip 0 quick 1 best 1\nparts on tip 1 quick 1 best 1\n\
-                       plan   pairs  tips  changes in the list's order\n\
-                       quick      0     2                            1\n\
-                       best       0     2                            1\n";
+                       plan   pairs  tips  changes in the list's order  changes in the order by tips\n\
+                       quick      0     2                            1                             1\n\
+                       best       0     2                            1                             1\n";
 
 #[test]
 fn keep_plan_and_picture_take_lists_and_job_files() {
@@ -822,9 +831,9 @@ fn pipe_is_written_to_as_it_is() {
 fn mounted_tip_is_named_before_the_file_or_behind_it() {
     let plan = "lines 2 rack 3\noff 1 tips 0 1 2\nquick 0\nbest 0\nC1 quick 0 best 0\nC2 quick 2 best 2\n\n\
                 parts on tip 0 quick 1 best 1\nparts on tip 2 quick 1 best 1\ntip 2 mounted\n\
-                plan   pairs  tips  changes in the list's order\n\
-                quick      0     2                            2\n\
-                best       0     2                            2\n";
+                plan   pairs  tips  changes in the list's order  changes in the order by tips\n\
+                quick      0     2                            2                             1\n\
+                best       0     2                            2                             1\n";
     for arguments in [["plan", "-", "--mounted", "2"], ["plan", "--mounted", "2", "-"]] {
         assert_eq!(run(&arguments, LIST.as_bytes()), given(plan.as_bytes()));
     }

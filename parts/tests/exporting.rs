@@ -1,9 +1,9 @@
 //! Plans by reference designator, and what `parts check` reads of them.
 
-use parts::exporting::{Format, Which};
+use parts::exporting::Format;
 use parts::handed::Handed;
 use parts::list::List;
-use parts::planning::{Named, Wish};
+use parts::planning::{Named, Which, Wish};
 
 /// Best: R1, C1 and the part without a name on tip 1, which makes 36 pairs, and D1 on tip 2, which makes 3.
 const LIST: &str = "rack 3\n\
@@ -30,7 +30,7 @@ fn each_reference_has_a_row() {
     assert_eq!(exported(Format::Text, Which::First), text);
     let json = exported(Format::Json, Which::Best);
     let begins =
-        "{\n  \"plan\": \"best\",\n  \"pairs\": 39,\n  \"rack\": 3,\n  \"tips used\": 2,\n  \"changes in the list's order\": 1,\n  \
+        "{\n  \"plan\": \"best\",\n  \"pairs\": 39,\n  \"rack\": 3,\n  \"tips used\": 2,\n  \"changes in the list's order\": 1,\n  \"changes in the order by tips\": 1,\n  \
                   \"placements\": [\n    {\"reference\": \"R1\", \"part\": \"R1\", \"placements\": 1, \"tip\": 1},\n";
     assert!(json.starts_with(begins) && json.ends_with("\"placements\": 3, \"tip\": 2}\n  ]\n}\n"), "{json}");
     assert_eq!(json.matches("\"reference\"").count(), 8);
@@ -56,7 +56,7 @@ fn list_without_a_best_plan_has_its_quick_plan() {
     assert_eq!(text, "# the quick plan\npairs 0\nA : 1\nB : 0\n");
     let why =
         "refused 25: B is no run: it lacks tip 1, which A has (with the tips in the order 0 2 1 every part is a run); \
-               take --plan quick";
+               take the quick plan";
     assert_eq!(gap().exported(Format::Csv, Which::Best, Wish::default()), Err(why.into()));
     let job = Named { file: gap().file, list: None };
     assert_eq!(

@@ -1,6 +1,7 @@
 //! The placing order: how parts and rules are read, what is printed, and why there is no order.
 
 use parts::list::{Before, Fault, List, What};
+use parts::planning::Which;
 
 fn list_of(text: &str) -> List {
     List::read(text.as_bytes()).unwrap_or_else(|faults| panic!("{text:?}: {faults:?}"))
@@ -31,6 +32,30 @@ fn order_is_printed_by_name() {
         order("rack 1\nfine tall at=0-0 : 0\n"),
         Ok("parts 1 rules 0\nposition 0 line 0 fine tall at=0\n".into())
     );
+}
+
+/// Without their tips the parts are placed as U1, C1, R1, R2, C2 and J1.
+const MIXED: &str = "rack 3\nJ1 tall : 2\nR1 : 0\nC1 : 1\nR2 : 0\nC2 : 1\nU1 fine : 1\nbefore C1 R1\n";
+
+#[test]
+fn order_by_tips_is_printed_with_them() {
+    let by_tips = |list: &str, which, mounted| list_of(list).order_by_plan(which, mounted);
+    let text = "parts 6 rules 1\ntips of the quick plan, 2 changes in this order\nposition 0 U1 fine tip 1\n\
+                position 1 C1 tip 1\nposition 2 C2 tip 1\nposition 3 R1 tip 0\nposition 4 R2 tip 0\n\
+                position 5 J1 tall tip 2\n";
+    assert_eq!(by_tips(MIXED, Which::Quick, None), Ok(text.into()));
+    // U1 is first whatever is mounted.
+    let mounted =
+        text.replace("quick plan, 2 changes in this order", "best plan, 3 changes in this order, tip 0 mounted");
+    assert_eq!(by_tips(MIXED, Which::Best, Some(0)), Ok(mounted));
+    assert_eq!(
+        by_tips("rack 1\n", Which::Best, None),
+        Ok("parts 0 rules 0\ntips of the best plan, 0 changes in this order\n".into())
+    );
+    let why = by_tips("rack 3\nA : 1\nB : 0 2\n", Which::Best, None).unwrap_err();
+    assert!(why.starts_with("refused 25: B is no run") && why.ends_with("; take the quick plan"), "{why}");
+    let round = "rack 1\nA : 0\nB : 0\nbefore A B\nbefore B A\n";
+    assert_eq!(by_tips(round, Which::Quick, None), order(round));
 }
 
 #[test]

@@ -46,6 +46,7 @@ fn page_has_tips_used_and_changes() {
         ("pairs", 4),
         ("tips used", 2),
         ("tip changes in the list&#x27;s order", 1),
+        ("tip changes in the order by tips", 1),
         ("placements on tip 0", 3),
         ("placements on tip 2", 2),
     ] {

@@ -35,9 +35,9 @@ fn parts_have_their_tips_alone_and_on_the_panel() {
             "",
         ]
     );
-    let table = "\nplan   pairs  tips  changes in the list's order\n\
-                quick      4     2                            1\n\
-                best       4     2                            1\n";
+    let table = "\nplan   pairs  tips  changes in the list's order  changes in the order by tips\n\
+                quick      4     2                            1                             1\n\
+                best       4     2                            1                             1\n";
     assert!(text.ends_with(table), "{text}");
     let job = Job::read(&file).unwrap();
     assert_eq!(list_in_words(&job), "rack 3\n0 : 0\n1 x2 : 0-1\n2 : 1-2\n3 : 2\n");

@@ -1,5 +1,6 @@
 //! What the linked library says of parts lists, by name.
 
+use parts::changes::tip_by_tip;
 use parts::job::{list_in_words, Job};
 use parts::list::List;
 use parts::planning::{Along, Named, Wish};
@@ -94,9 +95,9 @@ fn plan_names_both_tips_and_sums_up() {
         "lines 4 rack 3\noff 2 tips 0 1 2\nquick 2\nbest 2\nA quick 0 best 0\nB quick 2 best 2\nC quick 0 best 0\n\
          line 3 quick 2 best 2\n\n\
          parts on tip 0 quick 2 best 2\nparts on tip 2 quick 2 best 2\n\
-         plan   pairs  tips  changes in the list's order\n\
-         quick      2     2                            3\n\
-         best       2     2                            3\n";
+         plan   pairs  tips  changes in the list's order  changes in the order by tips\n\
+         quick      2     2                            3                             1\n\
+         best       2     2                            3                             1\n";
     assert_eq!(named("rack 3\nA : 0\nB : 2\nC : 0-1\n: 1-2\n").plan(Wish::default()), Ok(text.into()));
 }
 
@@ -106,9 +107,9 @@ fn plan_names_the_line_that_is_no_run() {
         "lines 4 rack 3\noff 2 tips 0 1 2\nquick 1\nbest none, D is no run: it lacks tip 1, which A has (with the tips in the order 1 0 2 every part is a run)\nA quick 1 best -\nB quick 2 best -\n\
          C quick 0 best -\nD quick 0 best -\n\n\
          parts on tip 0 quick 2 best -\nparts on tip 1 quick 1 best -\nparts on tip 2 quick 1 best -\n\
-         plan   pairs  tips  changes in the list's order\n\
-         quick      1     3                            2\n\
-         best       -     -                            -\n";
+         plan   pairs  tips  changes in the list's order  changes in the order by tips\n\
+         quick      1     3                            2                             2\n\
+         best       -     -                            -                             -\n";
     assert_eq!(named("rack 3\nA : 1\nB : 2\nC : 0-1\nD : 0 2\n").plan(Wish::default()), Ok(text.into()));
 }
 
@@ -118,9 +119,9 @@ fn tip_that_no_part_has_may_be_missing() {
     let text = "lines 4 rack 5\noff 1 tips 4\nquick 3\nbest 3\nA quick 4 best 4\nB quick 2 best 2\nC quick 4 best 4\n\
                 D quick 4 best 4\n\n\
                 parts on tip 2 quick 1 best 1\nparts on tip 4 quick 3 best 3\n\
-                plan   pairs  tips  changes in the list's order\n\
-                quick      3     2                            2\n\
-                best       3     2                            2\n";
+                plan   pairs  tips  changes in the list's order  changes in the order by tips\n\
+                quick      3     2                            2                             1\n\
+                best       3     2                            2                             1\n";
     assert_eq!(named(board).plan(Wish::default()), Ok(text.into()));
     // The first part that is no run, the lowest tip that it lacks, and the first part that has it.
     for (more, why) in [
@@ -141,9 +142,9 @@ fn plan_counts_parts_and_placements() {
                 parts 4 placements 15\nparts on tip 0 quick 2 best 2\n\
                 placements on tip 0 quick 13 best 13\nparts on tip 1 quick 2 best 2\n\
                 placements on tip 1 quick 2 best 2\n\
-                plan   pairs  tips  changes in the list's order\n\
-                quick     79     2                            1\n\
-                best      79     2                            1\n";
+                plan   pairs  tips  changes in the list's order  changes in the order by tips\n\
+                quick     79     2                            1                             1\n\
+                best      79     2                            1                             1\n";
     let board = "rack 3\nA x10 : 0\nB x3 : 0-1\nC : 1-2\n: 1\n";
     assert_eq!(named(board).plan(Wish::default()), Ok(text.into()));
     let without = named(&board.replace(" x10", "").replace(" x3", "")).plan(Wish::default()).unwrap();
@@ -155,16 +156,16 @@ fn most_placements_on_one_tip_are_planned() {
     let text = "lines 1 rack 1\noff 0 tips 0\nquick 32385\nbest 32385\nA x255 quick 0 best 0\n\n\
                 parts 1 placements 255\nparts on tip 0 quick 1 best 1\n\
                 placements on tip 0 quick 255 best 255\n\
-                plan   pairs  tips  changes in the list's order\n\
-                quick  32385     1                            0\n\
-                best   32385     1                            0\n";
+                plan   pairs  tips  changes in the list's order  changes in the order by tips\n\
+                quick  32385     1                            0                             0\n\
+                best   32385     1                            0                             0\n";
     assert_eq!(named("rack 1\nA x255 : 0\n").plan(Wish::default()), Ok(text.into()));
     let most = "rack 64\n".to_string() + &"x255 : 0-63\n".repeat(8) + "x8 : 5\n";
     let summary = "parts 9 placements 2048\nparts on tip 5 quick 9 best 9\n\
                    placements on tip 5 quick 2048 best 2048\n\
-                   plan     pairs  tips  changes in the list's order\n\
-                   quick  2096128     1                            0\n\
-                   best   2096128     1                            0\n";
+                   plan     pairs  tips  changes in the list's order  changes in the order by tips\n\
+                   quick  2096128     1                            0                             0\n\
+                   best   2096128     1                            0                             0\n";
     assert_eq!(summary_of(&most), summary);
 }
 
@@ -180,17 +181,17 @@ fn summary_counts_the_tips_of_either_plan() {
     let board = "rack 6\nR1 : 0-1\nR2 : 1-2\nC1 : 1-3\nD1 : 1-3\nQ1 : 3-4\nU1 : 3-4\nU2 : 3-5\nJ1 : 4-5\n";
     let expected = "parts on tip 1 quick 2 best 4\nparts on tip 3 quick 5 best 0\n\
                     parts on tip 4 quick 1 best 4\n\
-                    plan   pairs  tips  changes in the list's order\n\
-                    quick     11     3                            2\n\
-                    best      12     2                            1\n";
+                    plan   pairs  tips  changes in the list's order  changes in the order by tips\n\
+                    quick     11     3                            2                             2\n\
+                    best      12     2                            1                             1\n";
     assert_eq!(summary_of(board), expected);
     // The most pairs are on three tips, although two would do, with 12 pairs.
     let board = "rack 3\nA : 0\nB1 : 0-1\nB2 : 0-1\nB3 : 0-1\nC1 : 1-2\nC2 : 1-2\nC3 : 1-2\nD : 2\n";
     let expected = "parts on tip 0 quick 1 best 1\nparts on tip 1 quick 6 best 6\n\
                     parts on tip 2 quick 1 best 1\n\
-                    plan   pairs  tips  changes in the list's order\n\
-                    quick     15     3                            2\n\
-                    best      15     3                            2\n";
+                    plan   pairs  tips  changes in the list's order  changes in the order by tips\n\
+                    quick     15     3                            2                             2\n\
+                    best      15     3                            2                             2\n";
     assert_eq!(summary_of(board), expected);
 }
 
@@ -209,19 +210,19 @@ fn mounted_tip_wins_a_tie_and_is_changed_where_the_first_part_is_on_another() {
         assert!(plan.contains(&format!("\nA quick 0 best 0\nB quick {tip} best {tip}\n\n")), "{plan}");
         let said = mounted.map_or(String::new(), |tip| format!("tip {tip} mounted\n"));
         assert!(plan.contains(&format!("quick 1 best 1\n{said}plan ")), "{plan}");
-        assert_eq!(numbers(&plan, "quick"), ["0", "2", changes]);
-        assert_eq!(numbers(&plan, "best"), ["0", "2", changes]);
+        assert_eq!(numbers(&plan, "quick"), ["0", "2", changes, "1"]);
+        assert_eq!(numbers(&plan, "best"), ["0", "2", changes, "1"]);
     }
     // No part uses tip 1, so that it is changed at the start, unless there is no part.
     let plan = named("rack 3\nA : 0\nB : 2\n").plan(Wish::mounted(Some(1))).unwrap();
-    assert_eq!(numbers(&plan, "quick"), ["0", "2", "2"]);
+    assert_eq!(numbers(&plan, "quick"), ["0", "2", "2", "2"]);
     let plan = named("rack 3\n").plan(Wish::mounted(Some(1))).unwrap();
-    assert_eq!(numbers(&plan, "best"), ["0", "0", "0"]);
+    assert_eq!(numbers(&plan, "best"), ["0", "0", "0", "0"]);
     // Without a best plan there is no number for it.
     let plan = named("rack 3\nA : 1\nB : 0 2\n").plan(Wish::mounted(Some(2))).unwrap();
     assert!(plan.contains("\nA quick 1 best -\nB quick 2 best -\n"), "{plan}");
-    assert_eq!(numbers(&plan, "quick"), ["0", "2", "2"]);
-    assert_eq!(numbers(&plan, "best"), ["-", "-", "-"]);
+    assert_eq!(numbers(&plan, "quick"), ["0", "2", "2", "1"]);
+    assert_eq!(numbers(&plan, "best"), ["-", "-", "-", "-"]);
 }
 
 /// In the order of the list A and B can share tip 1, then C and D tip 0. Quick and best have A, C and D on tip 0.
@@ -234,14 +235,14 @@ fn plan_along_the_list_has_fewer_changes() {
                 A quick 0 best 0 along 1\nB quick 1 best 1 along 1\nC quick 0 best 0 along 0\n\
                 D quick 0 best 0 along 0\n\n\
                 parts on tip 0 quick 3 best 3 along 2\nparts on tip 1 quick 1 best 1 along 2\n\
-                plan   pairs  tips  changes in the list's order\n\
-                quick      3     2                            2\n\
-                best       3     2                            2\n\
-                along      2     2                            1\n";
+                plan   pairs  tips  changes in the list's order  changes in the order by tips\n\
+                quick      3     2                            2                             1\n\
+                best       3     2                            2                             1\n\
+                along      2     2                            1                             1\n";
     assert_eq!(along(None), text);
     // Tip 1 stays on the head for A and B; tip 2 serves B alone, so that it is changed before A.
-    assert_eq!(numbers(&along(Some(1)), "along"), ["2", "2", "1"]);
-    assert_eq!(numbers(&along(Some(2)), "along"), ["2", "2", "2"]);
+    assert_eq!(numbers(&along(Some(1)), "along"), ["2", "2", "1", "1"]);
+    assert_eq!(numbers(&along(Some(2)), "along"), ["2", "2", "2", "2"]);
 }
 
 #[test]
@@ -250,15 +251,50 @@ fn plan_along_the_placing_order_has_fewer_changes_there() {
     let board = named(&BETWEEN.replace("D :", "D fine :"));
     let plan = board.plan(Wish { mounted: None, along: Some(Along::PlacingOrder) }).unwrap();
     assert!(plan.contains("\nalong 3, 1 change in the placing order\nA quick 0 best 0 along 1\n"), "{plan}");
-    let heads = "\nplan   pairs  tips  changes in the list's order  changes in the placing order\n";
+    let heads = "\nplan   pairs  tips  changes in the list's order  changes in the placing order  changes in the order by tips\n";
     assert!(plan.contains(heads), "{plan}");
-    // D, A, B and C: quick and best have tips 0, 0, 1 and 0.
-    assert_eq!(numbers(&plan, "quick"), ["3", "2", "2", "2"]);
-    assert_eq!(numbers(&plan, "along"), ["3", "2", "2", "1"]);
+    // D, A, B and C: quick and best have tips 0, 0, 1 and 0. By tips C comes before B.
+    assert_eq!(numbers(&plan, "quick"), ["3", "2", "2", "2", "1"]);
+    assert_eq!(numbers(&plan, "along"), ["3", "2", "2", "1", "1"]);
     let round = named("rack 1\nA fine tall : 0\nB : 0\nbefore A B\n");
     let why = round.plan(Wish { mounted: None, along: Some(Along::PlacingOrder) }).unwrap_err();
     assert!(why.starts_with("refused 29: no order obeys: A before B (rule on line 4)"), "{why}");
     assert!(round.plan(Wish { mounted: None, along: Some(Along::List) }).is_ok());
+}
+
+/// Each part has one tip. By tips U1, C1, C2, R1, R2 and J1; without their tips U1, C1, R1, R2, C2 and J1.
+const MIXED: &str = "rack 3\nJ1 tall : 2\nR1 : 0\nC1 : 1\nR2 : 0\nC2 : 1\nU1 fine : 1\nbefore C1 R1\n";
+
+#[test]
+fn changes_are_those_of_the_order_that_the_list_allows() {
+    let placed = Wish { mounted: None, along: Some(Along::PlacingOrder) };
+    assert_eq!(numbers(&named(MIXED).plan(placed).unwrap(), "best"), ["4", "3", "4", "3", "2"]);
+    // U1 is first whatever is mounted.
+    let plan = |list: &str, mounted| named(list).plan(Wish::mounted(mounted)).unwrap();
+    assert_eq!(numbers(&plan(MIXED, Some(0)), "quick"), ["4", "3", "5", "3"]);
+    // R2 at position 1: tips 1, 0, 1, 1, 0 and 2.
+    assert_eq!(numbers(&plan(&MIXED.replace("R2 :", "R2 at=1 :"), None), "quick"), ["4", "3", "4", "4"]);
+    let round = plan(&(MIXED.to_string() + "before R1 C1\n"), None);
+    assert_eq!(numbers(&round, "quick"), ["4", "3", "4", "-"]);
+    let why = "\nno changes in the order by tips: refused 29: no order obeys: R1 before C1 (rule on line 9), \
+               C1 before R1 (rule on line 8); take out one of these rules\n";
+    assert!(round.ends_with(why), "{round}");
+}
+
+#[test]
+fn free_parts_are_placed_tip_by_tip_whatever_their_number() {
+    let free = "rack 2\n".to_string() + &": 0\n: 1\n".repeat(65);
+    let plan = |list: &str| named(list).plan(Wish::default()).unwrap();
+    assert_eq!(numbers(&plan(&free), "quick"), ["4160", "2", "129", "1"]);
+    let fine = plan(&(free + "fine : 0\n"));
+    assert_eq!(numbers(&fine, "quick"), ["4225", "2", "130", "-"]);
+    assert!(fine.ends_with("by tips: refused 12: 131 parts; an order has 128 at most, split the list\n"), "{fine}");
+    // Where the library orders them, it is the same order.
+    let tips = [4, 2, 4, 0, 2, 2];
+    let list = List::read(("rack 5\n".to_string() + &": 0-4\n".repeat(6)).as_bytes()).unwrap();
+    for mounted in [None, Some(2), Some(3)] {
+        assert_eq!(list.order_by_tips(&tips, mounted), Ok(tip_by_tip(&tips, mounted)), "{mounted:?}");
+    }
 }
 
 #[test]
@@ -283,9 +319,9 @@ fn mounted_tip_outside_the_rack_is_refused_in_words() {
 
 #[test]
 fn summary_without_parts_has_no_tip_change() {
-    let expected = "plan   pairs  tips  changes in the list's order\n\
-                    quick      0     0                            0\n\
-                    best       0     0                            0\n";
+    let expected = "plan   pairs  tips  changes in the list's order  changes in the order by tips\n\
+                    quick      0     0                            0                             0\n\
+                    best       0     0                            0                             0\n";
     assert_eq!(summary_of("rack 5\n"), expected);
 }
 

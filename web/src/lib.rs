@@ -6,7 +6,7 @@ use std::cell::RefCell;
 use std::fmt::Display;
 use std::panic;
 
-use parts::changes::tip_by_tip;
+use parts::changes::in_cell;
 use parts::import::csv::{self, Columns};
 use parts::import::openpnp::{Board, Packages, Parts};
 use parts::import::table::Table;
@@ -178,14 +178,14 @@ fn named(list: &[u8]) -> Result<Named, String> {
     Ok(Named::of_list(read(list)?))
 }
 
-/// What is told of each plan: pairs, tips in use, changes in the list's order, changes tip by tip; `-` where there is none.
+/// What is told of each plan: pairs, tips in use, changes in the list's order and in the order by tips; `-` where there is none.
 fn numbers_of(plans: &Plans) -> Vec<Vec<u8>> {
     let of = |plan: Option<&Plan>| {
-        plan.map_or(["-"; 4].map(String::from), |plan| {
+        plan.map_or(vec!["-".to_string(); 4], |plan| {
             let tips = plan.tips_used(plans.job.rack);
-            let in_list = plan.changes_in_list(plans.mounted);
-            let by_tips = plan.changes_in(&tip_by_tip(&plan.tips, plans.mounted), plans.mounted);
-            [plan.pairs.to_string(), tips.to_string(), in_list.to_string(), by_tips.to_string()]
+            let numbers = [plan.pairs.to_string(), tips.to_string()];
+            let changes = plans.changes_of(plan).into_iter().map(|(_, changes)| in_cell(changes));
+            numbers.into_iter().chain(changes).collect()
         })
     };
     let both = [of(Some(&plans.quick)), of(plans.best.as_ref().ok())];
@@ -218,12 +218,13 @@ fn kept(kept: Kept) -> Result<Vec<Vec<u8>>, String> {
 /// The plans of the list as it is and of another one: with this rack, or with this line allowed on one more tip.
 fn changed(list: List, rack: Option<usize>, line: Option<usize>, tip: Option<usize>) -> Result<Vec<Vec<u8>>, String> {
     let mut job = list.job();
-    let before = Named::of_list(list).plans(Wish::default())?;
+    let before = Named::of_list(list);
     job.rack = rack.unwrap_or(job.rack);
     if let (Some(line), Some(tip)) = (line.and_then(|line| job.lines.get_mut(line)), tip) {
         line.set |= u64::try_from(tip).ok().and_then(|_| 1u64.checked_shl(tip as u32)).unwrap_or(0);
     }
-    let after = Named { file: job.write(), list: None }.plans(Wish::default())?;
+    let after = Named { file: job.write(), list: before.list.clone() };
+    let (before, after) = (before.plans(Wish::default())?, after.plans(Wish::default())?);
     Ok([numbers_of(&before), numbers_of(&after)].concat())
 }
 
