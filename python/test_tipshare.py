@@ -114,6 +114,19 @@ class Calls(unittest.TestCase):
         self.refused(13, 0, tipshare.windows, [(0, 1), (0, 1)], [(1, 1)])
         self.refused(29, 0, tipshare.windows, [(0, 1), (0, 1)], [(0, 1), (1, 0)])
 
+    def test_order_by_tips(self):
+        self.assertEqual(tipshare.order_by_tips([], []), ([], 0))
+        self.assertEqual(tipshare.order_by_tips([(0, 2)] * 3, [5, 7, 5]), ([0, 2, 1], 1))
+        self.assertEqual(tipshare.order_by_tips([(0, 2)] * 3, [5, 7, 5], mounted=7), ([1, 0, 2], 1))
+        self.assertEqual(tipshare.order_by_tips([(0, 2)] * 3, [5, 7, 5], [(1, 0)], 5), ([2, 1, 0], 2))
+        self.refused(4, 0, tipshare.order_by_tips, [(0, 1), (0, 1)], [5])
+        self.refused(3, 1, tipshare.order_by_tips, [(0, 1), (0, 1)], [5, 64])
+        self.refused(16, 0, tipshare.order_by_tips, [(0, 1), (0, 1)], [5, 63], (), 64)
+        self.refused(29, 0, tipshare.order_by_tips, [(0, 1), (0, 1)], [5, 63], [(0, 1), (1, 0)])
+        for wrong in ([256, 0], [-1, 0]):
+            with self.assertRaises(ValueError):
+                tipshare.order_by_tips([(0, 1), (0, 1)], wrong)
+
     def test_plan(self):
         plan = tipshare.plan([("A", {0, 2}), ("B", {1}), ("C", range(2))])
         self.assertEqual((plan.rack, plan.off, plan.common), (3, 1, [0, 1]))

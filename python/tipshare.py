@@ -21,7 +21,8 @@ import pathlib
 __version__ = "2.0.0"
 __all__ = [
     "Refused", "Plan", "Part", "plan", "job", "read", "common", "keep", "goal", "quick", "best", "along", "check",
-    "junior", "merge", "alone", "mend", "order", "windows", "report", "words", "version",
+    "junior", "merge", "alone", "mend", "order", "windows", "order_by_tips",
+    "report", "words", "version",
 ]
 
 MOST_TIPS = 64
@@ -82,7 +83,7 @@ def _load():
         "quick": lent + [size] + lent, "best": lent + [size] + lent + lent,
         "along": lent + [size] + lent, "check": lent + lent + [number] + lent, "junior": lent + lent, "merge": lent + lent + lent,
         "alone": lent + lent + lent, "mend": lent + lent + lent, "order": lent + lent + lent,
-        "windows": lent + lent + lent + lent,
+        "windows": lent + lent + lent + lent, "order_by_tips": lent + lent + lent + [size] + lent,
     }
     for call, types in before.items():
         function = getattr(library, f"tipshare_{call}")
@@ -265,6 +266,13 @@ def windows(parts, rules=()):
     first, last = _lent(ctypes.c_uint8, MOST_PARTS), _lent(ctypes.c_uint8, MOST_PARTS)
     answer = _call("windows", *_placing(parts, rules), first, len(first), last, len(last))
     return list(zip(first[: answer[1]], last[: answer[1]]))
+
+
+def order_by_tips(parts, tips, rules=(), mounted=None):
+    """The order in which parts are placed, on one tip as long as it can be, given the tip of each part; and its tip changes."""
+    placed = _lent(ctypes.c_uint8, MOST_PARTS)
+    answer = _call("order_by_tips", *_placing(parts, rules), *_given(tips), _mounted(mounted), placed, len(placed))
+    return list(placed[: answer[1]]), answer[2]
 
 
 def report(file):

@@ -3,8 +3,8 @@
 import struct
 
 MARK = b"TIPCALLS"
-NAMES = "read common keep goal quick best along check junior merge alone mend report order windows".split()
-BUFFERS = [2, 2, 3, 3, 3, 4, 3, 4, 3, 4, 4, 4, 2, 4, 5]
+NAMES = "read common keep goal quick best along check junior merge alone mend report order windows order_by_tips".split()
+BUFFERS = [2, 2, 3, 3, 3, 4, 3, 4, 3, 4, 4, 4, 2, 4, 5, 5]
 END = 255
 
 

@@ -10,13 +10,13 @@
 #include <string.h>
 
 #define MOST_BUFFERS 5
-#define FUNCTIONS 15
+#define FUNCTIONS 16
 #define END 255
 
 static const char *const names[FUNCTIONS] = {"read",   "common", "keep",  "goal", "quick",  "best",  "along",  "check",
-                                             "junior", "merge",  "alone", "mend", "report", "order", "windows"};
+                                             "junior", "merge",  "alone", "mend", "report", "order", "windows", "order_by_tips"};
 /* The buffers of each function. */
-static const int buffers_of[FUNCTIONS] = {2, 2, 3, 3, 3, 4, 3, 4, 3, 4, 4, 4, 2, 4, 5};
+static const int buffers_of[FUNCTIONS] = {2, 2, 3, 3, 3, 4, 3, 4, 3, 4, 4, 4, 2, 4, 5, 5};
 
 /* A lent part of some cells, and all bytes of the cells: those lent to the call, and those that are expected afterwards. */
 struct buffer {
@@ -104,7 +104,10 @@ static uint64_t call(int function, uint64_t argument, struct buffer *lent)
     case 11: return tipshare_mend(at[0], len[0], at[1], len[1], at[2], len[2], at[3], len[3]);
     case 12: return tipshare_report(at[0], len[0], at[1], len[1]);
     case 13: return tipshare_order(at[0], len[0], at[1], len[1], at[2], len[2], at[3], len[3]);
-    default: return tipshare_windows(at[0], len[0], at[1], len[1], at[2], len[2], at[3], len[3], at[4], len[4]);
+    case 14: return tipshare_windows(at[0], len[0], at[1], len[1], at[2], len[2], at[3], len[3], at[4], len[4]);
+    default:
+        return tipshare_order_by_tips(at[0], len[0], at[1], len[1], at[2], len[2], (size_t)argument, at[3], len[3], at[4],
+                                      len[4]);
     }
 }
 

@@ -20,6 +20,7 @@ const FUNCTIONS = [
   ["report", "buffer buffer"],
   ["order", "buffer buffer buffer buffer"],
   ["windows", "buffer buffer buffer buffer buffer"],
+  ["order_by_tips", "buffer buffer buffer big buffer buffer"],
 ].map(([name, parameters]) => ({ name, parameters: parameters.split(" "), calls: 0 }));
 const END = 255;
 

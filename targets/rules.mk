@@ -9,7 +9,7 @@ targets: $(targets)
 module := target/module/module.ll
 llvm := target/module/toolchain/bin
 # The functions of the header, to be exported.
-functions := $(shell sed -nE 's/^[a-z].*[ *](tipshare_[a-z]+)[^a-z_].*/\1/p' include/tipshare.h)
+functions := $(shell sed -nE 's/^[a-z].*[ *](tipshare_[a-z_]+)[^a-z_].*/\1/p' include/tipshare.h)
 
 $(module): $(library) tools/retarget
 	tools/retarget --module

@@ -19,8 +19,8 @@ const LEAST_CASES: u64 = 380_000;
 const DEFAULT_FILES: u64 = 2_000;
 const LEAST_FILES: u64 = 1_000;
 const DEFAULT_SEED: u64 = 1;
-/// Beside so many calls on job files one order is asked for.
-const CALLS_AN_ORDER: u64 = 22;
+/// The calls on job files for each call on parts and rules.
+const CALLS_AN_ORDER: u64 = 15;
 
 /// How many calls are recorded.
 const DEFAULT_RECORDED: u64 = 200_000;

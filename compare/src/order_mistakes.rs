@@ -10,6 +10,7 @@ use crate::check::Lent;
 use crate::orders::{call_library, Buffers, Caller, CALL_NAMES};
 use crate::sought;
 
+mod by_tips;
 mod orders;
 mod windows;
 
@@ -18,7 +19,11 @@ pub type OrderMistake = sought::Mistake<Caller>;
 /// The mistakes that each call is tried with, in the order of the names of the calls.
 pub fn order_mistakes() -> [Vec<&'static OrderMistake>; CALL_NAMES.len()] {
     let of_every_call = [OF_PARTS, OF_RULES, OF_RECORDS, OF_ANSWERS];
-    let of_one = [[orders::OF_ORDERS, orders::OF_BUFFERS], [windows::OF_WINDOWS, windows::OF_BUFFERS]];
+    let of_one = [
+        [orders::OF_ORDERS, orders::OF_BUFFERS],
+        [windows::OF_WINDOWS, windows::OF_BUFFERS],
+        [by_tips::OF_ORDERS_BY_TIPS, by_tips::OF_BUFFERS],
+    ];
     of_one.map(|own| of_every_call.into_iter().chain(own).flatten().collect())
 }
 

@@ -1,35 +1,40 @@
 //! The calls on parts and rules, fixed and seeded ones, in both implementations and against every order of few parts.
 
-use std::collections::BTreeMap;
+use std::collections::{BTreeMap, BTreeSet};
 use std::fmt;
 
 use library::on_slices;
-use second::interface::{self, ANSWER_PLACES, PART_PLACES, RULE_PLACES};
-use second::{try_every_order, try_every_order_for_windows, Part, Placing, Rule, MOST_PARTS};
+use second::interface::{self, ANSWER_PLACES, NO_TIP, PART_PLACES, RULE_PLACES};
+use second::{try_every_order, try_every_order_by_tips, try_every_order_for_windows, Part, Placing, Rule, MOST_PARTS};
 
 use crate::check::{first_difference, Lent};
 use crate::random::Random;
 use crate::record::Record;
+use crate::run::changes_in;
 use crate::sought::{all_found, look, Sought};
 
 /// With at most this many parts every order is tried.
 const MOST_PARTS_TRIED: usize = 6;
+/// Numbers of no mounted tip: the next one, those that other widths take for a tip, and the largest but none.
+const MOUNTED_OUTSIDE: [usize; 6] = [64, 65, 255, 256, 1 << 32, NO_TIP - 1];
 /// With more numbers of rules than these not every length is tried.
 const MOST_RULES_OF_EACH_LENGTH: usize = 10_000;
 /// With more parts than these not every length is tried where the positions are found.
 const MOST_PARTS_OF_EACH_LENGTH: usize = 16;
-/// The numbers that a call must give.
+/// The numbers that each call must give, and those that orders by tips must give too.
 const NEEDED: [u32; 7] = [0, 12, 13, 14, 29, 100, 101];
+const NEEDED_BY_TIPS: [u32; 3] = [3, 4, 16];
 
 /// A call on parts and rules, with the lengths of the buffers that it is lent.
 #[derive(Clone, Copy, PartialEq, Eq, Debug)]
 pub enum Call {
     Order { order: usize, answer: usize },
     Windows { first: usize, last: usize, answer: usize },
+    ByTips { mounted: usize, plan: usize, order: usize, answer: usize },
 }
 
 /// The names of the calls, in the order of their columns.
-pub const CALL_NAMES: [&str; 2] = ["order", "windows"];
+pub const CALL_NAMES: [&str; 3] = ["order", "windows", "order_by_tips"];
 
 impl Call {
     /// The place of the call among the names.
@@ -37,31 +42,35 @@ impl Call {
         match self {
             Call::Order { .. } => 0,
             Call::Windows { .. } => 1,
+            Call::ByTips { .. } => 2,
         }
     }
 
-    /// Whether a buffer is too short for this many parts.
+    /// Whether a buffer that is written is too short for this many parts.
     fn is_short(&self, count: usize) -> bool {
         match *self {
-            Call::Order { order, .. } => order < count,
+            Call::Order { order, .. } | Call::ByTips { order, .. } => order < count,
             Call::Windows { first, last, .. } => first.min(last) < count,
         }
     }
 }
 
-/// What is handed over, as numbers: 4 a part and 2 a rule.
+/// What is handed over, as numbers: 4 a part and 2 a rule; and for an order by tips the tip of each part.
 #[derive(Clone, PartialEq, Eq, Debug, Default)]
 pub struct Handed {
     pub parts: Vec<u32>,
     pub rules: Vec<u32>,
+    pub tips: Vec<u8>,
 }
 
 /// A call, and everything that it can reach.
 #[derive(Clone, PartialEq)]
 pub struct Buffers {
-    call: Call,
+    pub(crate) call: Call,
     pub(crate) parts: Lent<u32>,
     pub(crate) rules: Lent<u32>,
+    /// The tip of each part.
+    pub(crate) plan: Lent<u8>,
     pub(crate) order: Lent<u8>,
     /// The first and the last position of each part.
     pub(crate) first: Lent<u8>,
@@ -76,14 +85,16 @@ impl Buffers {
     fn new(handed: &Handed, call: Call, junk: u64) -> Buffers {
         let mut random = Random::new(junk);
         let halves = |number: u64| [number as u32, (number >> 32) as u32];
-        let (order, first, last, answer) = match call {
-            Call::Order { order, answer } => (order, 0, 0, answer),
-            Call::Windows { first, last, answer } => (0, first, last, answer),
+        let (plan, order, [first, last], answer) = match call {
+            Call::Order { order, answer } => (0, order, [0, 0], answer),
+            Call::Windows { first, last, answer } => (0, 0, [first, last], answer),
+            Call::ByTips { plan, order, answer, .. } => (plan, order, [0, 0], answer),
         };
         let mut buffers = Buffers {
             call,
             parts: Lent::junk(&mut random, handed.parts.len(), halves),
             rules: Lent::junk(&mut random, handed.rules.len(), halves),
+            plan: Lent::junk(&mut random, plan, u64::to_le_bytes),
             order: Lent::junk(&mut random, order, u64::to_le_bytes),
             first: Lent::junk(&mut random, first, u64::to_le_bytes),
             last: Lent::junk(&mut random, last, u64::to_le_bytes),
@@ -91,6 +102,7 @@ impl Buffers {
         };
         buffers.parts.begin_with(&handed.parts);
         buffers.rules.begin_with(&handed.rules);
+        buffers.plan.begin_with(&handed.tips);
         buffers
     }
 }
@@ -103,6 +115,10 @@ macro_rules! made_by {
         match $lent.call {
             Call::Order { .. } => $module::order(parts, rules, $lent.order.inside(), answer),
             Call::Windows { .. } => $module::windows(parts, rules, $lent.first.inside(), $lent.last.inside(), answer),
+            Call::ByTips { mounted, .. } => {
+                let (plan, order) = ($lent.plan.inside(), $lent.order.inside());
+                $module::order_by_tips(parts, rules, plan, mounted, order, answer)
+            }
         }
     }};
 }
@@ -126,7 +142,8 @@ impl fmt::Display for Difference {
     fn fmt(&self, to: &mut fmt::Formatter) -> fmt::Result {
         writeln!(to, "DIFFERENCE: {}", self.what)?;
         writeln!(to, "parts {:?}", self.handed.parts)?;
-        write!(to, "rules {:?}", self.handed.rules)
+        writeln!(to, "rules {:?}", self.handed.rules)?;
+        write!(to, "tips {:?}", self.handed.tips)
     }
 }
 
@@ -159,9 +176,19 @@ enum Event {
     PositionBetween,
     ShortFirstAlone,
     ShortLastAlone,
+    ByTipsOther,
+    ByTipsByMounted,
+    FewerTipChanges,
+    TipChangeForced,
+    TipChangeBefore,
+    TipsBehindTheParts,
+    ShortOrderAndPlan,
+    ShortPlanAndTip,
+    TipAndMounted,
+    MountedAndNoOrder,
 }
 
-const EVENTS: [(Event, &str); 26] = [
+const EVENTS: [(Event, &str); 36] = [
     (Event::NoParts, "orders without parts"),
     (Event::OnePart, "orders of one part"),
     (Event::MostParts, "orders of 128 parts, accepted"),
@@ -188,6 +215,16 @@ const EVENTS: [(Event, &str); 26] = [
     (Event::PositionBetween, "windows with a position that the part has in no order"),
     (Event::ShortFirstAlone, "windows with the buffer of the first positions alone too short"),
     (Event::ShortLastAlone, "windows with the buffer of the last positions alone too short"),
+    (Event::ByTipsOther, "orders by tips that are not the least order"),
+    (Event::ByTipsByMounted, "orders by tips that the mounted tip decides"),
+    (Event::FewerTipChanges, "orders by tips with fewer changes than the least order"),
+    (Event::TipChangeForced, "orders by tips that change a tip on which parts are left"),
+    (Event::TipChangeBefore, "orders by tips with a change before the first part"),
+    (Event::TipsBehindTheParts, "orders by tips with bytes of the plan behind the parts that are no tips"),
+    (Event::ShortOrderAndPlan, "orders by tips with order and plan too short"),
+    (Event::ShortPlanAndTip, "orders by tips with a plan too short, and a byte of it that is no tip"),
+    (Event::TipAndMounted, "orders by tips with a byte and a mounted tip that are no tips"),
+    (Event::MountedAndNoOrder, "orders by tips with a mounted tip that is none, and no order"),
 ];
 
 /// The counts of a run.
@@ -209,7 +246,9 @@ impl Tally {
     pub fn missing(&self) -> Vec<String> {
         let mut missing = Vec::new();
         for (column, name) in CALL_NAMES.iter().enumerate() {
-            let numbers = NEEDED.iter().filter(|&&number| !self.numbers.contains_key(&(number, column)));
+            let own = if *name == "order_by_tips" { &NEEDED_BY_TIPS[..] } else { &[] };
+            let needed = NEEDED.iter().chain(own);
+            let numbers = needed.filter(|&&number| !self.numbers.contains_key(&(number, column)));
             missing.extend(numbers.map(|number| format!("{name} with {number}")));
         }
         let events = EVENTS.iter().filter(|(event, _)| !self.events.contains_key(event));
@@ -222,20 +261,21 @@ impl fmt::Display for Tally {
     fn fmt(&self, to: &mut fmt::Formatter) -> fmt::Result {
         write!(to, "{:>9}", "number")?;
         for name in CALL_NAMES {
-            write!(to, "{name:>10}")?;
+            write!(to, "{name:>14}")?;
         }
         writeln!(to)?;
-        for number in NEEDED {
+        let numbers: BTreeSet<u32> = self.numbers.keys().map(|&(number, _)| number).collect();
+        for number in numbers {
             write!(to, "{number:>9}")?;
             for column in 0..CALL_NAMES.len() {
-                write!(to, "{:>10}", self.numbers.get(&(number, column)).copied().unwrap_or(0))?;
+                write!(to, "{:>14}", self.numbers.get(&(number, column)).copied().unwrap_or(0))?;
             }
             writeln!(to)?;
         }
         for (event, name) in EVENTS {
             writeln!(to, "{:>9} {name}", self.events.get(&event).copied().unwrap_or(0))?;
         }
-        write!(to, "{} orders and windows", self.calls)
+        write!(to, "{} orders, windows and orders by tips", self.calls)
     }
 }
 
@@ -293,6 +333,10 @@ impl Orders {
         let is_short = count <= MOST_PARTS_OF_EACH_LENGTH;
         for length in (0..=count + 1).filter(|length| count <= 8 || length + 2 >= count || *length == 0) {
             self.case(handed, Call::Order { order: length, answer })?;
+            for (plan, order) in [(length, count), (count, length), (length, length)] {
+                let mounted = self.mounted_number(handed);
+                self.case(handed, Call::ByTips { mounted, plan, order, answer })?;
+            }
             for (first, last) in [(length, count), (count, length), (length, length)] {
                 if is_short || first.min(last) < count || first > last {
                     self.case(handed, Call::Windows { first, last, answer })?;
@@ -302,24 +346,35 @@ impl Orders {
         for answer in 0..=8 {
             for length in [count, 0] {
                 self.case(handed, Call::Order { order: length, answer })?;
+                let mounted = self.mounted_number(handed);
+                self.case(handed, Call::ByTips { mounted, plan: count, order: length, answer })?;
                 if is_short || length == 0 || answer < ANSWER_PLACES {
                     self.case(handed, Call::Windows { first: length, last: length, answer })?;
                 }
             }
         }
+        for mounted in MOUNTED_OUTSIDE {
+            for (plan, order) in [(count, count), (count.saturating_sub(1), count)] {
+                self.case(handed, Call::ByTips { mounted, plan, order, answer })?;
+            }
+        }
         for cut in 1..PART_PLACES.min(handed.parts.len() + 1) {
             let parts = handed.parts[..handed.parts.len() - cut].to_vec();
-            self.in_exact_buffers(&Handed { parts, rules: handed.rules.clone() }, count)?;
+            self.in_exact_buffers(&Handed { parts, ..handed.clone() }, count)?;
         }
         let mut rules = handed.rules.clone();
         rules.push(0);
-        self.in_exact_buffers(&Handed { parts: handed.parts.clone(), rules }, count)
+        self.in_exact_buffers(&Handed { rules, ..handed.clone() }, count)
     }
 
     /// Each call in buffers for this many parts.
     fn in_exact_buffers(&mut self, handed: &Handed, count: usize) -> Result<(), Difference> {
         self.case(handed, Call::Order { order: count, answer: ANSWER_PLACES })?;
-        self.case(handed, Call::Windows { first: count, last: count, answer: ANSWER_PLACES })
+        self.case(handed, Call::Windows { first: count, last: count, answer: ANSWER_PLACES })?;
+        for mounted in [NO_TIP, self.mounted_number(handed)] {
+            self.case(handed, Call::ByTips { mounted, plan: count, order: count, answer: ANSWER_PLACES })?;
+        }
+        Ok(())
     }
 
     /// Each call in buffers around the lengths that it needs.
@@ -329,7 +384,18 @@ impl Orders {
         self.case(handed, Call::Order { order, answer })?;
         let (first, last) = (self.length_around(count), self.length_around(count));
         let answer = self.answer_length();
-        self.case(handed, Call::Windows { first, last, answer })
+        self.case(handed, Call::Windows { first, last, answer })?;
+        let (plan, order) = (self.length_around(count), self.length_around(count));
+        let (mounted, answer) = (self.mounted_number(handed), self.answer_length());
+        self.case(handed, Call::ByTips { mounted, plan, order, answer })
+    }
+
+    /// None, the tip of a part, any tip, or sometimes a number that is none.
+    fn mounted_number(&mut self, handed: &Handed) -> usize {
+        let of_part = handed.tips.get(self.random.below(handed.tips.len() + 1)).copied().unwrap_or(63);
+        let (any, outside) = (self.random.below(64), self.random.one_of(&MOUNTED_OUTSIDE));
+        let of_part = usize::from(of_part);
+        self.random.one_of(&[NO_TIP, NO_TIP, of_part, of_part, of_part, of_part, any, outside])
     }
 
     /// Parts and rules as they are, in buffers that do, and sometimes in others; few parts against every order.
@@ -353,6 +419,15 @@ impl Orders {
                 let what = format!("second implementation, windows {windows:?}, every order {tried:?}");
                 return Err(Difference { handed: handed.clone(), what });
             }
+            if handed.tips.len() >= count {
+                let mounted = handed.tips.first().map(|&tip| usize::from(tip)).filter(|_| self.random.once_in(2));
+                let by_tips = placing.order_by_tips(&handed.tips, mounted);
+                let tried = try_every_order_by_tips(&placing, &handed.tips, mounted);
+                if by_tips != tried {
+                    let what = format!("second implementation, by tips {by_tips:?}, every order {tried:?}");
+                    return Err(Difference { handed: handed.clone(), what });
+                }
+            }
         }
         Ok(())
     }
@@ -371,6 +446,7 @@ impl Orders {
             what += &format!("returned: library {library}, second {second}");
             what += &first_difference("parts", &of_library.parts, &of_second.parts);
             what += &first_difference("rules", &of_library.rules, &of_second.rules);
+            what += &first_difference("plan", &of_library.plan, &of_second.plan);
             what += &first_difference("order", &of_library.order, &of_second.order);
             what += &first_difference("first positions", &of_library.first, &of_second.first);
             what += &first_difference("last positions", &of_library.last, &of_second.last);
@@ -388,10 +464,47 @@ impl Orders {
         match (call, second) {
             (Call::Order { .. }, 0 | 29) => self.count_decided(handed, second == 0),
             (Call::Windows { .. }, 0) => self.count_windows(handed, &mut of_second),
+            (Call::ByTips { mounted, .. }, 0) => self.count_by_tips(handed, mounted, &mut of_second),
+            (Call::ByTips { mounted, plan, .. }, 3 | 4 | 16) => {
+                let no_order = order_of(handed).is_none();
+                let bad_tip = handed.tips.iter().take(plan.min(count)).any(|&tip| tip > 63);
+                self.tally.count_events(&[
+                    (second == 4 && bad_tip, Event::ShortPlanAndTip),
+                    (second == 3 && mounted > 63 && mounted != NO_TIP, Event::TipAndMounted),
+                    (second == 16 && no_order, Event::MountedAndNoOrder),
+                ]);
+            }
             (_, 12..=14) => self.count_refused(handed, count, call, second),
             _ => {}
         }
         Ok(())
+    }
+
+    /// What the tips of parts decided, beside the least order.
+    fn count_by_tips(&mut self, handed: &Handed, mounted: usize, found: &mut Buffers) {
+        let (parts, rules) = records_of(handed);
+        let count = parts.len();
+        let order = found.order.inside()[..count].to_vec();
+        let (tips, behind) = found.plan.inside().split_at(count);
+        let behind = behind.iter().any(|&byte| byte > 63);
+        let placed = |order: &[u8]| -> Vec<u8> { order.iter().map(|&part| tips[usize::from(part)]).collect() };
+        let changes = |placed: &[u8]| changes_in(placed, Some(mounted).filter(|&tip| tip != NO_TIP));
+        let by_tips = placed(&order);
+        // Of few parts alone, for it takes long.
+        let placing = Placing { parts: &parts, rules: &rules };
+        let is_small = count <= 12 && rules.len() <= 40;
+        let least = if is_small { placing.least_order() } else { None };
+        let without = if is_small { placing.order_by_tips(tips, None) } else { None };
+        let left_on_tip =
+            (1..count).any(|at| by_tips[at - 1] != by_tips[at] && by_tips[at..].contains(&by_tips[at - 1]));
+        self.tally.count_events(&[
+            (least.as_ref().is_some_and(|least| *least != order), Event::ByTipsOther),
+            (without.is_some_and(|without| without != order), Event::ByTipsByMounted),
+            (least.is_some_and(|least| changes(&placed(&least)) > changes(&by_tips)), Event::FewerTipChanges),
+            (left_on_tip, Event::TipChangeForced),
+            (changes(&by_tips) > changes_in(&by_tips, None), Event::TipChangeBefore),
+            (behind, Event::TipsBehindTheParts),
+        ]);
     }
 
     /// What narrowed the positions of few parts.
@@ -491,13 +604,15 @@ impl Orders {
         let short_alone = |one: usize, other: usize| number == 14 && one < count && other >= count;
         let (first, last) = match call {
             Call::Windows { first, last, .. } => (first, last),
-            Call::Order { .. } => (count, count),
+            _ => (count, count),
         };
+        let short_plan = matches!(call, Call::ByTips { plan, .. } if plan < count);
         self.tally.count_events(&[
             (several, Event::SeveralRefusals),
             (count > MOST_PARTS, Event::TooManyParts),
             (short_alone(first, last), Event::ShortFirstAlone),
             (short_alone(last, first), Event::ShortLastAlone),
+            (number == 14 && short_plan, Event::ShortOrderAndPlan),
         ]);
     }
 
@@ -522,9 +637,16 @@ fn records_of(handed: &Handed) -> (Vec<Part>, Vec<Rule>) {
     (handed.parts.chunks(PART_PLACES).map(part).collect(), handed.rules.chunks(RULE_PLACES).map(rule).collect())
 }
 
-/// The numbers of parts given as first and last position, fine and tall, and of rules.
+/// The least order of parts and rules, if any obeys.
+fn order_of(handed: &Handed) -> Option<Vec<u8>> {
+    let (parts, rules) = records_of(handed);
+    Placing { parts: &parts, rules: &rules }.least_order()
+}
+
+/// The numbers of parts given as first and last position, fine and tall, and of rules; tips that take turns.
 fn handed(parts: &[[u32; PART_PLACES]], rules: &[[u32; RULE_PLACES]]) -> Handed {
-    Handed { parts: parts.concat(), rules: rules.concat() }
+    let tips = (0..parts.len()).map(|part| [5, 63, 0, 5][part % 4]).collect();
+    Handed { parts: parts.concat(), rules: rules.concat(), tips }
 }
 
 /// The rows of the rules, and the sizes at the limits.
@@ -631,7 +753,15 @@ fn seeded(random: &mut Random) -> Handed {
         let (one, other) = if with_order { (one, other) } else { (other, one) };
         rules.push([one as u32, other as u32]);
     }
-    handed(&parts, &rules)
+    let tips = seeded_tips(random, count);
+    Handed { tips, ..handed(&parts, &rules) }
+}
+
+/// Tips of which there are few or many.
+fn seeded_tips(random: &mut Random, count: usize) -> Vec<u8> {
+    let most = random.one_of(&[1, 2, 2, 3, 4, 64]);
+    let first = random.below(65 - most);
+    (0..count).map(|_| (first + random.below(most)) as u8).collect()
 }
 
 /// A number that is yes.
@@ -649,7 +779,7 @@ fn damage(random: &mut Random, handed: &mut Handed) {
     };
     let inside = random.below(count.max(1)) as u32;
     let near = inside.wrapping_add(random.one_of(&[256, 1 << 16, 1 << 31]));
-    match random.below(9) {
+    match random.below(11) {
         // A last position that is none, also one that is within in fewer bits; a first behind the last.
         0 if count > 0 => {
             handed.parts[PART_PLACES * random.below(count) + 1] = if random.once_in(2) { near } else { far(random) }
@@ -672,12 +802,18 @@ fn damage(random: &mut Random, handed: &mut Handed) {
             let more = random.one_of(&[129, 130, 255, 256, 257]) - count.min(129);
             let part = [0, count as u32, 0, 0];
             handed.parts.extend(part.repeat(more));
+            handed.tips.extend(vec![0; more]);
         }
         7 => {
             let length = handed.parts.len().saturating_sub(random.from_to(1, 3));
             handed.parts.truncate(length);
         }
         8 => handed.rules.push(random.number() as u32),
+        // A part on a tip that is none.
+        9 | 10 if count > 0 => {
+            let any = random.from_to(64, 255) as u8;
+            handed.tips[random.below(count)] = random.one_of(&[64, 64, 65, 128, 255, any]);
+        }
         _ => {}
     }
 }

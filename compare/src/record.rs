@@ -126,7 +126,11 @@ impl Record {
         if !self.takes(function, returned) {
             return Ok(());
         }
-        let mut bytes = head(function, 0, returned.into());
+        let argument = match call {
+            orders::Call::ByTips { mounted, .. } => mounted as u64,
+            _ => 0,
+        };
+        let mut bytes = head(function, argument, returned.into());
         put(&mut bytes, &before.parts, &after.parts);
         put(&mut bytes, &before.rules, &after.rules);
         match call {
@@ -134,6 +138,10 @@ impl Record {
             orders::Call::Windows { .. } => {
                 put(&mut bytes, &before.first, &after.first);
                 put(&mut bytes, &before.last, &after.last);
+            }
+            orders::Call::ByTips { .. } => {
+                put(&mut bytes, &before.plan, &after.plan);
+                put(&mut bytes, &before.order, &after.order);
             }
         }
         put(&mut bytes, &before.answer, &after.answer);

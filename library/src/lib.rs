@@ -49,8 +49,8 @@ pub const MOST_PARTS: usize = 128;
 #[derive(Clone, Copy, PartialEq, Eq, Debug)]
 pub struct Refusal {
     pub number: u32,
-    /// The line that it is about, for 2, 3, 15, 25 and 30, the part for 12 and the rule for 13. Of two files it does not
-    /// tell which; 0 for the 30 of a panel.
+    /// The line that it is about, for 2, 3, 15, 25 and 30, the part for 12, and for 3 of an order by tips, and the rule for
+    /// 13. Of two files it does not tell which; 0 for the 30 of a panel.
     pub line: u64,
     /// How far the bound is missed, for 26.
     pub margin: i64,
@@ -384,6 +384,37 @@ pub fn windows(parts: &[Part], rules: &[(u32, u32)], first: &mut [u8], last: &mu
     Ok(answer_of(|answer| on_slices::windows(&parts, &rules, first, last, answer))?[1])
 }
 
+/// The number of parts of an order by tips, and its tip changes, with the one before the first part.
+#[derive(Clone, Copy, PartialEq, Eq, Debug)]
+pub struct OrderedByTips {
+    pub parts: u64,
+    pub changes: u64,
+}
+
+/// The order in which parts are placed as [`order()`] has it, but a part on the tip of the part before it comes first where
+/// it can, and at position 0 one on the mounted tip. The plan has the tip of each part, 0 to 63.
+///
+/// ```
+/// let part = tipshare::Part { first: 0, last: 2, fine: false, tall: false };
+/// let mut order = [0; 3];
+/// // Parts 0 and 2 are on tip 5, and part 1 on tip 7.
+/// let ordered = tipshare::order_by_tips(&[part; 3], &[], &[5, 7, 5], None, &mut order);
+/// assert_eq!(ordered, Ok(tipshare::OrderedByTips { parts: 3, changes: 1 }));
+/// assert_eq!(order, [0, 2, 1]);
+/// ```
+pub fn order_by_tips(
+    parts: &[Part],
+    rules: &[(u32, u32)],
+    plan: &[u8],
+    mounted: Option<usize>,
+    order: &mut [u8],
+) -> Result<OrderedByTips, Refusal> {
+    let (parts, rules) = numbers_of(parts, rules);
+    let mounted = number_of(mounted);
+    let answer = answer_of(|answer| on_slices::order_by_tips(&parts, &rules, plan, mounted, order, answer))?;
+    Ok(OrderedByTips { parts: answer[1], changes: answer[2] })
+}
+
 /// The report for a file.
 ///
 /// ```
@@ -588,6 +619,31 @@ pub mod on_slices {
         }
     }
 
+    pub fn order_by_tips(
+        parts: &[u32],
+        rules: &[u32],
+        plan: &[u8],
+        mounted: usize,
+        order: &mut [u8],
+        answer: &mut [u64],
+    ) -> u32 {
+        unsafe {
+            declared::tipshare_order_by_tips(
+                parts.as_ptr(),
+                parts.len() as u64,
+                rules.as_ptr(),
+                rules.len() as u64,
+                plan.as_ptr(),
+                plan.len() as u64,
+                of_tip(mounted),
+                order.as_mut_ptr(),
+                order.len() as u64,
+                answer.as_mut_ptr(),
+                answer.len() as u64,
+            )
+        }
+    }
+
     pub fn report(file: &[u8], out: &mut [u8]) -> usize {
         unsafe {
             declared::tipshare_report(file.as_ptr(), file.len() as u64, out.as_mut_ptr(), out.len() as u64) as usize
@@ -727,6 +783,19 @@ mod declared {
             first_len: Size,
             last: *mut u8,
             last_len: Size,
+            answer: *mut u64,
+            answer_len: Size,
+        ) -> u32;
+        pub fn tipshare_order_by_tips(
+            parts: *const u32,
+            parts_len: Size,
+            rules: *const u32,
+            rules_len: Size,
+            plan: *const u8,
+            plan_len: Size,
+            mounted: Size,
+            order: *mut u8,
+            order_len: Size,
             answer: *mut u64,
             answer_len: Size,
         ) -> u32;

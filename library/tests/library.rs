@@ -273,7 +273,7 @@ fn refusals_carry_line_and_margin() {
     assert_eq!(read(&file), Err(refused(3, 1, 0)));
     assert_eq!(common(&file[..7]), Err(refused(6, 0, 0)));
     assert_eq!(report(&file), b"refused 3\n");
-    assert_eq!(refused(3, 1, 0).to_string(), "refused 3: a line has a tip outside the rack, line 1");
+    assert_eq!(refused(3, 1, 0).to_string(), "refused 3: a line or a part has a tip outside the rack, line 1");
     assert_eq!(refused(26, 0, -1).to_string(), "refused 26: no plan meets the bound, margin -1");
     assert_eq!(refused(6, 0, 0).to_string(), "refused 6: the file is shorter than 8 bytes");
 }

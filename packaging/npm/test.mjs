@@ -102,6 +102,18 @@ test("the positions that parts can have", () => {
   refused(29, 0, () => tipshare.windows([[0, 1], [0, 1]], [[0, 1], [1, 0]]));
 });
 
+test("orders by tips", () => {
+  const parts = [[0, 2], [0, 2], [0, 2]];
+  assert.deepEqual(tipshare.orderByTips([], []), { order: [], changes: 0 });
+  assert.deepEqual(tipshare.orderByTips(parts, [5, 7, 5]), { order: [0, 2, 1], changes: 1 });
+  assert.deepEqual(tipshare.orderByTips(parts, [5, 7, 5], [], 7), { order: [1, 0, 2], changes: 1 });
+  assert.deepEqual(tipshare.orderByTips(parts, [5, 7, 5], [[1, 0]], 5), { order: [2, 1, 0], changes: 2 });
+  refused(4, 0, () => tipshare.orderByTips(parts, [5, 7]));
+  refused(3, 1, () => tipshare.orderByTips(parts, [5, 64, 5]));
+  refused(16, 0, () => tipshare.orderByTips(parts, [5, 7, 5], [], 64));
+  assert.throws(() => tipshare.orderByTips(parts, [5, 256, 5]), RangeError);
+});
+
 test("the largest board, many times: no call leaves anything behind", () => {
   const largest = { rack: 64, lines: Array.from({ length: 512 }, (_, line) => [line % 64]) };
   const first = tipshare.best(largest);

@@ -41,6 +41,12 @@ export interface Calls {
   mend(file: JobFile): { file: Uint8Array; changes: { line: number; what: number }[] };
   order(parts: Part[], rules?: [earlier: number, later: number][]): number[];
   windows(parts: Part[], rules?: [earlier: number, later: number][]): [first: number, last: number][];
+  orderByTips(
+    parts: Part[],
+    tips: number[],
+    rules?: [earlier: number, later: number][],
+    mounted?: number | null,
+  ): { order: number[]; changes: number };
   report(file: JobFile): string;
 }
 

@@ -256,6 +256,14 @@ class Calls {
     return Array.from({ length: Number(answer[1]) }, (_, part) => [arrays[2][part], arrays[3][part]]);
   }
 
+  /** The order in which parts are placed, on one tip as long as it can be, given the tip of each part; and its tip changes. */
+  orderByTips(parts, tips, rules = [], mounted = null) {
+    const plan = Uint8Array.from(tips, (tip) => inRange("a tip of the plan", tip, 255));
+    const lent = [...this.#placing(parts, rules), plan, this.#mounted(mounted), new Uint8Array(MOST_PARTS)];
+    const { arrays, answer } = this.#answered("order_by_tips", ...lent);
+    return { order: [...arrays[3].slice(0, Number(answer[1]))], changes: Number(answer[2]) };
+  }
+
   /** The text that the program tipshare prints for a job file. */
   report(file) {
     const { returned, arrays } = this.#call("report", bytesOf(file), new Uint8Array(REPORT_SPACE));

@@ -9,13 +9,14 @@ const changes: number = tipshare.along(example, 3).changes;
 const parts: Part[] = [[0, 3, false, true], [0, 3], [0, 3, true], [0, 3]];
 const order: number[] = tipshare.order(parts, [[3, 1]]);
 const windows: [first: number, last: number][] = tipshare.windows(parts, [[3, 1]]);
+const byTips: number = tipshare.orderByTips(parts, [0, 1, 0, 1], [[3, 1]]).changes;
 const quantities: number[] = board(tipshare.keep(example, 3).file).lines.map(({ quantity }) => quantity);
 try {
   tipshare.quick(example, 9);
 } catch (error) {
   if (!(error instanceof Refused)) throw error;
   const told: [number, number, string, number] = [error.number, error.place, error.words, error.margin];
-  console.log(told, order, windows, quantities, changes);
+  console.log(told, order, windows, byTips, quantities, changes);
 }
 // @ts-expect-error a tip is a number
 tipshare.quick({ rack: 1, lines: [["0"]] });

@@ -2,6 +2,7 @@
 
 use crate::along::Along;
 use crate::board::{Answer, Board};
+use crate::by_tips::{self, ByTips};
 use crate::file::read as read_file;
 use crate::junior::Junior;
 use crate::placing::{order_parts, Ordered, Part, Placing, Rule};
@@ -168,8 +169,9 @@ pub fn mend(file: &[u8], out: &mut [u8], report: &mut [u8], answer: &mut [u64]) 
 pub const PART_PLACES: usize = 4;
 pub const RULE_PLACES: usize = 2;
 
-/// Answers by the call on parts and rules, unless the answer is short or a part or a rule is not whole: place, parts, 0, 0.
-fn on_parts(parts: &[u32], rules: &[u32], answer: &mut [u64], call: impl FnOnce(&Placing) -> Ordered) -> u32 {
+/// Answers by the call on parts and rules, unless the answer is short or a part or a rule is not whole: place, parts,
+/// changes, 0.
+fn on_parts(parts: &[u32], rules: &[u32], answer: &mut [u64], call: impl FnOnce(&Placing) -> ByTips) -> u32 {
     if answer.len() < ANSWER_PLACES {
         return refusal::SHORT_ANSWER;
     }
@@ -179,19 +181,36 @@ fn on_parts(parts: &[u32], rules: &[u32], answer: &mut [u64], call: impl FnOnce(
     let part = |of: &[u32]| Part { first: of[0], last: of[1], fine: of[2] != 0, tall: of[3] != 0 };
     let parts: Vec<Part> = parts.chunks(PART_PLACES).map(part).collect();
     let rules: Vec<Rule> = rules.chunks(RULE_PLACES).map(|of| (of[0], of[1])).collect();
-    let ordered = call(&Placing { parts: &parts, rules: &rules });
+    let ByTips { ordered, changes } = call(&Placing { parts: &parts, rules: &rules });
     let count = if ordered.number == refusal::NONE { parts.len() } else { 0 };
-    answered(answer, ordered.number, [ordered.place as u64, count as u64, 0, 0])
+    answered(answer, ordered.number, [ordered.place as u64, count as u64, changes as u64, 0])
+}
+
+/// What a call without tips gives.
+fn without_tips(ordered: Ordered) -> ByTips {
+    ByTips { ordered, changes: 0 }
 }
 
 /// The placing order.
 pub fn order(parts: &[u32], rules: &[u32], order: &mut [u8], answer: &mut [u64]) -> u32 {
-    on_parts(parts, rules, answer, |placing| order_parts(placing, order))
+    on_parts(parts, rules, answer, |placing| without_tips(order_parts(placing, order)))
 }
 
 /// The first and the last position that each part can have.
 pub fn windows(parts: &[u32], rules: &[u32], first: &mut [u8], last: &mut [u8], answer: &mut [u64]) -> u32 {
-    on_parts(parts, rules, answer, |placing| find_windows(placing, first, last))
+    on_parts(parts, rules, answer, |placing| without_tips(find_windows(placing, first, last)))
+}
+
+/// The placing order by tips.
+pub fn order_by_tips(
+    parts: &[u32],
+    rules: &[u32],
+    plan: &[u8],
+    mounted: usize,
+    order: &mut [u8],
+    answer: &mut [u64],
+) -> u32 {
+    on_parts(parts, rules, answer, |placing| by_tips::order_by_tips(placing, plan, mounted_tip(mounted), order))
 }
 
 /// Writes the report to out and gives its length, 0 where out is too short.

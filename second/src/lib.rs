@@ -5,6 +5,7 @@
 
 mod along;
 mod board;
+mod by_tips;
 mod checking;
 mod common;
 mod file;
@@ -23,6 +24,7 @@ pub mod interface;
 
 pub use along::Along;
 pub use board::{Answer, Board, Line, Stage, MOST_LINES, MOST_PLACEMENTS, MOST_TIPS};
+pub use by_tips::{order_by_tips, try_every_order_by_tips, ByTips};
 pub use common::CommonTip;
 pub use file::{read, Version, LONGEST_FILE};
 pub use junior::{Junior, JUNIOR_LINES, JUNIOR_TIPS};

@@ -138,9 +138,14 @@ impl Placing<'_> {
         windows
     }
 
-    /// The least order that obeys, or nothing where none does: at each position the lowest part with which the rest can
-    /// still be placed.
+    /// The least order that obeys, or nothing where none does.
     pub fn least_order(&self) -> Option<Vec<u8>> {
+        self.order_by(|_, _| true)
+    }
+
+    /// The order that obeys, or nothing where none does, in which each position has the first part with which the rest can
+    /// still be placed: the parts wanted there by the part before it are tried first, and each kind by number.
+    pub(crate) fn order_by(&self, is_wanted: impl Fn(Option<usize>, usize) -> bool) -> Option<Vec<u8>> {
         let before = self.before();
         let sorted = self.sorted(&before)?;
         let windows = self.narrowed(&before, &sorted);
@@ -158,7 +163,9 @@ impl Placing<'_> {
                     && can_be_placed(&windows, &rest, position + 1)
             };
             // What could be placed before this position still can be with some part at it.
-            let at = (0..left.len()).find(|&at| fits(at))?;
+            let before = order.last().map(|&part| usize::from(part));
+            let wanted = (0..left.len()).filter(|&at| is_wanted(before, left[at])).find(|&at| fits(at));
+            let at = wanted.or_else(|| (0..left.len()).find(|&at| fits(at)))?;
             order.push(left.remove(at) as u8);
         }
         Some(order)

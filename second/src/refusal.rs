@@ -7,9 +7,9 @@ pub const NONE: u32 = 0;
 pub const RACK_SIZE: u32 = 1;
 /// A line's set is empty.
 pub const EMPTY_LINE: u32 = 2;
-/// A line's set has a tip outside the rack.
+/// A line's set has a tip outside the rack; in an order by tips, a part's tip is 64 or above.
 pub const TIP_OUTSIDE: u32 = 3;
-/// The plan buffer is shorter than the number of lines, of both boards where each is planned alone.
+/// The plan is shorter than the number of lines, of both boards where each is planned alone, or of parts.
 pub const SHORT_PLAN: u32 = 4;
 /// The table is shorter than the square of the rack size.
 pub const SHORT_TABLE: u32 = 5;
@@ -33,7 +33,7 @@ pub const BAD_RULE: u32 = 13;
 pub const SHORT_ORDER: u32 = 14;
 /// A line's quantity is 0.
 pub const ZERO_QUANTITY: u32 = 15;
-/// The mounted tip is outside the rack.
+/// The mounted tip is outside the rack, or in an order by tips 64 or above.
 pub const MOUNTED_OUTSIDE: u32 = 16;
 /// Merging, and the racks differ.
 pub const RACKS_DIFFER: u32 = 17;

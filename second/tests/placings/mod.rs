@@ -15,7 +15,7 @@ pub fn parts(texts: &[&str]) -> Vec<Part> {
 }
 
 /// A seeded number below the limit.
-fn below(state: &mut u64, limit: u64) -> u64 {
+pub fn below(state: &mut u64, limit: u64) -> u64 {
     *state = state.wrapping_mul(6_364_136_223_846_793_005).wrapping_add(1_442_695_040_888_963_407);
     (*state >> 33) % limit
 }

@@ -303,6 +303,9 @@ impl State {
             ("alone", &[room]) => self.alone(room),
             ("order", []) => self.orders.show(junk::ORDER, self.junk),
             ("order", &[at_most]) => self.orders.show(room(at_most, junk::ORDER), self.junk),
+            ("tips", []) => self.by_tips(NOT_GIVEN, NOT_GIVEN, NOT_GIVEN),
+            ("tips", &[at_most, count]) => self.by_tips(at_most, count, NOT_GIVEN),
+            ("tips", &[at_most, count, tip]) => self.by_tips(at_most, count, tip),
             ("write", []) => self.write(NOT_GIVEN),
             ("write", &[room]) => self.write(room),
             ("read", &[length, ref changes @ ..]) => self.read(length, changes),
@@ -316,6 +319,11 @@ impl State {
                 String::new()
             }
         }
+    }
+
+    fn by_tips(&self, at_most: u64, count: u64, tip: u64) -> String {
+        let plan = &self.plan[..room(count, junk::PLAN)];
+        self.orders.show_by_tips(room(at_most, junk::ORDER), plan, mounted(tip), self.junk)
     }
 
     fn write(&mut self, at_most: u64) -> String {

@@ -1,6 +1,7 @@
 //! The parts and rules of a placing order, as a script puts them down, and the call on them.
 
-use second::{order_parts, Part, Placing, Rule};
+use second::interface::{self, ANSWER_PLACES};
+use second::{order_by_tips, order_parts, ByTips, Part, Placing, Rule};
 
 use crate::junk::{self, show_list};
 
@@ -43,13 +44,39 @@ impl Orders {
         true
     }
 
+    fn placing(&self) -> Placing<'_> {
+        Placing { parts: &self.parts[..self.part_count], rules: &self.rules[..self.rule_count] }
+    }
+
     /// What the call answers that is lent so much of a buffer full of junk.
     pub fn show(&self, room: usize, junk: u8) -> String {
-        let placing = Placing { parts: &self.parts[..self.part_count], rules: &self.rules[..self.rule_count] };
+        let placing = self.placing();
         let mut order = [junk; junk::ORDER];
         let ordered = order_parts(&placing, &mut order[..room]);
         let written = if ordered.number == 0 { self.part_count } else { 0 };
         let shown = show_list(&order, junk, written);
         format!(" number {} place {} order{shown}\n", ordered.number, ordered.place)
+    }
+
+    /// What the order by tips answers, first over records and then over numbers.
+    pub fn show_by_tips(&self, room: usize, plan: &[u8], mounted: Option<usize>, junk: u8) -> String {
+        let placing = self.placing();
+        let mut order = [junk; junk::ORDER];
+        let ByTips { ordered, changes } = order_by_tips(&placing, plan, mounted, &mut order[..room]);
+        let shown = self.shown_by_tips(ordered.number, ordered.place, changes, &order, junk);
+        let of_part = |part: &Part| [part.first, part.last, part.fine.into(), part.tall.into()];
+        let parts: Vec<u32> = placing.parts.iter().flat_map(of_part).collect();
+        let rules: Vec<u32> = placing.rules.iter().flat_map(|&(earlier, later)| [earlier, later]).collect();
+        let (mut order, mut answer) = ([junk; junk::ORDER], [0; ANSWER_PLACES]);
+        let mounted = mounted.unwrap_or(interface::NO_TIP);
+        let number = interface::order_by_tips(&parts, &rules, plan, mounted, &mut order[..room], &mut answer);
+        let by_numbers = self.shown_by_tips(number, answer[0] as usize, answer[2] as usize, &order, junk);
+        format!("{shown} numbers{by_numbers}\n")
+    }
+
+    fn shown_by_tips(&self, number: u32, place: usize, changes: usize, order: &[u8], junk: u8) -> String {
+        let written = if number == 0 { self.part_count } else { 0 };
+        let order = show_list(order, junk, written);
+        format!(" number {number} place {place} changes {changes} order{order}")
     }
 }
