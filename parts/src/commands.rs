@@ -21,7 +21,7 @@ use parts::limits::too_large;
 use parts::list::{Fault, List};
 use parts::mending;
 use parts::panel::Panel;
-use parts::planning::{Along, Kept, Named, Which, Wish};
+use parts::planning::{Along, Kept, Named, Which, Wish, FEWEST_TIPS};
 use parts::MOST_TIPS;
 
 use crate::arguments::{Arguments, FORCE, OUTPUT, START_TABLE, TABLE};
@@ -287,7 +287,8 @@ pub fn plan(arguments: &Arguments) -> Result<(), Failure> {
         return Err(Failure::Argument("--plan needs a --format; without one all plans are printed".into()));
     }
     let which = which.map_or(Ok(Which::First), Which::of).map_err(Failure::Argument)?;
-    let wish = wish_of(arguments)?;
+    let mut wish = wish_of(arguments)?;
+    wish.price = wish.price.or((which == Which::Exact).then_some(0));
     let mut files = Files::of(arguments);
     let named = files.named(path)?;
     let text = match format {
@@ -309,7 +310,22 @@ fn wish_of(arguments: &Arguments) -> Result<Wish, Failure> {
         (false, true) => Some(Along::PlacingOrder),
         (false, false) => None,
     };
-    Ok(Wish { mounted, along })
+    Ok(Wish { mounted, price: price_of(arguments)?, along })
+}
+
+/// The price of a tip for an exact plan, where one is named.
+fn price_of(arguments: &Arguments) -> Result<Option<u32>, Failure> {
+    let price = arguments.option("--price").map(|word| {
+        let why = || format!("a price is a number from 0 to {}, and not {}", u32::MAX, shown(word));
+        number_of(word).ok_or_else(|| Failure::Argument(why()))
+    });
+    match (price.transpose()?, arguments.has("--fewest-tips")) {
+        (Some(_), true) => {
+            Err(Failure::Argument("--price and --fewest-tips name two prices; take one of them out".into()))
+        }
+        (None, true) => Ok(Some(FEWEST_TIPS)),
+        (price, false) => Ok(price),
+    }
 }
 
 pub fn check(arguments: &Arguments) -> Result<(), Failure> {
@@ -402,13 +418,18 @@ pub fn order(arguments: &Arguments) -> Result<(), Failure> {
     let mut files = Files::of(arguments);
     let which = text_behind(arguments, TABLE)?.map(Which::of).transpose().map_err(Failure::Argument)?;
     let mounted = arguments.option("--mounted").map(tip_of).transpose()?;
+    let price = price_of(arguments)?;
     if which.is_none() && mounted.is_some() {
         return Err(Failure::Argument(format!("--mounted needs {TABLE} and a plan; without it the tips do not count")));
+    }
+    if which != Some(Which::Exact) && price.is_some() {
+        return Err(Failure::Argument(format!("a price is for the exact plan; add {TABLE} exact")));
     }
     let list = files.list(path)?;
     let order = match which {
         None => list.order(),
-        Some(which) => list.order_by_plan(which, mounted),
+        Some(Which::Exact) => list.order_by_plan(Which::Exact, Wish { mounted, price: price.or(Some(0)), along: None }),
+        Some(which) => list.order_by_plan(which, Wish::mounted(mounted)),
     };
     files.give_text(&order.map_err(|why| about(path, why))?)
 }

@@ -118,15 +118,19 @@ pub const COMMANDS: [Command; 19] = [
     },
     Command {
         name: "plan",
-        arguments: "FILE [--mounted T] [--in-order] [--in-placing-order] [--format FORMAT] [--plan PLAN]",
+        arguments: "FILE [--mounted T] [--price P] [--fewest-tips] [--in-order] [--in-placing-order] [--format FORMAT] [--plan PLAN]",
         does: "print the quick and the best plan, part by part, and a table of both;\n\
                tip T, which is on the head, wins where tips suit equally;\n\
+               with a price P for each tip an exact plan too, or with the fewest tips;\n\
                in order, a plan with the fewest tip changes along the list too, or along the placing order;\n\
                with a FORMAT one plan for other programs, a row for each reference designator",
         more: "Quick takes every list. Best has the most pairs of all plans, a pair being two placements on one tip;\n\
                it takes lists in which each part has every tip between its lowest and its highest, but for tips that\n\
                no part of the list has. Where a part has a gap, it is named with an order of the rack that helps, if\n\
-               there is one.\n\
+               there is one, and the exact plan takes the place of the best one.\n\
+               Exact takes any list that names 20 tips at most. No plan has more pairs. With a price, no plan has more\n\
+               pairs less P for each tip that it uses: the higher P, the fewer tips. --fewest-tips is the highest P: no\n\
+               plan has fewer tips, and none of as few has more pairs.\n\
                A quantity other than 1 stands behind the name, as x10; then parts and placements are counted.\n\
                Where several tips suit equally, the lowest is taken, or T where it is one of them. The pairs of the\n\
                best plan are the same with every T, those of the quick plan may be others.\n\
@@ -136,9 +140,10 @@ pub const COMMANDS: [Command; 19] = [
                which `parts order --tips` prints; where any part may be placed anywhere, of any number of parts.\n\
                --in-order adds a plan, called along: no plan has fewer tip changes in the order of the list.\n\
                --in-placing-order adds the plan with the fewest in the order that `parts order` prints.\n\
-               FORMAT is text, csv or json: then one plan is printed, the one along an order where it is asked for, else\n\
-               the best one or, where there is none, the quick one; a row for each reference designator that an import\n\
-               wrote into the comments, or else for each part. PLAN is quick or best. `parts check` reads each format.\n",
+               FORMAT is text, csv or json: then one plan is printed, the one along an order or with a price where it is\n\
+               asked for, else the best one or, where there is none, the exact one, else the quick one; a row for each\n\
+               reference designator that an import wrote into the comments, or else for each part. PLAN is quick, best\n\
+               or exact. `parts check` reads each format.\n",
         example: "parts plan board.txt --mounted 3",
         run: commands::plan,
     },
@@ -212,7 +217,7 @@ pub const COMMANDS: [Command; 19] = [
     },
     Command {
         name: "order",
-        arguments: "LIST [--tips PLAN] [--mounted T]",
+        arguments: "LIST [--tips PLAN] [--mounted T] [--price P] [--fewest-tips]",
         does: "print the order in which the parts are placed: fine ones first, tall ones last;\n\
                with a PLAN the order by its tips, in which the head seldom changes its tip",
         more:
@@ -224,7 +229,8 @@ pub const COMMANDS: [Command; 19] = [
                Of all orders that obey, the one is printed that has the first part of the list at position 0 where it\n\
                can be, else the second, and so on; then the same for position 1.\n\
                Where no order obeys, it is told which parts stand in each other's way.\n\
-               PLAN is quick or best, and each part is on its tip there. Then a part on the tip of the part before it comes\n\
+               PLAN is quick, best or exact, and each part is on its tip there; P and --fewest-tips are for the exact\n\
+               plan, as `parts plan` has them. Then a part on the tip of the part before it comes\n\
                before any other part that may be next, at position 0 a part on tip T, which is on the head; among those\n\
                alike the first of the list. So the tip is changed only where every order that obeys and begins alike\n\
                changes it. The second line says how often it is changed in the order printed.\n",

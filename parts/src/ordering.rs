@@ -33,9 +33,10 @@ impl List {
     }
 
     /// The order by the tips of a plan, each part with its tip, or why there is none.
-    pub fn order_by_plan(&self, which: Which, mounted: Option<usize>) -> Result<String, String> {
+    pub fn order_by_plan(&self, which: Which, wish: Wish) -> Result<String, String> {
+        let mounted = wish.mounted;
         let named = Named::of_list(self.clone());
-        let plans = named.plans(Wish::mounted(mounted))?;
+        let plans = named.plans(wish)?;
         let (name, plan) = plans.chosen(which)?;
         let order = self.order_by_tips(&plan.tips, mounted)?;
         let changes = counted(plan.changes_in(&order, mounted) as u64, "change");

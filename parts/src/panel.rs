@@ -124,6 +124,7 @@ impl Boards<'_> {
         let (lines, rack) = (plans.job.lines.len(), plans.job.rack);
         let mut text = format!("panel lines {lines} rack {rack}\n{}", common_in_words(plans.common));
         text += &format!("quick {}\n{}", plans.quick.pairs, self.best_in_words(&plans));
+        text += &plans.exact_in_words(None);
         text += &self.lines(&|line| format!(" {}", plans.each(|plan| plan.tips[line])));
         text += &format!("\n{}", plans.summary());
         Ok(Merged { text, list: self.list(), file: panel.file })

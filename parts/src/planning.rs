@@ -4,7 +4,7 @@ use std::fmt::Display;
 
 use library::CommonTip;
 
-use crate::job::{job_of, list_in_words, missed_tip, Job};
+use crate::job::{job_of, list_in_words, missed_tip, named_tips, Job};
 use crate::list::List;
 use crate::renumbering::Renumbering;
 use crate::{counted, quantity_in_words, refusal, tips_in_words};
@@ -27,9 +27,17 @@ pub struct Kept {
 pub struct Wish {
     /// The tip on the head, where one is named.
     pub mounted: Option<usize>,
+    /// The price of a tip, where an exact plan is asked for.
+    pub price: Option<u32>,
     /// The order along which a plan with the fewest changes is asked for.
     pub along: Option<Along>,
 }
+
+/// A price above the most pairs that a plan has: with it an exact plan has the fewest tips.
+pub const FEWEST_TIPS: u32 = 2_096_129;
+/// The most tips that an exact plan is made for, and the refusal of more.
+pub const EXACT_TIPS: usize = 20;
+const TOO_MANY_TIPS: u32 = 35;
 
 /// An order along which a list is planned.
 #[derive(Clone, Copy, PartialEq, Eq, Debug)]
@@ -64,10 +72,11 @@ pub struct Plan {
 /// Which of the plans.
 #[derive(Clone, Copy, PartialEq, Eq, Debug)]
 pub enum Which {
-    /// The one that is asked for beside both, else the best one, else the quick one.
+    /// The one that is asked for beside both, else the best one, else the exact one, else the quick one.
     First,
     Quick,
     Best,
+    Exact,
 }
 
 impl Which {
@@ -76,7 +85,8 @@ impl Which {
         match word.to_ascii_lowercase().as_str() {
             "quick" => Ok(Which::Quick),
             "best" => Ok(Which::Best),
-            _ => Err(format!("a plan is quick or best, and not {word}")),
+            "exact" => Ok(Which::Exact),
+            _ => Err(format!("a plan is quick, best or exact, and not {word}")),
         }
     }
 }
@@ -91,6 +101,8 @@ pub struct Plans<'a> {
     pub quick: Plan,
     /// The best plan, else the first line that is no run.
     pub best: Result<Plan, usize>,
+    /// The exact plan, or why there is none, where it is asked for and where there is no best plan.
+    pub exact: Option<Result<Plan, String>>,
     /// The plan with the fewest changes along an order, where it is asked for, and which order that is.
     pub along: Option<(Plan, Along)>,
     /// The parts in the order in which they are placed, where a plan along it is asked for.
@@ -171,6 +183,12 @@ impl Named {
             })?;
         let quick = Plan { pairs, tips };
         let best = self.best(&job, mounted)?.map(|(plan, _)| plan);
+        // What is asked for and refused is told as any refusal.
+        let exact = match (wish.price, &best) {
+            (Some(price), _) => Some(Ok(self.exact(&job, mounted, price)?)),
+            (None, Err(_)) => Some(self.exact(&job, mounted, 0)),
+            (None, Ok(_)) => None,
+        };
         let placing_order = match wish.along {
             Some(Along::PlacingOrder) => Some(self.placing_order(&job)?),
             _ => None,
@@ -179,7 +197,19 @@ impl Named {
             Some(order) => Some((self.along(&job, placing_order.as_deref(), mounted)?, order)),
             None => None,
         };
-        Ok(Plans { named: self, job, mounted, common, quick, best, along, placing_order })
+        Ok(Plans { named: self, job, mounted, common, quick, best, exact, along, placing_order })
+    }
+
+    /// The exact plan with this price for a tip, or why there is none.
+    pub(crate) fn exact(&self, job: &Job, mounted: Option<usize>, price: u32) -> Result<Plan, String> {
+        let named = named_tips(job).count_ones() as usize;
+        let mut tips = vec![0; job.lines.len()];
+        let mut table = vec![0; if named > EXACT_TIPS { 0 } else { 2 << named }];
+        let planned = library::exact(&self.file, mounted, price, &mut tips, &mut table);
+        planned.map(|planned| Plan { pairs: planned.pairs, tips }).map_err(|refusal| match refusal.number {
+            TOO_MANY_TIPS => too_many_tips(named),
+            _ => self.refused(refusal),
+        })
     }
 
     /// The plan with the fewest tip changes where the parts are placed in this order, else in that of the list.
@@ -233,6 +263,7 @@ impl Named {
             Ok(best) => format!("best {}\n", best.pairs),
             Err(line) => self.no_best(&plans.job, *line),
         };
+        text += &plans.exact_in_words(wish.price);
         if let Some((along, order)) = &plans.along {
             let changes = plans.changes_along(along) as u64;
             text += &format!("along {}, {} in {}\n", along.pairs, counted(changes, "change"), order.in_words());
@@ -263,19 +294,52 @@ impl Plans<'_> {
         let called =
             |name: &str| all.iter().find(|(other, _)| *other == name).and_then(|&(name, plan)| Some((name, plan?)));
         let found = match which {
-            Which::First => ["along", "best", "quick"].into_iter().find_map(called),
+            // There is an exact plan where it is asked for, and where there is no best one.
+            Which::First => ["along", "exact", "best", "quick"].into_iter().find_map(called),
             Which::Quick => called("quick"),
             Which::Best => called("best"),
+            Which::Exact => called("exact"),
         };
-        found.ok_or_else(|| match self.best {
-            Err(line) => format!("refused 25: {}; take the quick plan", self.named.no_run(&self.job, line)),
-            Ok(_) => "there is no such plan".into(),
+        found.ok_or_else(|| match (&self.exact, &self.best) {
+            (Some(Err(why)), _) if which == Which::Exact => why.clone(),
+            (_, &Err(line)) => {
+                let instead = if called("exact").is_some() { "exact" } else { "quick" };
+                format!("refused 25: {}; take the {instead} plan", self.named.no_run(&self.job, line))
+            }
+            _ => "this plan was not asked for".into(),
         })
+    }
+
+    /// The best plan, else the exact one, with its name.
+    pub fn best_or_exact(&self) -> (&'static str, Option<&Plan>) {
+        match (&self.best, &self.exact) {
+            (Err(_), Some(Ok(exact))) => ("exact", Some(exact)),
+            (best, _) => ("best", best.as_ref().ok()),
+        }
+    }
+
+    /// The line that tells of the exact plan, where there is one, or why there is none.
+    pub(crate) fn exact_in_words(&self, price: Option<u32>) -> String {
+        let at = match price {
+            Some(price) if price >= FEWEST_TIPS => ", fewest tips".into(),
+            Some(price @ 1..) => format!(", price {price} a tip"),
+            _ => String::new(),
+        };
+        match &self.exact {
+            None => String::new(),
+            Some(Ok(exact)) => format!("exact {}{at}\n", exact.pairs),
+            Some(Err(why)) => format!("exact none, {why}\n"),
+        }
     }
 
     /// Each plan by its name.
     pub fn all(&self) -> Vec<(&'static str, Option<&Plan>)> {
-        let mut all = vec![("quick", Some(&self.quick)), ("best", self.best.as_ref().ok())];
+        let exact = self.exact.as_ref().and_then(|exact| exact.as_ref().ok());
+        let mut all = vec![("quick", Some(&self.quick))];
+        if self.best.is_ok() || exact.is_none() {
+            all.push(("best", self.best.as_ref().ok()));
+        }
+        all.extend(exact.map(|exact| ("exact", Some(exact))));
         all.extend(self.along.as_ref().map(|(along, _)| ("along", Some(along))));
         all
     }
@@ -335,6 +399,11 @@ pub(crate) fn common_in_words(common: CommonTip) -> String {
 /// The refusal of a keep whose k no plan meets.
 fn without_plan(k: u16, margin: i64) -> String {
     format!("refused 26: margin {margin}, no plan is within k {k}; the least k is {}", i64::from(k) - margin)
+}
+
+/// The refusal of an exact plan of too many tips.
+fn too_many_tips(named: usize) -> String {
+    format!("refused {TOO_MANY_TIPS}: {named} tips are named and {EXACT_TIPS} is the most; take out tips that few parts need, or split the list by tips")
 }
 
 /// The refusal of a mounted tip that the rack has not.

@@ -304,7 +304,7 @@ fn orders_are_printed() {
     assert_eq!(run(&["order", "-"], b"rack 3\nC1 : 0\nbefore C1 C4\n"), refused(why));
     let why = "-: this is a job file and no parts list; `parts show` turns it into one";
     assert_eq!(run(&["order", "-"], &EXAMPLE), refused(why));
-    let usage = "usage: parts order LIST [--tips PLAN] [--mounted T]\n`parts order --help` says more";
+    let usage = "usage: parts order LIST [--tips PLAN] [--mounted T] [--price P] [--fewest-tips]\n`parts order --help` says more";
     assert_eq!(run(&["order"], b""), wrong_argument(&format!("LIST is missing\n{usage}")));
     assert_eq!(run(&["order", "-", "-"], b""), wrong_argument(&format!("`-` is a word too many\n{usage}")));
     let text =
@@ -312,10 +312,13 @@ fn orders_are_printed() {
                  position 1 C2 tip 1\nposition 2 C1 tall tip 0\n";
     let by_tips = run(&["order", "-", "--tips", "best", "--mounted", "1"], list);
     assert_eq!(by_tips, given(text));
-    let why = "a plan is quick or best, and not 3";
+    let why = "a plan is quick, best or exact, and not 3";
     assert_eq!(run(&["order", "-", "--tips", "3"], list), wrong_argument(why));
     let why = "--mounted needs --tips and a plan; without it the tips do not count";
     assert_eq!(run(&["order", "-", "--mounted", "1"], list), wrong_argument(why));
+    let why = "a price is for the exact plan; add --tips exact";
+    assert_eq!(run(&["order", "-", "--tips", "best", "--price", "1"], list), wrong_argument(why));
+    assert_eq!(run(&["order", "-", "--fewest-tips"], list), wrong_argument(why));
 }
 
 /// The list with a quantity, and its job file, which is of version 2.
@@ -417,7 +420,7 @@ fn wrong_arguments_print_the_usage_of_their_command() {
         (&["page"], "FILE is missing", "page FILE [--keep K]"),
         (&["page", "a", "--keep"], "--keep needs K behind it", "page FILE [--keep K]"),
         (&["page", "a", "--k", "1"], "parts page has no option --k", "page FILE [--keep K]"),
-        (&["order"], "LIST is missing", "order LIST [--tips PLAN] [--mounted T]"),
+        (&["order"], "LIST is missing", "order LIST [--tips PLAN] [--mounted T] [--price P] [--fewest-tips]"),
         (&["junior", "--side", "top"], "parts junior has no option --side", "junior FILE"),
         (&["make"], "LIST is missing", "make LIST"),
         (&["make", "a", "b"], "`b` is a word too many", "make LIST"),
@@ -454,22 +457,22 @@ fn wrong_arguments_print_the_usage_of_their_command() {
         (
             &["plan"],
             "FILE is missing",
-            "plan FILE [--mounted T] [--in-order] [--in-placing-order] [--format FORMAT] [--plan PLAN]",
+            "plan FILE [--mounted T] [--price P] [--fewest-tips] [--in-order] [--in-placing-order] [--format FORMAT] [--plan PLAN]",
         ),
         (
             &["plan", "a", "b"],
             "`b` is a word too many",
-            "plan FILE [--mounted T] [--in-order] [--in-placing-order] [--format FORMAT] [--plan PLAN]",
+            "plan FILE [--mounted T] [--price P] [--fewest-tips] [--in-order] [--in-placing-order] [--format FORMAT] [--plan PLAN]",
         ),
         (
             &["plan", "a", "--mounted"],
             "--mounted needs T behind it",
-            "plan FILE [--mounted T] [--in-order] [--in-placing-order] [--format FORMAT] [--plan PLAN]",
+            "plan FILE [--mounted T] [--price P] [--fewest-tips] [--in-order] [--in-placing-order] [--format FORMAT] [--plan PLAN]",
         ),
         (
             &["plan", "a", "--mounted", "1", "--mounted", "2"],
             "--mounted stands twice; name it once",
-            "plan FILE [--mounted T] [--in-order] [--in-placing-order] [--format FORMAT] [--plan PLAN]",
+            "plan FILE [--mounted T] [--price P] [--fewest-tips] [--in-order] [--in-placing-order] [--format FORMAT] [--plan PLAN]",
         ),
         (&["picture", "a", "--mounted", "1"], "parts picture has no option --mounted", "picture FILE"),
         (&["picture"], "FILE is missing", "picture FILE"),
@@ -688,7 +691,7 @@ fn options_take_their_value_behind_a_space_or_a_sign() {
         let plan = String::from_utf8(run(words, LIST.as_bytes()).0).unwrap();
         assert!(plan.contains("\ntip 1 mounted\n"), "{words:?}: {plan}");
     }
-    let usage = "usage: parts plan FILE [--mounted T] [--in-order] [--in-placing-order] [--format FORMAT] [--plan PLAN]\n`parts plan --help` says more";
+    let usage = "usage: parts plan FILE [--mounted T] [--price P] [--fewest-tips] [--in-order] [--in-placing-order] [--format FORMAT] [--plan PLAN]\n`parts plan --help` says more";
     for (words, what) in [
         (&["plan", "-", "--force=1"][..], "--force takes nothing behind it"),
         (&["plan", "-", "--mounted=1", "--mounted=2"], "--mounted stands twice; name it once"),
@@ -828,6 +831,19 @@ fn pipe_is_written_to_as_it_is() {
 }
 
 #[test]
+fn prices_are_numbers_and_one() {
+    let exact = |words: &[&str]| String::from_utf8(run(&[&["plan", "-"], words].concat(), LIST.as_bytes()).0).unwrap();
+    assert!(exact(&["--price", "7"]).contains("\nbest 0\nexact 0, price 7 a tip\nC1 quick 0 best 0 exact 0\n"));
+    assert_eq!(exact(&["--fewest-tips"]), exact(&["--price", "4294967295"]));
+    for price in ["4294967296", "-1", "x", "", "+1"] {
+        let why = format!("a price is a number from 0 to 4294967295, and not {price}");
+        assert_eq!(run(&["plan", "-", "--price", price], LIST.as_bytes()), wrong_argument(&why));
+    }
+    let why = "--price and --fewest-tips name two prices; take one of them out";
+    assert_eq!(run(&["plan", "-", "--price", "1", "--fewest-tips"], LIST.as_bytes()), wrong_argument(why));
+}
+
+#[test]
 fn mounted_tip_is_named_before_the_file_or_behind_it() {
     let plan = "lines 2 rack 3\noff 1 tips 0 1 2\nquick 0\nbest 0\nC1 quick 0 best 0\nC2 quick 2 best 2\n\n\
                 parts on tip 0 quick 1 best 1\nparts on tip 2 quick 1 best 1\ntip 2 mounted\n\
@@ -925,7 +941,7 @@ fn lists_job_files_and_tables_are_compared() {
     let more = "rack 4\nC1 x3 height=3 fine : 0-1\nC2 height=1 : 1-2\n: 1 3\n";
     let text =
         "rack 3, then 4\nC1 tips 0, then 0-1\nC1 quantity 1, then 3\nC1 height 2, then 3\nC1 fine none, then yes\n\
-                only in the second: line 2 tips 1 3, quantity 1\n1 part the same\nquick 0, then 10\nbest 0, then none\n\
+                only in the second: line 2 tips 1 3, quantity 1\n1 part the same\nquick 0, then 10\nbest 0, then exact 10\n\
                 C1 quick on tip 0, then 1\n";
     assert_eq!(compared(LIST, more), text);
     assert_eq!(
@@ -1029,7 +1045,17 @@ fn bash_completes_commands_and_options() {
     assert_eq!(completed(&["completion", ""]), ["bash"]);
     assert_eq!(
         completed(&["plan", "a", "--"]),
-        ["--mounted", "--in-order", "--in-placing-order", "--format", "--plan", "--force", "--help"]
+        [
+            "--mounted",
+            "--price",
+            "--fewest-tips",
+            "--in-order",
+            "--in-placing-order",
+            "--format",
+            "--plan",
+            "--force",
+            "--help"
+        ]
     );
     assert_eq!(completed(&["plan", "a", "--format", ""]), ["text", "csv", "json"]);
     assert_eq!(completed(&["import", "csv", "a", "--c"]), ["--columns"]);

@@ -50,14 +50,30 @@ fn each_form_is_read_again() {
 }
 
 #[test]
-fn list_without_a_best_plan_has_its_quick_plan() {
-    let gap = || Named::of_list(List::read(b"rack 3\nA : 1\nB : 0 2\n").unwrap());
+fn list_without_a_best_plan_has_its_exact_plan() {
+    // Quick has C and D on tip 0; exact has C with A, and D with B.
+    let gap = || Named::of_list(List::read(b"rack 3\nA : 1\nB : 2\nC : 0-1\nD : 0 2\n").unwrap());
     let text = gap().exported(Format::Text, Which::First, Wish::default()).unwrap();
-    assert_eq!(text, "# the quick plan\npairs 0\nA : 1\nB : 0\n");
+    assert_eq!(text, "# the exact plan\npairs 2\nA : 1\nB : 2\nC : 1\nD : 2\n");
+    assert_eq!(gap().exported(Format::Text, Which::Exact, Wish::default()), Ok(text));
     let why =
-        "refused 25: B is no run: it lacks tip 1, which A has (with the tips in the order 0 2 1 every part is a run); \
-               take the quick plan";
+        "refused 25: D is no run: it lacks tip 1, which A has (with the tips in the order 1 0 2 every part is a run); \
+               take the exact plan";
     assert_eq!(gap().exported(Format::Csv, Which::Best, Wish::default()), Err(why.into()));
+    // With a price the exact plan is asked for.
+    let priced =
+        |which| Named::of_list(list()).exported(Format::Text, which, Wish { price: Some(1), ..Wish::default() });
+    assert!(priced(Which::First).unwrap().starts_with("# the exact plan\n"));
+    assert!(priced(Which::Best).unwrap().starts_with("# the best plan\n"));
+    // Too many tips: the quick plan.
+    let wide: String = (0..21).map(|tip| format!(": {tip}\n")).collect();
+    let wide = Named::of_list(List::read(format!("rack 21\n{wide}: 0 2\n").as_bytes()).unwrap());
+    assert!(wide.exported(Format::Text, Which::First, Wish::default()).unwrap().starts_with("# the quick plan\n"));
+    let why = wide.exported(Format::Text, Which::Exact, Wish::default()).unwrap_err();
+    assert!(why.starts_with("refused 35: 21 tips are named"), "{why}");
+    let why = wide.exported(Format::Text, Which::Best, Wish::default()).unwrap_err();
+    assert!(why.starts_with("refused 25: ") && why.ends_with("; take the quick plan"), "{why}");
+    let gap = || Named::of_list(List::read(b"rack 3\nA : 1\nB : 0 2\n").unwrap());
     let job = Named { file: gap().file, list: None };
     assert_eq!(
         job.exported(Format::Csv, Which::Quick, Wish::mounted(Some(2))).unwrap().lines().nth(2),

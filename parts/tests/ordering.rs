@@ -1,7 +1,7 @@
 //! The placing order: how parts and rules are read, what is printed, and why there is no order.
 
 use parts::list::{Before, Fault, List, What};
-use parts::planning::Which;
+use parts::planning::{Which, Wish, FEWEST_TIPS};
 
 fn list_of(text: &str) -> List {
     List::read(text.as_bytes()).unwrap_or_else(|faults| panic!("{text:?}: {faults:?}"))
@@ -39,7 +39,7 @@ const MIXED: &str = "rack 3\nJ1 tall : 2\nR1 : 0\nC1 : 1\nR2 : 0\nC2 : 1\nU1 fin
 
 #[test]
 fn order_by_tips_is_printed_with_them() {
-    let by_tips = |list: &str, which, mounted| list_of(list).order_by_plan(which, mounted);
+    let by_tips = |list: &str, which, mounted| list_of(list).order_by_plan(which, Wish::mounted(mounted));
     let text = "parts 6 rules 1\ntips of the quick plan, 2 changes in this order\nposition 0 U1 fine tip 1\n\
                 position 1 C1 tip 1\nposition 2 C2 tip 1\nposition 3 R1 tip 0\nposition 4 R2 tip 0\n\
                 position 5 J1 tall tip 2\n";
@@ -53,7 +53,14 @@ fn order_by_tips_is_printed_with_them() {
         Ok("parts 0 rules 0\ntips of the best plan, 0 changes in this order\n".into())
     );
     let why = by_tips("rack 3\nA : 1\nB : 0 2\n", Which::Best, None).unwrap_err();
-    assert!(why.starts_with("refused 25: B is no run") && why.ends_with("; take the quick plan"), "{why}");
+    assert!(why.starts_with("refused 25: B is no run") && why.ends_with("; take the exact plan"), "{why}");
+    // Exact has A and B1 on tip 0 with the fewest tips, and B1 on tip 1 without a price.
+    let list = list_of("rack 3\nA : 0\nB1 : 0-1\nB2 : 0-1\nB3 : 0-1\nC1 : 1-2\nC2 : 1-2\nC3 : 1-2\nD : 2\n");
+    let second = |price| list.order_by_plan(Which::Exact, Wish { price: Some(price), ..Wish::default() }).unwrap();
+    assert!(second(FEWEST_TIPS)
+        .contains("\ntips of the exact plan, 1 change in this order\nposition 0 A tip 0\nposition 1 B1 tip 0\n"));
+    assert!(second(0)
+        .contains("\ntips of the exact plan, 2 changes in this order\nposition 0 A tip 0\nposition 1 B1 tip 1\n"));
     let round = "rack 1\nA : 0\nB : 0\nbefore A B\nbefore B A\n";
     assert_eq!(by_tips(round, Which::Quick, None), order(round));
 }

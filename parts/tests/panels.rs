@@ -48,7 +48,7 @@ fn lines_that_are_no_runs_are_named_with_their_board() {
     // Alone the second board's line is a run; the first board names the tip that it lacks.
     let text = panel_of("rack 3\nA : 1\n", "rack 3\nA : 0 2\n").merged.unwrap().text;
     assert!(text.contains("best none, second A is no run: it lacks tip 1, which first A has (with the tips in the order 0 2 1 every part is a run)\n"), "{text}");
-    assert!(text.contains("\nsecond A alone 0 quick 0 best -\n"), "{text}");
+    assert!(text.contains("\nexact 0\n") && text.contains("\nsecond A alone 0 quick 0 exact 0\n"), "{text}");
 }
 
 #[test]

@@ -3,7 +3,7 @@
 use parts::changes::tip_by_tip;
 use parts::job::{list_in_words, Job};
 use parts::list::List;
-use parts::planning::{Along, Named, Wish};
+use parts::planning::{Along, Named, Wish, FEWEST_TIPS};
 
 fn named(text: &str) -> Named {
     let list = List::read(text.as_bytes()).unwrap_or_else(|faults| panic!("{text:?}: {faults:?}"));
@@ -102,15 +102,54 @@ fn plan_names_both_tips_and_sums_up() {
 }
 
 #[test]
-fn plan_names_the_line_that_is_no_run() {
+fn plan_names_the_line_that_is_no_run_and_has_the_exact_plan_beside_quick() {
+    // Exact has C with A on tip 1 and D with B on tip 2, where quick has C and D on tip 0.
     let text =
-        "lines 4 rack 3\noff 2 tips 0 1 2\nquick 1\nbest none, D is no run: it lacks tip 1, which A has (with the tips in the order 1 0 2 every part is a run)\nA quick 1 best -\nB quick 2 best -\n\
-         C quick 0 best -\nD quick 0 best -\n\n\
-         parts on tip 0 quick 2 best -\nparts on tip 1 quick 1 best -\nparts on tip 2 quick 1 best -\n\
+        "lines 4 rack 3\noff 2 tips 0 1 2\nquick 1\nbest none, D is no run: it lacks tip 1, which A has (with the tips in the order 1 0 2 every part is a run)\n\
+         exact 2\nA quick 1 exact 1\nB quick 2 exact 2\nC quick 0 exact 1\nD quick 0 exact 2\n\n\
+         parts on tip 0 quick 2 exact 0\nparts on tip 1 quick 1 exact 2\nparts on tip 2 quick 1 exact 2\n\
          plan   pairs  tips  changes in the list's order  changes in the order by tips\n\
          quick      1     3                            2                             2\n\
-         best       -     -                            -                             -\n";
+         exact      2     2                            3                             1\n";
     assert_eq!(named("rack 3\nA : 1\nB : 2\nC : 0-1\nD : 0 2\n").plan(Wish::default()), Ok(text.into()));
+}
+
+/// The most pairs are on three tips, 15. Two tips would do, with 12.
+const TWO_WOULD_DO: &str = "rack 3\nA : 0\nB1 : 0-1\nB2 : 0-1\nB3 : 0-1\nC1 : 1-2\nC2 : 1-2\nC3 : 1-2\nD : 2\n";
+
+#[test]
+fn exact_plan_goes_by_the_price_of_a_tip() {
+    let board = named(TWO_WOULD_DO);
+    let plan = |mounted, price| board.plan(Wish { mounted, price: Some(price), along: None }).unwrap();
+    let fewest = plan(None, FEWEST_TIPS);
+    assert!(fewest.contains("\nbest 15\nexact 12, fewest tips\nA quick 0 best 0 exact 0\nB1 quick 1 best 1 exact 0\n"));
+    assert_eq!(numbers(&fewest, "exact"), ["12", "2", "1", "1"]);
+    assert_eq!(numbers(&fewest, "best"), ["15", "3", "2", "2"]);
+    // 15 less 3 · 2 is more than 12 less 2 · 2; with a price of 3 both are 6, and tip 0 or the mounted one is taken first.
+    assert!(plan(None, 2).contains("\nexact 15, price 2 a tip\n"));
+    assert!(plan(None, 3).contains("\nexact 12, price 3 a tip\n"));
+    assert_eq!(numbers(&plan(Some(1), 3), "exact"), ["15", "3", "3", "2"]);
+    assert_eq!(numbers(&plan(Some(1), 4), "exact"), ["12", "2", "2", "2"]);
+    assert!(plan(None, 0).contains("\nexact 15\n"));
+    assert!(plan(None, FEWEST_TIPS - 1).contains("\nexact 12, price 2096128 a tip\n"));
+    assert!(plan(None, u32::MAX).contains("\nexact 12, fewest tips\n"));
+}
+
+/// A part for each tip of this many, and one for tips 0 and 2, which is no run.
+fn wide(tips: usize) -> String {
+    let parts: String = (0..tips).map(|tip| format!(": {tip}\n")).collect();
+    format!("rack 64\n{parts}: 0 2\n")
+}
+
+#[test]
+fn exact_plan_of_too_many_tips_is_refused() {
+    let exact = |tips, price| named(&wide(tips)).plan(Wish { price, ..Wish::default() });
+    assert!(exact(20, None).unwrap().contains("\nexact 1\nline 0 quick 0 exact 0\n"));
+    let why = "refused 35: 21 tips are named and 20 is the most; take out tips that few parts need, or split the list by tips";
+    let plan = exact(21, None).unwrap();
+    assert!(plan.contains(&format!("\nexact none, {why}\nline 0 quick 0 best -\n")), "{plan}");
+    assert_eq!(numbers(&plan, "best"), ["-"; 4]);
+    assert_eq!(exact(21, Some(0)), Err(why.into()));
 }
 
 #[test]
@@ -130,7 +169,7 @@ fn tip_that_no_part_has_may_be_missing() {
         (": 0-1\n: 0 4\n", "line 5 is no run: it lacks tip 1, which line 4 has (with the tips in the order 1 0 4 2 every part is a run)"),
     ] {
         let plan = named(&(board.to_string() + more)).plan(Wish::default()).unwrap();
-        assert!(plan.contains(&format!("\nbest none, {why}\nA quick 4 best -\n")), "{plan}");
+        assert!(plan.contains(&format!("\nbest none, {why}\nexact ")), "{plan}");
     }
 }
 
@@ -185,14 +224,12 @@ fn summary_counts_the_tips_of_either_plan() {
                     quick     11     3                            2                             2\n\
                     best      12     2                            1                             1\n";
     assert_eq!(summary_of(board), expected);
-    // The most pairs are on three tips, although two would do, with 12 pairs.
-    let board = "rack 3\nA : 0\nB1 : 0-1\nB2 : 0-1\nB3 : 0-1\nC1 : 1-2\nC2 : 1-2\nC3 : 1-2\nD : 2\n";
     let expected = "parts on tip 0 quick 1 best 1\nparts on tip 1 quick 6 best 6\n\
                     parts on tip 2 quick 1 best 1\n\
                     plan   pairs  tips  changes in the list's order  changes in the order by tips\n\
                     quick     15     3                            2                             2\n\
                     best      15     3                            2                             2\n";
-    assert_eq!(summary_of(board), expected);
+    assert_eq!(summary_of(TWO_WOULD_DO), expected);
 }
 
 /// The numbers of a plan in the table at the end, behind its name: pairs, tips, and the changes in each order.
@@ -218,11 +255,10 @@ fn mounted_tip_wins_a_tie_and_is_changed_where_the_first_part_is_on_another() {
     assert_eq!(numbers(&plan, "quick"), ["0", "2", "2", "2"]);
     let plan = named("rack 3\n").plan(Wish::mounted(Some(1))).unwrap();
     assert_eq!(numbers(&plan, "best"), ["0", "0", "0", "0"]);
-    // Without a best plan there is no number for it.
+    // The exact plan takes the mounted tip too.
     let plan = named("rack 3\nA : 1\nB : 0 2\n").plan(Wish::mounted(Some(2))).unwrap();
-    assert!(plan.contains("\nA quick 1 best -\nB quick 2 best -\n"), "{plan}");
-    assert_eq!(numbers(&plan, "quick"), ["0", "2", "2", "1"]);
-    assert_eq!(numbers(&plan, "best"), ["-", "-", "-", "-"]);
+    assert!(plan.contains("\nA quick 1 exact 1\nB quick 2 exact 2\n"), "{plan}");
+    assert_eq!(numbers(&plan, "exact"), ["0", "2", "2", "1"]);
 }
 
 /// In the order of the list A and B can share tip 1, then C and D tip 0. Quick and best have A, C and D on tip 0.
@@ -230,7 +266,7 @@ const BETWEEN: &str = "rack 3\nA : 0-1\nB : 1-2\nC : 0\nD : 0-1\n";
 
 #[test]
 fn plan_along_the_list_has_fewer_changes() {
-    let along = |mounted| named(BETWEEN).plan(Wish { mounted, along: Some(Along::List) }).unwrap();
+    let along = |mounted| named(BETWEEN).plan(Wish { mounted, along: Some(Along::List), ..Wish::default() }).unwrap();
     let text = "lines 4 rack 3\noff 1 tips 0 1\nquick 3\nbest 3\nalong 2, 1 change in the list's order\n\
                 A quick 0 best 0 along 1\nB quick 1 best 1 along 1\nC quick 0 best 0 along 0\n\
                 D quick 0 best 0 along 0\n\n\
@@ -249,7 +285,7 @@ fn plan_along_the_list_has_fewer_changes() {
 fn plan_along_the_placing_order_has_fewer_changes_there() {
     // D, A and B can share tip 1, and C is on tip 0; in the order of the list that is tip 1, 1, 0 and 1.
     let board = named(&BETWEEN.replace("D :", "D fine :"));
-    let plan = board.plan(Wish { mounted: None, along: Some(Along::PlacingOrder) }).unwrap();
+    let plan = board.plan(Wish { along: Some(Along::PlacingOrder), ..Wish::default() }).unwrap();
     assert!(plan.contains("\nalong 3, 1 change in the placing order\nA quick 0 best 0 along 1\n"), "{plan}");
     let heads = "\nplan   pairs  tips  changes in the list's order  changes in the placing order  changes in the order by tips\n";
     assert!(plan.contains(heads), "{plan}");
@@ -257,9 +293,9 @@ fn plan_along_the_placing_order_has_fewer_changes_there() {
     assert_eq!(numbers(&plan, "quick"), ["3", "2", "2", "2", "1"]);
     assert_eq!(numbers(&plan, "along"), ["3", "2", "2", "1", "1"]);
     let round = named("rack 1\nA fine tall : 0\nB : 0\nbefore A B\n");
-    let why = round.plan(Wish { mounted: None, along: Some(Along::PlacingOrder) }).unwrap_err();
+    let why = round.plan(Wish { along: Some(Along::PlacingOrder), ..Wish::default() }).unwrap_err();
     assert!(why.starts_with("refused 29: no order obeys: A before B (rule on line 4)"), "{why}");
-    assert!(round.plan(Wish { mounted: None, along: Some(Along::List) }).is_ok());
+    assert!(round.plan(Wish { along: Some(Along::List), ..Wish::default() }).is_ok());
 }
 
 /// Each part has one tip. By tips U1, C1, C2, R1, R2 and J1; without their tips U1, C1, R1, R2, C2 and J1.
@@ -267,7 +303,7 @@ const MIXED: &str = "rack 3\nJ1 tall : 2\nR1 : 0\nC1 : 1\nR2 : 0\nC2 : 1\nU1 fin
 
 #[test]
 fn changes_are_those_of_the_order_that_the_list_allows() {
-    let placed = Wish { mounted: None, along: Some(Along::PlacingOrder) };
+    let placed = Wish { along: Some(Along::PlacingOrder), ..Wish::default() };
     assert_eq!(numbers(&named(MIXED).plan(placed).unwrap(), "best"), ["4", "3", "4", "3", "2"]);
     // U1 is first whatever is mounted.
     let plan = |list: &str, mounted| named(list).plan(Wish::mounted(mounted)).unwrap();
