@@ -201,7 +201,7 @@ impl Named {
     }
 
     /// The exact plan with this price for a tip, or why there is none.
-    pub(crate) fn exact(&self, job: &Job, mounted: Option<usize>, price: u32) -> Result<Plan, String> {
+    pub fn exact(&self, job: &Job, mounted: Option<usize>, price: u32) -> Result<Plan, String> {
         let named = named_tips(job).count_ones() as usize;
         let mut tips = vec![0; job.lines.len()];
         let mut table = vec![0; if named > EXACT_TIPS { 0 } else { 2 << named }];
@@ -255,7 +255,11 @@ impl Named {
 
     /// The plans line by line, and a summary.
     pub fn plan(&self, wish: Wish) -> Result<String, String> {
-        let plans = self.plans(wish)?;
+        Ok(self.in_words(&self.plans(wish)?, wish.price))
+    }
+
+    /// These plans line by line, the exact one with this price, and a summary.
+    pub fn in_words(&self, plans: &Plans, price: Option<u32>) -> String {
         let lines = plans.job.lines.len();
         let mut text = format!("lines {lines} rack {}\n{}", plans.job.rack, common_in_words(plans.common));
         text += &format!("quick {}\n", plans.quick.pairs);
@@ -263,7 +267,7 @@ impl Named {
             Ok(best) => format!("best {}\n", best.pairs),
             Err(line) => self.no_best(&plans.job, *line),
         };
-        text += &plans.exact_in_words(wish.price);
+        text += &plans.exact_in_words(price);
         if let Some((along, order)) = &plans.along {
             let changes = plans.changes_along(along) as u64;
             text += &format!("along {}, {} in {}\n", along.pairs, counted(changes, "change"), order.in_words());
@@ -271,7 +275,7 @@ impl Named {
         for line in 0..lines {
             text += &format!("{} {}\n", self.label_in(&plans.job, line), plans.each(|plan| plan.tips[line]));
         }
-        Ok(text + "\n" + &plans.summary())
+        text + "\n" + &plans.summary()
     }
 }
 
