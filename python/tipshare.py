@@ -96,12 +96,12 @@ _library = _load()
 
 
 def _lent(kind, count):
-    """An array of so many places; never without a place, so that its address is good."""
+    """An array with this many places, at least one, so that its address is good."""
     return (kind * max(count, 1))()
 
 
 def _given(data):
-    """Bytes to be read, with their number. They are copied, for a call may not see them change."""
+    """Bytes to be read, with their number. They are copied, because they may not change during a call."""
     if isinstance(data, int):
         # bytes(5) would be five zeros.
         raise TypeError(f"{data} is a number and no bytes; give the bytes of a job file, as job() makes them")
@@ -118,7 +118,7 @@ def _in_range(what, value, most):
 
 
 def _mounted(tip):
-    # The number that stands for no tip in C is no tip here.
+    # C's number for no tip is no tip here.
     return _NO_TIP if tip is None else _in_range("the mounted tip", tip, _NO_TIP - 1)
 
 
@@ -162,7 +162,7 @@ def read(file):
 
 
 def common(file):
-    """The most placements that one tip can take, the least number off it, and the tips that can take so many."""
+    """The most placements that one tip can take, the least number off it, and the tips that can take that many."""
     answer = _call("common", *_given(file))
     return answer[1], answer[2], [tip for tip in range(MOST_TIPS) if answer[3] >> tip & 1]
 
@@ -175,7 +175,7 @@ def keep(file, k):
 
 
 def goal(file, pairs):
-    """The job file without the tips that no plan with so many pairs uses."""
+    """The job file without the tips that no plan with at least this many pairs uses."""
     out = _lent(ctypes.c_uint8, LONGEST_FILE)
     answer = _call("goal", *_given(file), _in_range("the goal", pairs, 2**32 - 1), out, len(out))
     return bytes(out[: answer[1]])

@@ -1,10 +1,10 @@
 """The stored edits of the crates: wrong programs that the prover must refuse.
 
 A file crates/CRATE/must-fail/NAME.edit or crates/CRATE/mutants/NAME.edit is one edit, called NAME: after a line
-`file: PATH` each pair of lines `old: TEXT` and `new: TEXT` replaces a text that stands in the file exactly once. A file
-may hold several edits, each begun by the two lines `wrong: LABEL` and `refused: FUNCTION`. Each is of another function,
-and no proof of one function looks into another, so that one check of the crate tells for each whether it is refused: the
-function has an error of its own.
+`file: PATH` each pair of lines `old: TEXT` and `new: TEXT` replaces a text that is in the file exactly once. A file may hold
+several edits, each begun by the two lines `wrong: LABEL` and `refused: FUNCTION`. Each is of another function, and no proof
+of one function looks into another, so one check of the crate shows for each whether it is refused: the function has an error
+of its own.
 """
 
 import contextlib

@@ -18,8 +18,8 @@
 //! ```
 //!
 //! The crate links `target/staticlib/libtipshare_c.a` of this repository, which `make` proves and builds, or the file that
-//! the environment variable `TIPSHARE_LIB` names, as the `libtipshare.a` of an installation. It is for x86-64 Linux. What
-//! stands between a caller and that library, this file, is not proved.
+//! the environment variable `TIPSHARE_LIB` names, as the `libtipshare.a` of an installation. It is for x86-64 Linux. This
+//! file, which is between a caller and that library, is not proved.
 
 use std::fmt;
 
@@ -30,17 +30,17 @@ const WORDS: &str = include_str!("../words.txt");
 
 /// The places of an answer.
 pub const ANSWER_PLACES: usize = 4;
-/// The bytes that a report needs lent.
+/// The bytes that the buffer of a report needs.
 pub const REPORT_SPACE: usize = 16_384;
 /// The largest rack that is planned for the Junior.
 pub const JUNIOR_TIPS: usize = 8;
 /// The most lines that are planned for the Junior.
 pub const JUNIOR_LINES: usize = 64;
-/// The longest good job file: an output of keep, goal, merge or mend that always does.
+/// The longest good job file: an output of keep, goal, merge or mend that is always enough.
 pub const LONGEST_FILE: usize = 4_616;
-/// The longest report of a mending: one that always does.
+/// The longest report of a mending: a buffer that is always enough.
 pub const LONGEST_CHANGES: usize = 3_081;
-/// The mounted tip of the functions of the header where there is none.
+/// The mounted tip of the header's functions for no tip.
 pub const NO_TIP: usize = usize::MAX;
 /// The most parts to order: an order buffer, or one of positions, that always does.
 pub const MOST_PARTS: usize = 128;
@@ -50,7 +50,7 @@ pub const MOST_PARTS: usize = 128;
 pub struct Refusal {
     pub number: u32,
     /// The line that it is about, for 2, 3, 15, 25 and 30, the part for 12, and for 3 of an order by tips, and the rule for
-    /// 13. Of two files it does not tell which; 0 for the 30 of a panel.
+    /// 13. It does not say which of two files is meant; 0 for the 30 of a panel.
     pub line: u64,
     /// How far the bound is missed, for 26.
     pub margin: i64,
@@ -92,9 +92,8 @@ pub fn words(number: u32) -> &'static str {
     row.map_or("unknown number", |(_, words)| words)
 }
 
-/// The job file of lines, each a set of tips, bit t for tip t, and a quantity: of version 1 where every quantity is 1,
-/// else of version 2. Nothing is checked, so that the calls may refuse it; more than 512 lines, whatever their number,
-/// are refused.
+/// The job file of lines, each a set of tips, bit t for tip t, and a quantity: of version 1 if every quantity is 1, else
+/// of version 2. Nothing is checked here: the calls refuse what is wrong, more than 512 lines among it.
 ///
 /// ```
 /// let file = tipshare::job_file(3, &[(0b001, 1), (0b110, 1)]);
@@ -144,7 +143,7 @@ pub struct Kept {
     pub bytes: u64,
 }
 
-/// A plan of the Junior: its pairs of placements, and its two tips, which are equal where one serves every line.
+/// A plan of the Junior: its pairs of placements, and its two tips, which are equal if one serves every line.
 #[derive(Clone, Copy, PartialEq, Eq, Debug)]
 pub struct Junior {
     pub pairs: u64,
@@ -185,7 +184,7 @@ pub fn common(file: &[u8]) -> Result<CommonTip, Refusal> {
     Ok(CommonTip { top: answer[1], off: answer[2], tips: answer[3] })
 }
 
-/// Keeps within k and writes the kept board to out, as version 1 where every quantity is 1.
+/// Keeps within k and writes the kept board to out, as version 1 if every quantity is 1.
 ///
 /// ```
 /// let file = tipshare::job_file(3, &[(0b001, 1), (0b011, 1), (0b110, 1), (0b010, 1)]);
@@ -201,8 +200,8 @@ pub fn keep(file: &[u8], k: u16, out: &mut [u8]) -> Result<Kept, Refusal> {
     Ok(Kept { margin: answer[1] as i64, bytes: answer[2] })
 }
 
-/// Keeps, of lines that are runs, the tips that some plan with so many pairs uses, and writes the kept board to out, as
-/// version 1 where every quantity is 1; gives the number of bytes written.
+/// Strikes from lines that are runs the tips that no plan with at least this many pairs uses, and writes what is left to
+/// out, as version 1 if every quantity is 1; returns the number of bytes written.
 ///
 /// ```
 /// let file = tipshare::job_file(2, &[(0b01, 1), (0b11, 1)]);
@@ -215,12 +214,12 @@ pub fn goal(file: &[u8], goal: u32, out: &mut [u8]) -> Result<u64, Refusal> {
     Ok(answer_of(|answer| on_slices::goal(file, goal, out, answer))?[1])
 }
 
-/// The mounted tip as the header has it; the number that stands for none there is no tip here.
+/// The mounted tip as the header has it; the header's number for none is no tip here.
 fn number_of(mounted: Option<usize>) -> usize {
     mounted.map_or(NO_TIP, |tip| tip.min(NO_TIP - 1))
 }
 
-/// Plans by rounds, with the mounted tip first on a tie; gives the number of pairs of placements.
+/// Plans by rounds, with the mounted tip first on a tie; returns the number of pairs of placements.
 ///
 /// ```
 /// let file = tipshare::job_file(3, &[(0b001, 1), (0b110, 1)]);
@@ -233,7 +232,7 @@ pub fn quick(file: &[u8], mounted: Option<usize>, plan: &mut [u8]) -> Result<u64
 }
 
 /// Plans lines that are runs of the tips which some line has, with the most pairs of placements, and with the mounted tip
-/// first on a tie; gives the number of pairs.
+/// first on a tie; returns the number of pairs.
 ///
 /// ```
 /// let file = tipshare::job_file(3, &[(0b001, 2), (0b011, 3), (0b110, 3), (0b100, 2)]);
@@ -282,7 +281,7 @@ pub fn check(file: &[u8], plan: &[u8], claim: u32, table: &[u32]) -> Result<(), 
     Ok(())
 }
 
-/// Plans for the Junior, with one tip or two and the most pairs of placements of all such plans.
+/// Plans for the Junior, with one tip or two; no plan on one tip or two has more pairs of placements.
 ///
 /// ```
 /// let file = tipshare::job_file(3, &[(0b100, 1), (0b110, 1)]);
@@ -295,7 +294,7 @@ pub fn junior(file: &[u8], plan: &mut [u8]) -> Result<Junior, Refusal> {
 }
 
 /// Merges two boards of one rack and writes the panel to out, the lines of the first and then those of the second, as
-/// version 1 where every quantity is 1; gives the number of bytes.
+/// version 1 if every quantity is 1; returns the number of bytes.
 ///
 /// ```
 /// let file = tipshare::job_file(3, &[(0b001, 1)]);
@@ -307,8 +306,8 @@ pub fn merge(first: &[u8], second: &[u8], out: &mut [u8]) -> Result<u64, Refusal
     Ok(answer_of(|answer| on_slices::merge(first, second, out, answer))?[1])
 }
 
-/// Plans each of two boards alone by rounds; gives the pairs of placements in both plans, the second of which stands in
-/// the buffer behind the first.
+/// Plans each of two boards alone by rounds, the second plan after the first in the buffer; returns the pairs of placements
+/// of both.
 ///
 /// ```
 /// let (first, second) = (tipshare::job_file(3, &[(0b001, 2)]), tipshare::job_file(5, &[(0b10000, 1)]));
@@ -328,7 +327,7 @@ pub struct Mended {
     pub report: u64,
 }
 
-/// Mends a file whose first 8 bytes are good but for the count: writes a good file to out, and to the report three bytes
+/// Mends a file whose first 8 bytes are good, except for the count: writes a good file to out, and to the report three bytes
 /// for each change.
 ///
 /// ```

@@ -209,8 +209,8 @@ fn two_boards_on_one_panel() {
     other[23] = 0;
     assert_eq!(merge(&EXAMPLE, &other, &mut out), Err(refused(2, 1, 0)));
     assert_eq!(alone(&EXAMPLE[..7], &other, &mut plan), Err(refused(6, 0, 0)));
-    assert_eq!(refused(30, 0, 0).to_string(), "refused 30: the placements pass 2048");
-    assert_eq!(refused(30, 8, 0).to_string(), "refused 30: the placements pass 2048, line 8");
+    assert_eq!(refused(30, 0, 0).to_string(), "refused 30: there are over 2048 placements");
+    assert_eq!(refused(30, 8, 0).to_string(), "refused 30: there are over 2048 placements, line 8");
 }
 
 #[test]
@@ -258,7 +258,7 @@ fn refusals_of_quantities_carry_the_line() {
         passing.extend(b"\x00\x00\x00\x00\x00\x00\x00\x01\xFF");
     }
     assert_eq!(common(&passing), Err(refused(30, 8, 0)));
-    assert_eq!(refused(30, 8, 0).to_string(), "refused 30: the placements pass 2048, line 8");
+    assert_eq!(refused(30, 8, 0).to_string(), "refused 30: there are over 2048 placements, line 8");
 }
 
 #[test]

@@ -53,8 +53,8 @@ fn refusals_carry_part_and_rule() {
     let told = |answer: Result<u64, Refusal>| answer.map_err(|refusal| refusal.to_string());
     assert_eq!(
         told(refused(12, 1)),
-        Err("refused 12: there are over 128 parts, or the positions of a part are not good, part 1".into())
+        Err("refused 12: there are over 128 parts, or the positions of a part are wrong, part 1".into())
     );
     assert_eq!(told(refused(13, 7)), Err("refused 13: a rule does not name two parts, rule 7".into()));
-    assert_eq!(told(refused(29, 0)), Err("refused 29: no order obeys".into()));
+    assert_eq!(told(refused(29, 0)), Err("refused 29: no placing order satisfies all rules".into()));
 }

@@ -65,7 +65,7 @@ impl fmt::Display for What {
             What::UnknownTip(words) => write!(to, "`{words}` is no tip; write one number after the colon"),
             What::UnknownPart(name) => write!(to, "the list has no part {name}; take it out, or correct its name"),
             What::PartAgain { name, line } => {
-                write!(to, "{name} stands on line {line} already; give each part one tip")
+                write!(to, "{name} is on line {line} already; give each part one tip")
             }
             What::TooManyWithoutName => write!(to, "the list has no more parts without a name; take this one out"),
             What::NoTip(part) => write!(to, "no tip for {part}; give every part of the list one"),

@@ -27,11 +27,11 @@ pub const COMMANDS: [Command; 19] = [
         does: "print the parts list of a KiCad position file, CSV or text",
         more: "Placements of equal package and value are one part, with its quantity; it is named by its first reference.\n\
                Package, value and references are its comment.\n\
-               TABLE is a parts list with patterns for names, as R_0402* height=0.4 : 0-1, for the packages. A * stands\n\
-               for any letters, a ? for one. The first row that matches counts; its columns, fine, tall and at= stand in\n\
-               the list. A line `skip Fiducial*` leaves packages out, `skip value DNP` values. Where no row matches a\n\
-               package, all such packages are told, and nothing is printed.\n\
-               SIDE is top, bottom or both; it may be left out where the file is of one side.\n\
+               TABLE is a parts list with patterns for names, as R_0402* height=0.4 : 0-1, for the packages. A * matches\n\
+               any letters, a ? matches one. The first row that matches counts; its columns, fine, tall and at= go to\n\
+               the list. A line `skip Fiducial*` leaves packages out, `skip value DNP` values. If no row matches a\n\
+               package, it prints all these packages, and no list.\n\
+               SIDE is top, bottom or both; it may be left out if the file has one side.\n\
                --start-table prints a table to begin with instead, a row for each package; with TABLE the rows that it\n\
                lacks. Then TABLE may be left out.\n",
         example: "parts import kicad board-top.csv --tips tips.txt > board.txt",
@@ -77,7 +77,7 @@ pub const COMMANDS: [Command; 19] = [
         arguments: "JOB",
         does: "print a job file as a parts list",
         more: "A job file has no names: each part is named by its line number, counted from 0.\n\
-               A quantity other than 1 stands behind it, as in 0 x10 : 0-1.\n",
+               A quantity other than 1 follows it, as in 0 x10 : 0-1.\n",
         example: "parts show board.job > shown.txt",
         run: commands::show,
     },
@@ -153,13 +153,13 @@ pub const COMMANDS: [Command; 19] = [
         does: "check a plan from other software, and compare its pairs with the best plan's;\n\
                PLAN is a text with its pairs and a tip for each part, and may have a table",
         more:
-            "As text, PLAN begins with `pairs N`, the number of pairs that it is said to have. Then each part stands\n\
-               on a line with its tip, as C1 : 3, in any order; : 3 is for the next part without a name. Below a line `table`\n\
-               its table may follow: for a rack of M, M rows of M numbers.\n\
+            "As text, PLAN begins with `pairs N`, the number of pairs that it claims. Then each part has a line with its\n\
+               tip, as C1 : 3, in any order; : 3 is for the next part without a name. Below a line `table` its table may\n\
+               follow: for a rack of M, M rows of M numbers.\n\
                Each part must be on a tip of its own, the pairs must be those of the plan, and the table must show\n\
-               that no plan has more. Without a table only the first two are checked, which is said.\n\
+               that no plan has more. Without a table it checks only the first two, and says so.\n\
                As CSV, PLAN has a column tip and a column reference or part, as JSON a list `placements` with them. A\n\
-               reference is one that stands in the comment of a part, as an import writes it.\n",
+               reference is one in the comment of a part, as an import writes it.\n",
         example: "parts check board.txt plan.txt",
         run: commands::check,
     },
@@ -206,10 +206,11 @@ pub const COMMANDS: [Command; 19] = [
         arguments: "JOB OUT",
         does: "mend a job file that came back damaged, write what is left of it as the job file OUT,\n\
                and print each change with its line",
-        more: "The first 8 bytes must name the mark, the version and the rack size well; the rest may be anything.\n\
-               Tips outside the rack are cleared, lines without a tip are dropped, a quantity of 0 becomes 1, and the\n\
-               first line with more than 2,048 placements is dropped with all after it. Lines that are missing and\n\
-               bytes that follow are told. Where parts are lost, it says how many, and the exit status is 3. Line numbers are those of JOB, counted from 0.\n\
+        more: "Mark, version and rack size in the first 8 bytes must be good; the rest may be anything.\n\
+               It clears tips outside the rack, drops lines without a tip, makes a quantity of 0 a 1, and drops the\n\
+               first line with which there are over 2,048 placements, with all after it. It also reports missing lines\n\
+               and bytes that follow. If parts are lost, it prints how many and exits 3. Line numbers are those of JOB,\n\
+               counted from 0.\n\
                OUT is of the same version, every command takes it, and mending it again changes nothing. OUT replaces\n\
                a job file of its name, another file only with --force, and never JOB.\n",
         example: "parts mend card.job mended.job && parts plan mended.job",
@@ -252,7 +253,7 @@ pub const COMMANDS: [Command; 19] = [
         name: "picture",
         arguments: "FILE",
         does: "print a drawing of both plans, parts against tips, as SVG",
-        more: "Beside the name of each part stand its quantity, where that is not 1, and the comment behind it.\n",
+        more: "Beside the name of each part are its quantity, if that is not 1, and its comment.\n",
         example: "parts picture board.txt > board.svg",
         run: commands::picture,
     },
@@ -262,7 +263,7 @@ pub const COMMANDS: [Command; 19] = [
         does: "print a page with the drawing of both plans and of the tips that a keep leaves,\n\
                a table of the parts, and tips used and changes, as HTML",
         more: "The page needs no network and prints well; a click on the name of a column sorts by it.\n\
-               K is the bound of the keep, the least one where it is left out. What is refused is told on the page.\n",
+               K is the bound of the keep; without it the least one. The page says what is refused, and why.\n",
         example: "parts page board.txt > plan.html",
         run: commands::page,
     },

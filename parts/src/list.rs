@@ -155,7 +155,7 @@ impl fmt::Display for What {
                 write!(to, "{total} placements with this part; a list has {MOST_PLACEMENTS} at most, split it")
             }
             What::NameAgain { name, line } => {
-                write!(to, "the name {name} stands on line {line} already; give each part its own name")
+                write!(to, "the name {name} is on line {line} already; give each part its own name")
             }
             What::UnknownTip(word) => {
                 write!(to, "unknown word `{word}`; write tips as numbers and ranges with spaces between, as 0 2 4-6")

@@ -100,7 +100,7 @@ fn mistakes_in_a_plan_are_told() {
         "4: `x` is no tip; write one number after the colon",
     ];
     assert_eq!(told(&csv.replace("R2,R1", "R9,R1").replace("R3,R1,1,best,1", "R3,R1,1,best,x")), why);
-    assert_eq!(told(&csv.replace("R2,R1", "R1,R1")), ["3: R1 stands on line 2 already; give each part one tip"]);
+    assert_eq!(told(&csv.replace("R2,R1", "R1,R1")), ["3: R1 is on line 2 already; give each part one tip"]);
     assert_eq!(told("{\"placements\": [{\"part\": \"R1\"}]}"), ["1: `` is no tip; write one number after the colon"]);
     assert_eq!(told("{\n\"placements\": ["), ["2: the file is cut; copy it again"]);
     assert_eq!(told("{}"), ["1: no tip for R1; give every part of the list one"]);

@@ -276,7 +276,7 @@ fn every_fault_says_what_to_do() {
         ),
         (What::QuantityAgain("x3".into()), "a second quantity `x3`; give each part one"),
         (What::TooManyPlacements(2049), "2049 placements with this part; a list has 2048 at most, split it"),
-        (What::NameAgain { name: name(), line: 7 }, "the name x stands on line 7 already; give each part its own name"),
+        (What::NameAgain { name: name(), line: 7 }, "the name x is on line 7 already; give each part its own name"),
         (
             What::UnknownTip(name()),
             "unknown word `x`; write tips as numbers and ranges with spaces between, as 0 2 4-6",

@@ -21,7 +21,7 @@ use Rattle.model.proofs.Sets.{has-below, has_and, has-set_of, empty_has}
 use Rattle.model.proofs.Lists.{all_map}
 use Rattle.model.proofs.Run.{low-tip}
 use Rattle.along.specs.Along.{changes_after, changes, parted, common, fewest_from, final, plan_from}
-use Rattle.along.specs.Along.{can_start, start_set, fewest, plan_along, AlongRule}
+use Rattle.along.specs.Along.{can_start, start_set, fewest, plan_along, FewestChanges}
 
 -- a set of tips that is not empty
 abbrev pub Tips : ℕ → Type 0
@@ -83,6 +83,15 @@ unfolding plan_from
 plan_valid k none = empty
 plan_valid k (more {x = s} d ds) =
     line (common_own k s _ (final-low (common k s) (common_tips k s d) ds)) (plan_valid (common k s) ds)
+
+-- it has tips of the largest rack
+plan_tips : (k : ℕ) {lines : List ℕ} → All Tips lines → All (λ t. t < most_tips) (plan_from k lines)
+unfolding plan_from
+plan_tips k none = none
+plan_tips k (more {x = s} {xs = lines} d ds) =
+    let j = common k s in
+    let t = low (final j lines) in
+    more (has-below most_tips s t d.below (common_own k s t (final-low j (common_tips k s d) ds))) (plan_tips j ds)
 
 -- with the lowest tip of the segment on the head
 plan_counted : (k : ℕ) {lines : List ℕ} → Tips k → All Tips lines
@@ -207,6 +216,11 @@ pub along_valid : (on : Mounted) {lines : List ℕ} → All Tips lines → Valid
 unfolding plan_along
 along_valid on good = plan_valid (start_set on) good
 
+-- it has tips of the largest rack
+pub along_tips : (on : Mounted) {lines : List ℕ} → All Tips lines → All (λ t. t < most_tips) (plan_along on lines)
+unfolding plan_along
+along_tips on good = plan_tips (start_set on) good
+
 -- it has as many changes as are counted
 pub along_counted : (on : Mounted) {lines : List ℕ} → All Tips lines → changes on (plan_along on lines) ≡ fewest on lines
 unfolding plan_along fewest plan_from fewest_from
@@ -232,7 +246,7 @@ along_least on none empty = zero-le
 along_least on (more {x = s} d ds) (line {t = v} {plan = plan} h w) =
     omega (arith, changes-first on v plan, lower_bound (common (start_set on) s) v w, first_any on s v d h)
 
-pub along_rule : (on : Mounted) {lines : List ℕ} → All Tips lines → AlongRule on lines (plan_along on lines) (fewest on lines)
+pub along_rule : (on : Mounted) {lines : List ℕ} → All Tips lines → FewestChanges on lines (plan_along on lines) (fewest on lines)
 along_rule on good = record { valid = along_valid on good; counted = along_counted on good; least = λ other. along_least on good }
 
 -- the lines of a board of a smaller rack

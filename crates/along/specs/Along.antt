@@ -59,12 +59,12 @@ start_set on = set_of (can_start on) most_tips
 unfoldable pub fewest : Mounted → List ℕ → ℕ
 fewest on lines = fewest_from (start_set on) lines
 
--- the plan with so many
+-- the plan that has them
 unfoldable pub plan_along : Mounted → List ℕ → List ℕ
 plan_along on lines = plan_from (start_set on) lines
 
 -- the plan is valid, has r changes along the list, and no valid plan has fewer
-pub record AlongRule (on : Mounted) (lines plan : List ℕ) (r : ℕ) : Type 0 where
+pub record FewestChanges (on : Mounted) (lines plan : List ℕ) (r : ℕ) : Type 0 where
   pub valid : Valid lines plan
   pub counted : changes on plan ≡ r
   pub least : (other : List ℕ) → Valid lines other → r ≤ changes on other

@@ -4,8 +4,18 @@
 ghost use Rattle.std.specs.Prelude.{◌≡◌, ◌≤◌, length};
 ghost use Rattle.model.specs.Interval.{low};
 ghost use Rattle.head.specs.OnHead.{on_head};
-ghost use Rattle.along.specs.Along.{start_set, fewest, plan_along, AlongRule};
+ghost use Rattle.along.specs.Along.{start_set, fewest, plan_along, FewestChanges};
+ghost use Rattle.along.specs.Counts.{counts_of};
 ghost use Rattle.along.specs.Segment.{segment_at, filled, laid, Placeable};
+
+use placements::Lines;
+
+// How many tip changes a plan has along the list, and its pairs.
+#[derive(Clone, Copy, Debug, PartialEq, Eq)]
+pub struct AlongCounts {
+    pub changes: usize,
+    pub pairs: u32,
+}
 
 // Lines one after the other with common tips: the place after them, and those tips.
 #[derive(Drop)]
@@ -74,12 +84,12 @@ fn lay_segment(sets: &[u64], from: usize, start: u64, plan: &mut [u8]) -> usize
     found.end
 }
 
-// The plan with the fewest tip changes along the list, and how many they are.
-pub fn plan_along(mounted: Option<usize>, sets: &[u64], plan: &mut [u8]) -> usize
+// Lays the plan with the fewest tip changes along the list. Returns its changes.
+fn plan_along(mounted: Option<usize>, sets: &[u64], plan: &mut [u8]) -> usize
     requires { Placeable sets.now plan.old }
     ensures changes { result ≡ fewest (on_head mounted) sets.now }
     ensures plan { plan.new ≡ plan_along (on_head mounted) sets.now }
-    ensures rule { AlongRule (on_head mounted) sets.now plan.new result }
+    ensures rule { FewestChanges (on_head mounted) sets.now plan.new result }
 {
     let mut at = lay_segment(sets, 0, start_set(mounted), plan);
     let mut changes = 0;
@@ -88,4 +98,15 @@ pub fn plan_along(mounted: Option<usize>, sets: &[u64], plan: &mut [u8]) -> usiz
         changes += 1;
     }
     changes
+}
+
+// The same for lines with quantities: a change is counted by lines, a pair by placements.
+pub fn plan_lines(lines: Lines<'_>, mounted: Option<usize>, plan: &mut [u8]) -> AlongCounts
+    requires { length plan.old ≡ length lines.sets.now }
+    ensures counts { result ≡ counts_of (on_head mounted) lines.entry.quantities.now lines.entry.sets.now }
+    ensures plan { plan.new ≡ plan_along (on_head mounted) lines.entry.sets.now }
+{
+    let changes = plan_along(mounted, lines.sets, plan);
+    let pairs = plan_pairs::count_pairs(lines.quantities, plan);
+    AlongCounts { changes, pairs }
 }

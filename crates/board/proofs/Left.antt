@@ -10,13 +10,15 @@ use Rattle.refusal.proofs.Laws.{or_none}
 use Rattle.call_refusals.specs.declared.Stage.TheVariants.{Closed}
 use Rattle.call_refusals.proofs.Calls.{mounted_none}
 use Rattle.line_calls.proofs.Left as Lines
+use Rattle.line_calls.proofs.AlongPlan as AlongLines
 use Rattle.panel.proofs.Few as Panel
 use Rattle.board.specs.declared.Board.{Board}
-use Rattle.board.specs.Answers.{Shared, Junior, Alone}
+use Rattle.board.specs.Answers.{Shared, Junior, Along, Alone}
 use Rattle.board.specs.Board.{lines_of, quantities_of, state_refusal, answer}
 use Rattle.board.specs.Sharing.{mounted_refusal, quick_of, best_of, best_buffer, best_table, TableRule}
 use Rattle.board.specs.Check.{check_of, CheckAccepts}
 use Rattle.board.specs.Junior.{junior_of}
+use Rattle.board.specs.Along.{along_of, along_buffer, AlongRule}
 use Rattle.board.specs.Panel.{states_refusal, alone_of}
 use Rattle.board.proofs.Sets.{Full, given}
 
@@ -41,6 +43,12 @@ module _ (b : Board) (full : Full b) where
     pub quick_few : (room : ℕ) {r : Shared} → r ≡ quick_of b mounted room → r.pairs ≤ most_pairs
     unfolding quick_of
     quick_few room e = rw e (Lines.quick_few (mounted_refusal b mounted) b.rack qs lines good_mounted mounted room)
+
+    -- what the plan along the list leaves keeps its rule
+    pub along_holds : (plan : List ℕ) {r : Along} {last : List ℕ} → r ≡ along_of b mounted (length plan) → last ≡ along_buffer b mounted plan
+        → AlongRule b mounted last r × (r.pairs ≤ most_pairs)
+    unfolding along_of along_buffer
+    along_holds plan e p = rw (e, p) (AlongLines.along_holds (mounted_refusal b mounted) mounted qs lines plan good_mounted)
 
     module _ (plan cells : List ℕ) {r : Shared} (e : r ≡ best_of b mounted (length plan) (length cells)) where
       pub best_few : r.pairs ≤ most_pairs

@@ -18,16 +18,18 @@ use Rattle.call_refusals.proofs.Calls.{mounted_earlier}
 use Rattle.line_calls.specs.Lines
 use Rattle.line_calls.specs.Goal as Struck
 use Rattle.line_calls.specs.Junior as Holders
+use Rattle.line_calls.specs.Along as AlongLines
 use Rattle.panel.specs.Panel
 use Rattle.board.specs.declared.Board.{Board}
 use Rattle.board.specs.Board.{state_refusal, answer, add_of, close_of}
-use Rattle.board.specs.Told.{common_answered, kept_answered, shared_answered, junior_answered, written_answered}
+use Rattle.board.specs.Told.{common_answered, kept_answered, shared_answered, junior_answered, along_answered, written_answered}
 use Rattle.board.specs.Told.{merged_answered, alone_answered}
 use Rattle.board.specs.Common.{common_of, keep_of}
 use Rattle.board.specs.Sharing.{mounted_refusal, quick_of, quick_buffer, best_of, best_buffer, best_table}
 use Rattle.board.specs.Check.{check_of, CheckRule}
 use Rattle.board.specs.Goal.{goal_of}
 use Rattle.board.specs.Junior.{junior_of, junior_buffer, JuniorRule}
+use Rattle.board.specs.Along.{along_of, along_buffer}
 use Rattle.board.specs.JobFile.{write_of, write_buffer}
 use Rattle.board.specs.Panel.{states_refusal, merge_of, alone_of, alone_buffer}
 
@@ -109,6 +111,14 @@ module _ (e : Refused) where
       pub quick_same : (plan : List ℕ) → plan ≡ quick_buffer b mounted plan
       unfolding quick_buffer Lines.quick_buffer Calls.plan_refusal or_else
       quick_same plan = rw (← h) (simp refuses)
+
+      pub along_stopped : (room : ℕ) → along_answered b (Err e) ≡ along_of b mounted room
+      unfolding along_of AlongLines.along_of Calls.plan_refusal or_else
+      along_stopped room = rw (← h) (simp refuses)
+
+      pub along_same : (plan : List ℕ) → plan ≡ along_buffer b mounted plan
+      unfolding along_buffer AlongLines.along_buffer Calls.plan_refusal or_else
+      along_same plan = rw (← h) (simp refuses)
 
       pub best_stopped : (room places : ℕ) → shared_answered b (Err e) ≡ best_of b mounted room places
       unfolding best_of Lines.best_of Calls.best_refusal Calls.plan_refusal or_else

@@ -40,6 +40,14 @@ pub record Junior : Type 0 where
   pub u : ℕ
   pub v : ℕ
 
+-- the tip changes of the plan that is handed out, the lines placed in the order of the list, and the number of pairs of placements on one tip in it
+pub record Along : Type 0 where
+  pub board : Board
+  pub number : ℕ
+  pub place : ℕ
+  pub changes : ℕ
+  pub pairs : ℕ
+
 -- the bytes of the job file that is written
 pub record Written : Type 0 where
   pub board : Board

@@ -44,6 +44,10 @@ goal_cases b K = state_cases Closed b ++ Calls.goal_cases (quantities_of b) (lin
 abbrev pub quick_cases : Board → Mounted → ℕ → List Case
 quick_cases b mounted room = state_cases Closed b ++ Calls.mounted_cases b.rack mounted ++ Calls.plan_cases (length (lines_of b)) room
 
+-- the same
+abbrev pub along_cases : Board → Mounted → ℕ → List Case
+along_cases = quick_cases
+
 -- 21, 27, 28, 23, 16, 4, 5, 25
 abbrev pub best_cases : Board → Mounted → ℕ → ℕ → List Case
 best_cases b mounted room places =

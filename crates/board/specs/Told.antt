@@ -4,16 +4,18 @@ use Rattle.refusal.specs.Refusal.{none}
 use Rattle.refusal.specs.declared.Refused.{Refused}
 use Rattle.refusal.specs.declared.Unkept.{Unkept}
 use Rattle.refusal.specs.Reasons.{told_of, refusal_of}
+use Rattle.along.specs.declared.AlongCounts.{AlongCounts}
 use Rattle.common_tip.specs.declared.Common.{Common as Tips}
 use Rattle.junior.specs.declared.Found.{Found}
 use Rattle.panel.specs.declared.AlonePairs.{AlonePairs}
 use Rattle.panel.specs.Answers.{alone_told}
 use Rattle.line_calls.specs.Answers as Lines
 use Rattle.board.specs.declared.Board.{Board}
-use Rattle.board.specs.Answers.{Answer, Common, Kept, Shared, Junior, Written, Merged, Alone}
+use Rattle.board.specs.Answers.{Answer, Common, Kept, Shared, Junior, Along, Written, Merged, Alone}
 use Rattle.board.specs.Board.{answer, empty_board}
 use Rattle.board.specs.Sharing.{shared}
 use Rattle.board.specs.Junior.{planned}
+use Rattle.board.specs.Along.{walked}
 use Rattle.board.specs.Panel.{merged}
 
 -- of a call that leaves this board and gives nothing else
@@ -40,6 +42,9 @@ shared_answered b r = shared b (Lines.plan_told r)
 
 abbrev pub junior_answered : Board → Result Found Refused → Junior
 junior_answered b r = planned b (Lines.junior_told r)
+
+abbrev pub along_answered : Board → Result AlongCounts Refused → Along
+along_answered b r = walked b (Lines.along_told r)
 
 abbrev pub written_answered : Board → Result ℕ Refused → Written
 written_answered b r =

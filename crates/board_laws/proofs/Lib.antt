@@ -14,3 +14,4 @@ pub mod AsBoard
 pub mod GoalAsBoard
 pub mod PanelAsBoard
 pub mod JuniorAsBoard
+pub mod AlongAsBoard

@@ -1,8 +1,8 @@
 -- A plan, a claim and a table from other software: what is refused, and how the sums of the placements tell it.
 use Rattle.std.specs.Prelude.{◌≡◌, ℕ, ◌+◌, ◌-◌, ◌*◌, ◌%◌, ◌^◌, ◌<◌, ◌≤◌, Bool, not, ◌&&◌, ◌||◌, T, leb, List, length, ◌==◌, nat_le, slice_index}
 use Rattle.model.specs.Limits.{most_tips, most_placements}
-use Rattle.model.specs.Count.{All, every, list_of}
-use Rattle.model.specs.Plan.{has, uses, pairs, choose2}
+use Rattle.model.specs.Count.{All, every}
+use Rattle.model.specs.Plan.{has, pairs, choose2}
 use Rattle.model.specs.Interval.{named, is_run_of}
 use Rattle.model.specs.Renumber.{names as names_of}
 use Rattle.placements.specs.Repeated.{repeated}
@@ -35,10 +35,6 @@ pub record Named (names : ℕ) (lines : List ℕ) : Type 0 where
 pub record NamedRuns (names m : ℕ) (qs lines : List ℕ) : Type 0 where
   pub good : GoodLines m qs lines
   pub named : Named names lines
-
--- how many placements of a plan are on each tip of the largest rack
-unfoldable pub on_tips : List ℕ → List ℕ
-on_tips placed = list_of (uses placed) most_tips
 
 -- the pairs of the interval from tip a to tip b if tip c takes its lines, from the sums xs and the table
 abbrev pub split_by : ℕ → List ℕ → List ℕ → ℕ → ℕ → ℕ → ℕ

@@ -7,7 +7,7 @@ ghost use Rattle.checking.specs.Checking.{claim_refusal};
 
 use refusal::{Reason, Refused};
 
-// In one pass: where a line's placements join those on its tip, the tip's pairs grow. A byte of 64 or more is no tip.
+// In one pass. A byte of 64 or more is no tip.
 pub fn claim_refusal(
     lines: &[u64],
     quantities: &[u8],
@@ -26,10 +26,7 @@ pub fn claim_refusal(
         if model::MOST_TIPS <= tip || !tips::has_tip(*line, tip) {
             return Err(Reason::ForeignTip.at(0));
         }
-        let before = on[tip];
-        let after = before + u32::from(*quantity);
-        shared += pair_count::pairs_among(after) - pair_count::pairs_among(before);
-        on[tip] = after;
+        shared += plan_pairs::join(&mut on, tip, *quantity);
     }
     refusal::refuse_when(claim != shared, Reason::WrongClaim)
 }

@@ -15,6 +15,7 @@ use Rattle.call_refusals.specs.Calls.{keep_refusal}
 use Rattle.call_refusals.proofs.Calls.{mounted_none}
 use Rattle.line_calls.specs.Lines.{common_of, keep_of, quick_of, best_of, write_of}
 use Rattle.line_calls.specs.Junior.{junior_of}
+use Rattle.line_calls.specs.Along.{along_of}
 use Rattle.panel.specs.Panel.{merge_of, alone_of}
 use Rattle.call_cases.specs.Calls.{mounted_cases}
 use Rattle.call_cases.proofs.Calls as Of
@@ -23,9 +24,10 @@ use Rattle.file_calls.specs.Outcomes.{Outcome}
 use Rattle.file_calls.specs.Calls.{read_in, common_in, keep_in, mounted_in, quick_in, best_in, check_in}
 use Rattle.file_calls.specs.Goal.{goal_refusal_in, struck_in, goal_in}
 use Rattle.file_calls.specs.Junior.{junior_in}
+use Rattle.file_calls.specs.Along.{along_in}
 use Rattle.file_calls.specs.Panel.{reads_refusal, merge_refusal_in, merge_of_files, alone_in}
 use Rattle.file_calls.specs.Cases.{read_cases, keep_cases, goal_cases, quick_cases, best_cases, check_cases, junior_cases}
-use Rattle.file_calls.specs.Cases.{reads_cases, merge_cases, alone_cases}
+use Rattle.file_calls.specs.Cases.{along_cases, reads_cases, merge_cases, alone_cases}
 
 module _ (file : List ℕ) where
   pub header_told : {o : Outcome} → o ≡ read_in file → Told (read_cases file) o.refusal
@@ -59,6 +61,12 @@ module _ (file : List ℕ) where
     unfolding quick_in quick_of
     quick_told room e =
         subst (λ x. Told (quick_cases file mounted room) x.refusal) (sym e)
+        (Of.plan_told (mounted_in file mounted) _ mounted_told (length (sets_in file)) room)
+
+    pub along_told : (room : ℕ) {o : Outcome} → o ≡ along_in file mounted room → Told (along_cases file mounted room) o.refusal
+    unfolding along_in along_of
+    along_told room e =
+        subst (λ x. Told (along_cases file mounted room) x.refusal) (sym e)
         (Of.plan_told (mounted_in file mounted) _ mounted_told (length (sets_in file)) room)
 
     pub best_told : (room places : ℕ) {o : Outcome} → o ≡ best_in file mounted room places

@@ -12,11 +12,13 @@ use Rattle.job.specs.Job.{rack_in, sets_in, quantities_in, read_refusal}
 use Rattle.job.proofs.Reading.{read_good}
 use Rattle.call_refusals.proofs.Calls.{mounted_none}
 use Rattle.line_calls.proofs.Left as Lines
+use Rattle.line_calls.proofs.AlongPlan as AlongLines
 use Rattle.panel.proofs.Few as Panel
 use Rattle.file_calls.specs.Outcomes.{Outcome}
 use Rattle.file_calls.specs.Calls.{mounted_in, quick_in, best_in, best_plan_in, best_table_in, check_outcome, check_in}
 use Rattle.file_calls.specs.Rules.{TableRuleOf, CheckAcceptsOf}
 use Rattle.file_calls.specs.Junior.{junior_in}
+use Rattle.file_calls.specs.Along.{along_in, along_plan_in, AlongRuleOf}
 use Rattle.file_calls.specs.Panel.{reads_refusal, alone_in}
 
 module _ (file : List ℕ) where
@@ -40,6 +42,12 @@ module _ (file : List ℕ) where
     pub quick_few : (room : ℕ) {o : Outcome} → o ≡ quick_in file mounted room → o.first ≤ most_pairs
     unfolding quick_in
     quick_few room e = rw e (Lines.quick_few (mounted_in file mounted) m qs lines good_mounted mounted room)
+
+    -- what the plan along the list leaves keeps its rule
+    pub along_holds : (plan : List ℕ) {o : Outcome} {last : List ℕ} → o ≡ along_in file mounted (length plan)
+        → last ≡ along_plan_in file mounted plan → AlongRuleOf file mounted last o × (o.second ≤ most_pairs)
+    unfolding along_in along_plan_in
+    along_holds plan e p = rw (e, p) (AlongLines.along_holds (mounted_in file mounted) mounted qs lines plan good_mounted)
 
     module _ (plan cells : List ℕ) {o : Outcome} (e : o ≡ best_in file mounted (length plan) (length cells)) where
       pub best_few : o.first ≤ most_pairs

@@ -14,13 +14,16 @@ use Rattle.call_refusals.specs.Calls.{mounted_refusal}
 use Rattle.call_refusals.proofs.Calls.{mounted_none, mounted_same, plan_none, best_none}
 use Rattle.line_calls.specs.Answers.{CommonAnswer}
 use Rattle.line_calls.specs.Answers.{PlanAnswer}
+use Rattle.line_calls.specs.Answers.{AlongAnswer}
 use Rattle.line_calls.specs.Lines.{common_of, quick_of, quick_buffer, best_of, best_buffer, best_table, check_of}
+use Rattle.line_calls.specs.Along.{along_of, along_buffer}
 use Rattle.line_calls.specs.Rules.{CommonRule, HalfRule, BestRule}
 use Rattle.line_calls.proofs.Refused.{Same, common_same, quick_same, quick_buffer_same, best_same, best_buffer_same, best-table_same}
-use Rattle.line_calls.proofs.Refused.{common_rule_same, half_rule_same, best-rule_same, check_same}
+use Rattle.line_calls.proofs.Refused.{common_rule_same, half_rule_same, best-rule_same, check_same, along_same, along_buffer_same}
 use Rattle.line_calls.proofs.Checked.{check_rule}
 use Rattle.file_calls.specs.Calls.{common_outcome, plan_outcome, common_in, mounted_in, quick_in, quick_plan_in, best_in, best_plan_in, best_table_in}
 use Rattle.file_calls.specs.Calls.{check_outcome, check_in}
+use Rattle.file_calls.specs.Along.{along_outcome, along_in, along_plan_in}
 use Rattle.file_calls.specs.Rules.{CommonRuleOf, HalfRuleOf, BestRuleOf, CheckRuleOf}
 
 -- the rack, the quantities and the sets are those of the file
@@ -63,6 +66,15 @@ module _ (file : List ℕ) {d : Refusal} (e : d ≡ read_refusal file) {m : ℕ}
 
     mounted_lines : h.number ≡ 0 → AsRead file m qs lines
     mounted_lines z = same (mounted_none d m mounted (number_of g z)).0
+
+    pub along-in : (plan : List ℕ) {a : AlongAnswer} {last : List ℕ}
+        → a ≡ along_of h mounted qs lines (length plan) → last ≡ along_buffer h mounted lines plan
+        → (along_outcome a ≡ along_in file mounted (length plan)) × (last ≡ along_plan_in file mounted plan)
+    unfolding along_in along_plan_in
+    along-in plan p q = (
+      ap along_outcome (p ∙ along_same h mounted_lines plan mounted ∙ of-file file by-file (λ r _ k l. along_of r mounted k l (length plan))),
+      q ∙ along_buffer_same h mounted_lines plan mounted ∙ of-file file by-file (λ r _ _ l. along_buffer r mounted l plan),
+    )
 
     module _ (plan : List ℕ) {a : PlanAnswer} {last : List ℕ} where
       pub quick-in : a ≡ quick_of h m mounted qs lines (length plan) → last ≡ quick_buffer h m mounted qs lines plan

@@ -28,6 +28,10 @@ goal_cases file K room =
 abbrev pub quick_cases : List ℕ → Mounted → ℕ → List Case
 quick_cases file mounted room = read_cases file ++ Calls.mounted_cases (rack_in file) mounted ++ Calls.plan_cases (length (sets_in file)) room
 
+-- the same
+abbrev pub along_cases : List ℕ → Mounted → ℕ → List Case
+along_cases = quick_cases
+
 -- these, 16, 4, 5, 25
 abbrev pub best_cases : List ℕ → Mounted → ℕ → ℕ → List Case
 best_cases file mounted room places =

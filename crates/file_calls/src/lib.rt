@@ -15,10 +15,12 @@ use placements::Lines;
 use reading::Room;
 use refusal::{Refused, Unkept};
 
+mod along_call;
 mod goal_call;
 mod junior_call;
 mod panel_calls;
 
+pub use along_call::along_outcome;
 pub use goal_call::goal_outcome;
 pub use junior_call::junior_outcome;
 pub use panel_calls::{alone_outcome, merge_outcome};

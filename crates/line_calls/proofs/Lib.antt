@@ -6,5 +6,6 @@ pub mod Refused
 pub mod Checked
 pub mod PairGoal
 pub mod JuniorPlan
+pub mod AlongPlan
 pub mod Within
 pub mod Left

@@ -14,6 +14,7 @@ use Rattle.call_refusals.specs.Junior
 use Rattle.line_calls.specs.Lines.{common_of, keep_of, quick_of, quick_buffer, best_of, best_buffer, best_table, check_of, write_of, write_buffer}
 use Rattle.line_calls.specs.Goal.{goal_of}
 use Rattle.line_calls.specs.Junior.{junior_of, junior_buffer}
+use Rattle.line_calls.specs.Along.{along_of, along_buffer}
 use Rattle.line_calls.specs.Rules.{CommonRule, HalfRule, BestRule}
 use Rattle.line_calls.proofs.CommonTip.{common_refused}
 use Rattle.line_calls.proofs.KeepWithin.{keep-stopped}
@@ -22,6 +23,7 @@ use Rattle.line_calls.proofs.Checked.{check_first}
 use Rattle.line_calls.proofs.PairGoal.{asked_earlier, goal-stopped}
 use Rattle.line_calls.proofs.JobFile.{write_stopped}
 use Rattle.line_calls.proofs.JuniorPlan.{junior_refused}
+use Rattle.line_calls.proofs.AlongPlan.{along_refused}
 
 module _ (earlier : Refusal) (h : earlier.number ≡ 0 → ⊥) (m : ℕ) (lines : List ℕ) where
   plan_stopped : (room : ℕ) → earlier ≡ plan_refusal earlier (length lines) room
@@ -85,6 +87,16 @@ module _ (earlier : Refusal) {m n : ℕ} {qs rs lines others : List ℕ} (same :
     junior_buffer_same =
         by_earlier (λ k q l. junior_buffer earlier k q l plan)
         (λ h k q l. (junior_refused earlier k q l plan (junior_stopped earlier h k l (length plan)) h).1.0)
+
+    pub along_same : (mounted : Mounted) → along_of earlier mounted qs lines (length plan) ≡ along_of earlier mounted rs others (length plan)
+    along_same mounted =
+        by_earlier (λ _ q l. along_of earlier mounted q l (length plan))
+        (λ h k q l. (along_refused earlier mounted q l plan (plan_stopped earlier h k l (length plan)) (λ _. refl) h).0)
+
+    pub along_buffer_same : (mounted : Mounted) → along_buffer earlier mounted lines plan ≡ along_buffer earlier mounted others plan
+    along_buffer_same mounted =
+        by_earlier (λ _ _ l. along_buffer earlier mounted l plan)
+        (λ h k q l. (along_refused earlier mounted q l plan (plan_stopped earlier h k l (length plan)) (λ _. refl) h).1)
 
     module _ (cells : List ℕ) where
       pub best_same : best_of earlier m qs lines (length plan) (length cells) ≡ best_of earlier n rs others (length plan) (length cells)

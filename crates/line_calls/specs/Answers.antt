@@ -5,6 +5,7 @@ use Rattle.refusal.specs.Refusal.{none}
 use Rattle.refusal.specs.declared.Refused.{Refused}
 use Rattle.refusal.specs.declared.Unkept.{Unkept}
 use Rattle.refusal.specs.Reasons.{told_of, refusal_of, unkept_of, count_in, margin_in}
+use Rattle.along.specs.declared.AlongCounts.{AlongCounts}
 use Rattle.common_tip.specs.declared.Common.{Common}
 use Rattle.junior.specs.declared.Found.{Found}
 
@@ -32,6 +33,12 @@ pub record JuniorAnswer : Type 0 where
   pub u : ℕ
   pub v : ℕ
 
+-- the plan's tip changes along the list, and its pairs
+pub record AlongAnswer : Type 0 where
+  pub refusal : Refusal
+  pub changes : ℕ
+  pub pairs : ℕ
+
 -- the bytes of the job file that is written
 pub record FileAnswer : Type 0 where
   pub refusal : Refusal
@@ -52,6 +59,10 @@ plan_told r = record { refusal = refusal_of r; pairs = count_in r }
 abbrev pub junior_told : Result Found Refused → JuniorAnswer
 junior_told (Ok x) = record { refusal = none; pairs = x.pairs; u = x.u; v = x.v }
 junior_told (Err e) = record { refusal = told_of e; pairs = 0; u = 0; v = 0 }
+
+abbrev pub along_told : Result AlongCounts Refused → AlongAnswer
+along_told (Ok x) = record { refusal = none; changes = x.changes; pairs = x.pairs }
+along_told (Err e) = record { refusal = told_of e; changes = 0; pairs = 0 }
 
 abbrev pub file_told : Result ℕ Refused → FileAnswer
 file_told r = record { refusal = refusal_of r; bytes = count_in r }

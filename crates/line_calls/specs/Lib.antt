@@ -4,3 +4,4 @@ pub mod Rules
 pub mod Table
 pub mod Goal
 pub mod Junior
+pub mod Along

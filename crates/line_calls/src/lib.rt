@@ -16,9 +16,11 @@ use common_tip::Common;
 use placements::Lines;
 use refusal::{Refused, Unkept};
 
+mod along_call;
 mod goal_call;
 mod junior_call;
 
+pub use along_call::along;
 pub use goal_call::goal;
 pub use junior_call::junior;
 

@@ -29,10 +29,13 @@ use Rattle.call_refusals.specs.Junior.{junior_refusal}
 use Rattle.holders.specs.Holders.{is_served, first_tip, second_tip, junior_plan, line_plan, chosen}
 use Rattle.holders.specs.Holders.{score, is_choice, serves, two_plan, to_first, gathered}
 use Rattle.line_calls.specs.Junior as LinesJunior
+use Rattle.along.specs.Along.{parted, common as shared_tips, fewest_from, final, plan_from, start_set, fewest, plan_along}
+use Rattle.line_calls.specs.Along as LinesAlong
 use Rattle.board.specs.Board.{no_sets, no_quantities, add_of, close_of}
 use Rattle.board.specs.Common.{common_of, keep_of}
 use Rattle.board.specs.Sharing.{quick_of, quick_buffer, best_of, best_buffer, best_table}
 use Rattle.board.specs.Junior.{junior_of, junior_buffer}
+use Rattle.board.specs.Along.{along_of, along_buffer}
 use Rattle.board.specs.JobFile.{read_of, write_of, write_buffer}
 use Rattle.board.specs.Check.{check_of}
 use Rattle.board.specs.Goal.{goal_of}
@@ -49,7 +52,8 @@ use Rattle.rows.specs.Rows.{B46_exact, B46_less, B46_huge, B47_huge, B48_open, B
 use Rattle.rows.specs.Rows.{B49_17, B50_18, B50_20, B51_21, B51_most, B51_empty_0, B51_empty_1, B52_goal, B53_all, B53_gap, B53_best, B54_2}
 use Rattle.rows.specs.Rows.{B54_3, B54_4, B55_open, B55_run, B55_most, B56_junior, B57_tied, B57_later, B58_first, B58_second, B58_equal}
 use Rattle.rows.specs.Rows.{B59_junior, B60_junior, B61_junior, B62_most, B62_over, B63_most, B63_over, B63_both, B64_none, B64_rack}
-use Rattle.rows.specs.Rows.{B65_open, B65_short}
+use Rattle.rows.specs.Rows.{B65_open, B65_short, B120_none, B120_0, B120_2, B121_along, B122_along, B122_quick, B123_all, B123_none}
+use Rattle.rows.specs.Rows.{B124_open, B124_outside, B124_short, B124_line}
 
 pub starred : All Gives rows
 unfolding run add_of close_of common_of keep_of quick_of quick_buffer best_of best_buffer best_table check_of Lines.check_of check_refusal
@@ -68,6 +72,7 @@ unfolding run add_of close_of common_of keep_of quick_of quick_buffer best_of be
     goal_of Goal.goal_of Goal.goal_asked Goal.struck_sets goal_refusal strike goal_tips only
     junior_of junior_buffer LinesJunior.junior_of LinesJunior.junior_buffer LinesJunior.junior_refusal junior_refusal is_served first_tip second_tip
     junior_plan line_plan chosen score is_choice serves two_plan to_first gathered
+    along_of along_buffer LinesAlong.along_of LinesAlong.along_buffer fewest plan_along start_set plan_from fewest_from final shared_tips parted
 starred =
     more {x = B1_common} refl
     (more {x = B1_keep} refl
@@ -196,8 +201,20 @@ starred =
     (more {x = B64_none} refl
     (more {x = B64_rack} refl
     (more {x = B65_open} refl
-    (more {x = B65_short} refl none
-    )))))))))))))))))))))))))))))))))))))))))))))))))))))))))))))))))))))))))))))))))))))))))))))))))))))))))))))))))))))))))))))))
+    (more {x = B65_short} refl
+    (more {x = B120_none} refl
+    (more {x = B120_0} refl
+    (more {x = B120_2} refl
+    (more {x = B121_along} refl
+    (more {x = B122_along} refl
+    (more {x = B122_quick} refl
+    (more {x = B123_all} refl
+    (more {x = B123_none} refl
+    (more {x = B124_open} refl
+    (more {x = B124_outside} refl
+    (more {x = B124_short} refl
+    (more {x = B124_line} refl none
+    )))))))))))))))))))))))))))))))))))))))))))))))))))))))))))))))))))))))))))))))))))))))))))))))))))))))))))))))))))))))))))))))))))))))))))
 
 pub half_reached : HalfReached
 unfolding has pairs uses count

@@ -50,6 +50,10 @@ pub(crate) enum Call {
     Junior {
         room: Option<usize>,
     },
+    Along {
+        room: Option<usize>,
+        mounted: Option<usize>,
+    },
     // Merge and alone take the board and then the held one.
     Merge,
     Alone {
@@ -173,6 +177,13 @@ const EVERY_CALL: &[(&str, Call)] = &[
         },
     ),
     ("junior", Call::Junior { room: None }),
+    (
+        "along",
+        Call::Along {
+            room: None,
+            mounted: None,
+        },
+    ),
     ("merge", Call::Merge),
     ("alone", Call::Alone { room: None }),
 ];
@@ -226,6 +237,7 @@ impl State {
                 places,
             } => self.check(out, claim, room, places),
             Call::Junior { room } => self.junior(out, room),
+            Call::Along { room, mounted } => self.along(out, room, mounted),
             Call::Merge => self.merge(out),
             Call::Alone { room } => self.alone(out, room),
         }

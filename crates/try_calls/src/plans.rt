@@ -2,7 +2,7 @@
 use crate::lent::{lent, read, written};
 use crate::record::State;
 use crate::shown::{Back, Told, Values, show_told};
-use board::{AlonePairs, Board, Found};
+use board::{AlonePairs, AlongCounts, Board, Found};
 use std::io;
 use std::io::Write;
 use try_lib::{PLAN_ROOM, TABLE_ROOM};
@@ -68,6 +68,24 @@ impl State {
             v: 0,
         });
         write!(out, "{} pairs {pairs} u {u} v {v}", Told::new(&told))?;
+        self.show_plan(out, told.is_ok())?;
+        writeln!(out, "{}", Back::new(&given, &self.board))
+    }
+
+    pub(crate) fn along<W: Write>(
+        &mut self,
+        out: &mut W,
+        room: Option<usize>,
+        mounted: Option<usize>,
+    ) -> io::Result<()> {
+        let given = self.board;
+        self.plan = [self.junk; PLAN_ROOM];
+        let told = self.board.along(mounted, lent(&mut self.plan, room));
+        let AlongCounts { changes, pairs } = told.unwrap_or(AlongCounts {
+            changes: 0,
+            pairs: 0,
+        });
+        write!(out, "{} changes {changes} pairs {pairs}", Told::new(&told))?;
         self.show_plan(out, told.is_ok())?;
         writeln!(out, "{}", Back::new(&given, &self.board))
     }

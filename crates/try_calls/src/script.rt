@@ -174,7 +174,7 @@ impl Call {
         }
     }
 
-    // The call of a goal, a check, the Junior or two boards that a word stands for, if any does.
+    // The call of a goal, a check, the Junior, a plan along the list or two boards that a word stands for, if any does.
     fn of_plans(word: &str, numbers: &[u64]) -> Option<Call> {
         match (word, numbers) {
             ("goal", [goal]) => Some(Call::Goal {
@@ -187,6 +187,10 @@ impl Call {
             }),
             ("junior", _) => Some(Call::Junior {
                 room: given(numbers, 0),
+            }),
+            ("along", _) => Some(Call::Along {
+                room: given(numbers, 0),
+                mounted: given(numbers, 1),
             }),
             ("merge", []) => Some(Call::Merge),
             ("alone", _) => Some(Call::Alone {

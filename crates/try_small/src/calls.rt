@@ -1,7 +1,7 @@
 // Each call on the board of a small job, compared with what trying every plan gives.
 use crate::small::Small;
 use crate::tally::Calls;
-use board::Board;
+use board::{AlongCounts, Board};
 use refusal::{Reason, Unkept};
 use std::alloc::{AllocError, Global};
 use try_lib::{
@@ -110,4 +110,25 @@ pub fn try_best(alloc: Global, small: &Small<'_>, board: &Board) -> Result<Calls
     let refused = told.is_err_and(|refused| refused.reason == Reason::NoRun);
     let wrong = usize::from(told != expected).saturating_add(laid);
     Ok(Calls::one(refused, wrong))
+}
+
+// The plan along the list from a mounted tip, or none.
+fn try_along_from(small: &Small<'_>, board: &Board, mounted: Option<u8>) -> Calls {
+    let mut plan = [JUNK; PLAN_ROOM];
+    let wrong = match board.along(mounted.map(usize::from), &mut plan) {
+        Ok(AlongCounts { changes, pairs }) => wrong_plan(small, &plan, pairs as usize)
+            .saturating_add(usize::from(changes != small.fewest_changes(mounted)))
+            .saturating_add(usize::from(changes != small.tip_changes(mounted, &plan))),
+        Err(_) => 1,
+    };
+    Calls::one(false, wrong)
+}
+
+// The plan along the list without a mounted tip, and from each tip of the rack.
+pub fn try_along(small: &Small<'_>, board: &Board) -> Calls {
+    let mut calls = try_along_from(small, board, None);
+    for tip in 0..small.rack {
+        calls += try_along_from(small, board, Some(tip));
+    }
+    calls
 }

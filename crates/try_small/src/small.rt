@@ -27,6 +27,19 @@ fn pairs(rack: u8, lines: &[Line], plan: &[u8]) -> usize {
         .fold(0, |pairs: usize, earlier| pairs.saturating_add(earlier))
 }
 
+// How often the head changes its tip along the plan, with the mounted tip on it at the start.
+fn tip_changes(mounted: Option<u8>, plan: &[u8]) -> usize {
+    let mut on = mounted;
+    let mut changes: usize = 0;
+    for tip in plan {
+        if on.is_some_and(|before| before != *tip) {
+            changes = changes.saturating_add(1);
+        }
+        on = Some(*tip);
+    }
+    changes
+}
+
 // The tips from the lowest of the set to its highest.
 fn interval(tips: u64) -> u64 {
     let lowest = tips.trailing_zeros();
@@ -75,6 +88,20 @@ impl<'a> Small<'a> {
         self.plans
             .iter()
             .map(|plan| off(self.rack, &self.lines, plan))
+            .min()
+            .unwrap_or(0)
+    }
+
+    // The tip changes of the plan.
+    pub fn tip_changes(&self, mounted: Option<u8>, plan: &[u8]) -> usize {
+        tip_changes(mounted, &plan[..self.lines.len().min(plan.len())])
+    }
+
+    // The fewest tip changes over all valid plans.
+    pub fn fewest_changes(&self, mounted: Option<u8>) -> usize {
+        self.plans
+            .iter()
+            .map(|plan| tip_changes(mounted, plan))
             .min()
             .unwrap_or(0)
     }

@@ -36,6 +36,7 @@ pub struct Tally {
     pub keep: Calls,
     pub quick: Calls,
     pub best: Calls,
+    pub along: Calls,
 }
 
 impl AddAssign for Tally {
@@ -45,6 +46,7 @@ impl AddAssign for Tally {
         self.keep += more.keep;
         self.quick += more.quick;
         self.best += more.best;
+        self.along += more.along;
     }
 }
 
@@ -56,6 +58,7 @@ impl fmt::Display for Tally {
             keep,
             quick,
             best,
+            along,
         } = self;
         write!(f, "boards {} wrong {}; ", boards.tried, boards.wrong)?;
         write!(
@@ -71,8 +74,9 @@ impl fmt::Display for Tally {
         write!(f, "quick {} wrong {}; ", quick.tried, quick.wrong)?;
         write!(
             f,
-            "best {} refused 25: {} wrong {}",
+            "best {} refused 25: {} wrong {}; ",
             best.tried, best.refused, best.wrong
-        )
+        )?;
+        write!(f, "along {} wrong {}", along.tried, along.wrong)
     }
 }

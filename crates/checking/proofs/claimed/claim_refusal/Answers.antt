@@ -1,13 +1,15 @@
-use Rattle.std.proofs.Common.{◌≡◌, ◌+◌, false, true, length, get_or, [], ◌∷◌, ◌++◌, length-append, refl, sym, ap, ◌∙◌, arith, rules}
+use Rattle.std.proofs.Common.{◌≡◌, ◌+◌, ◌<◌, false, true, length, get_or, [], ◌∷◌, ◌++◌, length-append, refl, sym, ap, ◌∙◌, arith, rules}
+use Rattle.model.specs.Limits.{most_tips}
 use Rattle.model.specs.Count.{list_of, count}
 use Rattle.model.specs.Plan.{has, uses, pairs}
 use Rattle.model.proofs.Tests.{false_not}
 use Rattle.model.proofs.Sets.{has-below}
 use Rattle.placements.specs.Repeated.{repeated}
-use Rattle.checking.specs.Checking.{on_tips}
-use Rattle.checking.proofs.Claim.{foreign, own_more, own_all, placed-all, Joined, joined}
+use Rattle.plan_pairs.specs.OnTips.{on_tips}
+use Rattle.plan_pairs.proofs.Joined.{placed-all, Joined, joined}
+use Rattle.checking.proofs.Claim.{foreign, own_more, own_all}
 use Rattle.checking.proofs.Turn.{Over, At, turn, turns}
-use Rattle.checking.proofs.claimed.claim_refusal.Goals.{After-into_iter-tip-iterator, In-Some, In-None, After-from}
+use Rattle.checking.proofs.claimed.claim_refusal.Goals.{After-into_iter-tip-iterator, In-Some, In-None}
 use Rattle.checking.proofs.claimed.claim_refusal.Goals.{then-tip-ge-MOST_TIPS-via-then-tip-ge-MOST_TIPS}
 use Rattle.checking.proofs.claimed.claim_refusal.Goals.{then-tip-ge-MOST_TIPS-via-else-tip-ge-MOST_TIPS+then-not-has_tip}
 use Rattle.checking.proofs.claimed.claim_refusal.Goals as goal
@@ -23,11 +25,12 @@ here c o = turn o c.loop-tip.yielded c.loop-tip.tip-iterator c.next.new.self c.n
     c.next.ensures.steps _ c.in-Some.is
 
 -- and what they find
-found : (c : After-from) → At c.args.plan.now c.args.lines.now c.args.quantities.now (length c.loop-tip.yielded)
-    ((c.in-Some.tip, c.in-Some.line), c.in-Some.quantity)
-    → Joined c.args.quantities.now c.args.plan.now (length c.loop-tip.yielded) c.loop-tip.on c.loop-tip.shared c.from-tip.result c.from.result
-found c h =
-    joined c.args.quantities.now c.args.plan.now (search rules) c.requires.few h.below (search rules) (search rules) (search rules)
+found : (c : In-Some) → At c.args.plan.now c.args.lines.now c.args.quantities.now (length c.loop-tip.yielded)
+    ((c.in-Some.tip, c.in-Some.line), c.in-Some.quantity) → c.in-Some.tip.now < most_tips
+    → Joined c.args.quantities.now c.args.plan.now (length c.loop-tip.yielded) c.loop-tip.on c.loop-tip.shared c.in-Some.tip.now
+    c.in-Some.quantity.now
+found c h narrow =
+    joined c.args.quantities.now c.args.plan.now (search rules) c.requires.few h.below h.first h.third narrow
     c.loop-tip.invariant.1 c.loop-tip.invariant.2
 
 pub loop-tip-init : goal.loop-tip-init
@@ -57,48 +60,30 @@ returns-then-tip-ge-MOST_TIPS c =
     rw c.at.ensures (foreign c.args.quantities.now c.args.lines.now c.args.plan.now c.args.claim c.requires.planned i c.loop-tip.invariant.0
     (omega (arith, h, c.requires)) not_in)
 
-pub overflow_add-after : goal.overflow_add-after
-overflow_add-after c =
-    let at = goal.at.overflow_add-after c in
-    let f = found at.After-from (here at.In-Some (over at.After-into_iter-tip-iterator)) in
-    record { fits = omega arith }
-
-pub pairs_among-requires : goal.pairs_among-requires
-pairs_among-requires c =
-    let at = goal.at.pairs_among-requires c in
-    let f = found at.After-from (here at.In-Some (over at.After-into_iter-tip-iterator)) in
-    f.few
-
-pub pairs_among-requires-in-loop-tip : goal.pairs_among-requires-in-loop-tip
-pairs_among-requires-in-loop-tip c =
-    let at = goal.at.pairs_among-requires-in-loop-tip c in
-    let f = found at.After-from (here at.In-Some (over at.After-into_iter-tip-iterator)) in
-    omega arith
-
-pub overflow_sub-shared : goal.overflow_sub-shared
-overflow_sub-shared c =
-    let at = goal.at.overflow_sub-shared c in
-    let f = found at.After-from (here at.In-Some (over at.After-into_iter-tip-iterator)) in
-    omega (arith, c.pairs_among.ensures, c.pairs_among-in-loop-tip.ensures)
+pub join-shared-requires-clause-few : goal.join-shared-requires-clause-few
+join-shared-requires-clause-few c =
+    let at = goal.at.join-shared-requires-clause-few c in
+    let f = found at.In-Some (here at.In-Some (over at.After-into_iter-tip-iterator)) (omega (arith, c.from-tip.ensures)) in
+    rw c.from-tip.ensures f.few
 
 pub overflow_add-shared : goal.overflow_add-shared
 overflow_add-shared c =
     let at = goal.at.overflow_add-shared c in
-    let f = found at.After-from (here at.In-Some (over at.After-into_iter-tip-iterator)) in
-    record { fits = omega (arith, c.pairs_among.ensures, c.pairs_among-in-loop-tip.ensures) }
+    let f = found at.In-Some (here at.In-Some (over at.After-into_iter-tip-iterator)) (omega (arith, c.from-tip.ensures)) in
+    record { fits = rw (c.join-shared.ensures.pairs, c.from-tip.ensures) (omega (arith, f.grown, f.small)) }
 
 pub loop-tip-preserved : goal.loop-tip-preserved
 loop-tip-preserved c =
     let at = goal.at.loop-tip-preserved c in
     let h = here at.In-Some (over at.After-into_iter-tip-iterator) in
-    let f = found at.After-from h in
+    let f = found at.In-Some h (omega (arith, c.from-tip.ensures)) in
     let n : length (c.loop-tip.yielded ++ (((c.in-Some.tip, c.in-Some.line), c.in-Some.quantity) ∷ [])) ≡ length c.loop-tip.yielded + 1
     = length-append _ _ in
     let own : has (get_or c.args.lines.now (length c.loop-tip.yielded) 0) (get_or c.args.plan.now (length c.loop-tip.yielded) 0) ≡ true
     = rw (← h.first, ← h.second) (ap (has c.in-Some.line.now) (sym c.from-tip.ensures) ∙ sym c.has_tip.ensures ∙ c.if-not-has_tip.false) in
     let more = own_more c.args.quantities.now c.args.lines.now c.args.plan.now c.args.claim c.requires.planned (length c.loop-tip.yielded)
     c.loop-tip.invariant.0 (omega (arith, h, c.requires)) own in
-    rw n (more, f.counted, omega (arith, f, c.pairs_among.ensures, c.pairs_among-in-loop-tip.ensures))
+    rw (n, c.join-shared.ensures.on, c.join-shared.ensures.pairs, c.from-tip.ensures) (more, f.counted, f.grown)
 
 pub returns : goal.returns
 returns c =

@@ -1,8 +1,8 @@
 use Rattle.std.proofs.Common.{◌≡◌, length, drop}
 use Rattle.model.specs.Plan.{pairs}
 use Rattle.goals.specs.Check.{is_valid}
-use Rattle.checking.specs.Checking.{on_tips}
-use Rattle.checking.proofs.Claim.{placed}
+use Rattle.plan_pairs.specs.OnTips.{on_tips}
+use Rattle.plan_pairs.proofs.Joined.{placed}
 use Rattle.checking.proofs.claimed.claim_refusal.Given as goal
 
 -- the lines passed are on tips of their own, and their placements are counted
