@@ -3,7 +3,7 @@
 use parts::changes::tip_by_tip;
 use parts::job::{list_in_words, Job};
 use parts::list::List;
-use parts::planning::{Along, Named, Wish, FEWEST_TIPS};
+use parts::planning::{Along, Named, Which, Wish, FEWEST_TIPS};
 
 fn named(text: &str) -> Named {
     let list = List::read(text.as_bytes()).unwrap_or_else(|faults| panic!("{text:?}: {faults:?}"));
@@ -315,6 +315,49 @@ fn changes_are_those_of_the_order_that_the_list_allows() {
     let why = "\nno changes in the order by tips: refused 29: no order obeys: R1 before C1 (rule on line 9), \
                C1 before R1 (rule on line 8); take out one of these rules\n";
     assert!(round.ends_with(why), "{round}");
+}
+
+/// The changes along these tips, the first of them after the mounted one.
+fn walk(tips: &[&str], mounted: Option<usize>) -> String {
+    let begin = mounted.map(|tip| tip.to_string());
+    let all: Vec<&str> = begin.as_deref().into_iter().chain(tips.iter().copied()).collect();
+    all.windows(2).filter(|pair| pair[0] != pair[1]).count().to_string()
+}
+
+#[test]
+fn printed_changes_hold_for_the_printed_orders() {
+    let mut compared = 0;
+    for list in
+        [MIXED, TWO_WOULD_DO, BETWEEN, FIGURE, "rack 3\nA tall : 1\nB at=0-1 : 2\nC : 0-1\nD fine : 0 2\nbefore B C\n"]
+    {
+        for mounted in [None, Some(0), Some(2)] {
+            let text = named(list).plan(Wish { mounted, price: Some(0), along: None }).unwrap();
+            let (rows, _) = text.split_once("\n\n").unwrap();
+            for (name, which) in [("quick", Which::Quick), ("best", Which::Best), ("exact", Which::Exact)] {
+                if !text.contains(&format!("\n{name} ")) || text.contains(&format!("\n{name} none")) {
+                    continue;
+                }
+                let tip_of = |row: &'_ str| row.split(' ').skip_while(|word| *word != name).nth(1).map(String::from);
+                let tips: Vec<String> = rows.lines().filter(|row| row.contains(" quick ")).filter_map(tip_of).collect();
+                let tips: Vec<&str> = tips.iter().map(String::as_str).collect();
+                let numbers = numbers(&text, name);
+                assert_eq!(numbers[2], walk(&tips, mounted), "{name} {mounted:?} {text}");
+                let used: std::collections::BTreeSet<&&str> = tips.iter().collect();
+                assert_eq!(numbers[1], used.len().to_string(), "{name} {text}");
+                let list = List::read(list.as_bytes()).unwrap();
+                let price = (which == Which::Exact).then_some(0);
+                let order = list.order_by_plan(which, Wish { mounted, price, along: None }).unwrap();
+                let placed = order.lines().filter_map(|line| line.strip_prefix("position ")?.rsplit(' ').next());
+                let placed: Vec<&str> = placed.collect();
+                assert_eq!(numbers[3], walk(&placed, mounted), "{name} {mounted:?} {order}");
+                let changes = if numbers[3] == "1" { "1 change ".into() } else { format!("{} changes ", numbers[3]) };
+                assert!(order.contains(&format!("\ntips of the {name} plan, {changes}in this order")), "{order}");
+                compared += 1;
+            }
+        }
+    }
+    // The last list has no best plan.
+    assert_eq!(compared, 42);
 }
 
 #[test]
