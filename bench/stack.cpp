@@ -43,6 +43,7 @@ static struct {
     size_t parts_length;
     uint32_t rules[TIPSHARE_RULE_PLACES * 1000];
     size_t rules_length;
+    uint8_t tips_of_parts[TIPSHARE_MOST_PARTS];
 } board;
 
 static uint64_t answer[TIPSHARE_ANSWER_PLACES];
@@ -51,6 +52,7 @@ static uint8_t out[job::kLongestFile];
 static uint32_t table[TIPSHARE_MOST_PLACES];
 static uint8_t changes[TIPSHARE_LONGEST_CHANGES];
 static uint8_t order[TIPSHARE_MOST_PARTS];
+static uint8_t last_positions[TIPSHARE_MOST_PARTS];
 static uint8_t text[TIPSHARE_REPORT_SPACE];
 
 static void read_it() { tipshare_read(board.file, board.length, answer, TIPSHARE_ANSWER_PLACES); }
@@ -71,6 +73,10 @@ static void best_it()
 {
     tipshare_best(board.file, board.length, board.mounted, plan, sizeof plan, table, TIPSHARE_MOST_PLACES, answer,
                   TIPSHARE_ANSWER_PLACES);
+}
+static void along_it()
+{
+    tipshare_along(board.file, board.length, board.mounted, plan, sizeof plan, answer, TIPSHARE_ANSWER_PLACES);
 }
 static void check_it()
 {
@@ -101,15 +107,37 @@ static void order_it()
     tipshare_order(board.parts, board.parts_length, board.rules, board.rules_length, order, sizeof order, answer,
                    TIPSHARE_ANSWER_PLACES);
 }
+static void windows_it()
+{
+    tipshare_windows(board.parts, board.parts_length, board.rules, board.rules_length, order, sizeof order,
+                     last_positions, sizeof last_positions, answer, TIPSHARE_ANSWER_PLACES);
+}
+static void order_by_tips_it()
+{
+    tipshare_order_by_tips(board.parts, board.parts_length, board.rules, board.rules_length, board.tips_of_parts,
+                           sizeof board.tips_of_parts, board.mounted, order, sizeof order, answer,
+                           TIPSHARE_ANSWER_PLACES);
+}
 static void report_it() { tipshare_report(board.file, board.length, text, sizeof text); }
 
 static const struct {
     const char *name;
     void (*make)();
-} calls[] = {{"tipshare_read", read_it},   {"tipshare_common", common_it}, {"tipshare_keep", keep_it},
-             {"tipshare_goal", goal_it},   {"tipshare_quick", quick_it},   {"tipshare_best", best_it},
-             {"tipshare_check", check_it}, {"tipshare_junior", junior_it}, {"tipshare_merge", merge_it},
-             {"tipshare_alone", alone_it}, {"tipshare_mend", mend_it},     {"tipshare_order", order_it},
+} calls[] = {{"tipshare_read", read_it},
+             {"tipshare_common", common_it},
+             {"tipshare_keep", keep_it},
+             {"tipshare_goal", goal_it},
+             {"tipshare_quick", quick_it},
+             {"tipshare_best", best_it},
+             {"tipshare_along", along_it},
+             {"tipshare_check", check_it},
+             {"tipshare_junior", junior_it},
+             {"tipshare_merge", merge_it},
+             {"tipshare_alone", alone_it},
+             {"tipshare_mend", mend_it},
+             {"tipshare_order", order_it},
+             {"tipshare_windows", windows_it},
+             {"tipshare_order_by_tips", order_by_tips_it},
              {"tipshare_report", report_it}};
 enum { CALLS = sizeof calls / sizeof calls[0] };
 
@@ -216,6 +244,9 @@ static void make_parts()
         const uint32_t later = (uint32_t)(1 + (size_t)rand() % (count - 1));
         board.rules[TIPSHARE_RULE_PLACES * rule] = (uint32_t)rand() % later;
         board.rules[TIPSHARE_RULE_PLACES * rule + 1] = later;
+    }
+    for (uint8_t &tip : board.tips_of_parts) {
+        tip = (uint8_t)(rand() % 64);
     }
     board.parts_length = TIPSHARE_PART_PLACES * count;
     board.rules_length = TIPSHARE_RULE_PLACES * rule_count;
