@@ -10,6 +10,8 @@
  */
 #include "libraries.h"
 
+#include "along.h"
+#include "exact.h"
 #include "job.h"
 #include "mend.h"
 #include "order.h"
@@ -260,6 +262,87 @@ uint32_t best(const Lines &lines, const Job &job, const Named &named, size_t mou
     write_table(named, job.rack, [&](size_t a, size_t b) { return stretches.pairs_of(a, b); }, table);
     lay_best(lines.sets, job.count, named, [&](int a, int b) { return stretches.tip_of(a, b); }, plan);
     return table[job.rack - 1];
+}
+
+/* Lays lines on the tips that they share with those before them, segment by segment. */
+template <typename Quantities>
+Along lay_along(const uint64_t *sets, Quantities quantities, size_t count, size_t mounted, uint8_t *plan)
+{
+    uint64_t shared = tips_before(mounted);
+    uint32_t placements[kMostTips] = {};
+    uint32_t changes = 0;
+    size_t first = 0;
+    uint32_t of_segment = 0;
+    const auto end_segment = [&](size_t end) {
+        memset(plan + first, static_cast<int>(lowest(shared)), end - first);
+        placements[lowest(shared)] += of_segment;
+        first = end;
+        of_segment = 0;
+    };
+    for (size_t line = 0; line < count; line++) {
+        if ((shared & sets[line]) == 0) {
+            end_segment(line);
+            changes++;
+            shared = sets[line];
+        }
+        shared &= sets[line];
+        of_segment += quantities[line];
+    }
+    end_segment(count);
+    return {changes, pairs_of(placements)};
+}
+
+/* The placements of the lines within each set of ranks: those of each set alone, and then tip by tip those without the tip. */
+template <typename Quantities>
+void count_within_sets(const uint64_t *sets, Quantities quantities, size_t count, const Named &named, uint32_t *within)
+{
+    const size_t all = size_t{1} << named.count;
+    memset(within, 0, all * sizeof *within);
+    for (size_t line = 0; line < count; line++) {
+        within[ranks_of(named, sets[line])] += quantities[line];
+    }
+    for (size_t rank = 0; rank < named.count; rank++) {
+        for (size_t set = 0; set < all; set++) {
+            if ((set >> rank & 1) != 0) {
+                within[set] += within[set ^ size_t{1} << rank];
+            }
+        }
+    }
+}
+
+/* The score of each set of ranks, by those of the sets without one of its tips. */
+void fill_scores(size_t ranks, uint32_t price, const uint32_t *within, uint32_t *scores)
+{
+    scores[0] = 0;
+    for (size_t set = 1; set < size_t{1} << ranks; set++) {
+        uint32_t most = 0;
+        for (size_t rest = set; rest != 0; rest &= rest - 1) {
+            const size_t without = set ^ (rest & -rest);
+            const uint32_t score = gain_of(within[set] - within[without], price) + scores[without];
+            most = most > score ? most : score;
+        }
+        scores[set] = most;
+    }
+}
+
+/* Exact sharing; a line is on no tip as long as its byte is past every tip. */
+template <typename Quantities>
+Shared share_exactly(const uint64_t *sets, Quantities quantities, size_t count, const Named &named, size_t mounted,
+                     uint32_t price, uint8_t *plan, uint32_t *table)
+{
+    count_within_sets(sets, quantities, count, named, table);
+    fill_scores(named.count, price, table, table + (size_t{1} << named.count));
+    memset(plan, kMostTips, count);
+    return take_tips(named, mounted, price, table, [&](unsigned tip) {
+        uint32_t placements = 0;
+        for (size_t line = 0; line < count; line++) {
+            if (plan[line] == kMostTips && (sets[line] >> tip & 1) != 0) {
+                plan[line] = static_cast<uint8_t>(tip);
+                placements += quantities[line];
+            }
+        }
+        return placements;
+    });
 }
 
 /* For a goal of pairs: the most pairs inside and outside each stretch of the rack, from its first tip to before its end. */
@@ -555,6 +638,35 @@ uint32_t baseline_best(const uint8_t *file, size_t file_len, size_t mounted, uin
     });
 }
 
+uint32_t baseline_along(const uint8_t *file, size_t file_len, size_t mounted, uint8_t *plan, size_t plan_len,
+                        uint64_t *answer, size_t answer_len)
+{
+    Lines lines;
+    const auto read = [&] { return read_sets(file, file_len, lines); };
+    return answer_with(answer, answer_len, read, [&](const Job &job) {
+        return answer_along(job, mounted, plan_len, answer, [&] {
+            return with_quantities(job, lines.quantities, [&](auto quantities) {
+                return lay_along(lines.sets, quantities, job.count, mounted, plan);
+            });
+        });
+    });
+}
+
+uint32_t baseline_exact(const uint8_t *file, size_t file_len, size_t mounted, uint32_t price, uint8_t *plan,
+                        size_t plan_len, uint32_t *table, size_t table_len, uint64_t *answer, size_t answer_len)
+{
+    Lines lines;
+    const auto read = [&] { return read_sets(file, file_len, lines); };
+    return answer_with(answer, answer_len, read, [&](const Job &job) {
+        const Exact exact{price, plan_len, table, table_len};
+        return answer_exact(lines.sets, job, mounted, exact, answer, [&](const Named &named, uint32_t counted) {
+            return with_quantities(job, lines.quantities, [&](auto quantities) {
+                return share_exactly(lines.sets, quantities, job.count, named, mounted, counted, plan, table);
+            });
+        });
+    });
+}
+
 uint32_t baseline_check(const uint8_t *file, size_t file_len, const uint8_t *plan, size_t plan_len, uint32_t claim,
                         const uint32_t *table, size_t table_len, uint64_t *answer, size_t answer_len)
 {
@@ -636,10 +748,34 @@ uint32_t baseline_mend(const uint8_t *file, size_t file_len, uint8_t *out, size_
 uint32_t baseline_order(const uint32_t *parts, size_t parts_len, const uint32_t *rules, size_t rules_len,
                         uint8_t *order, size_t order_len, uint64_t *answer, size_t answer_len)
 {
-    return order::answer_order({parts, parts_len, rules, rules_len, order, order_len, answer, answer_len},
+    return order::answer_order({parts, parts_len, rules, rules_len, answer, answer_len}, order, order_len,
                                [](const order::Given &given, uint8_t *found) {
                                    return order::Plain(given).least(found);
                                });
+}
+
+uint32_t baseline_order_by_tips(const uint32_t *parts, size_t parts_len, const uint32_t *rules, size_t rules_len,
+                                const uint8_t *plan, size_t plan_len, size_t mounted, uint8_t *order, size_t order_len,
+                                uint64_t *answer, size_t answer_len)
+{
+    const order::LentTips tips{plan, plan_len, mounted};
+    return order::answer_by_tips({parts, parts_len, rules, rules_len, answer, answer_len}, tips, order, order_len,
+                                 [&](const order::Given &given, uint8_t *found) {
+                                     return order::Plain(given).best(found, [&](size_t position, size_t part) {
+                                         return order::tip_before(tips, found, position) == tips.plan[part];
+                                     });
+                                 });
+}
+
+uint32_t baseline_windows(const uint32_t *parts, size_t parts_len, const uint32_t *rules, size_t rules_len,
+                          uint8_t *first, size_t first_len, uint8_t *last, size_t last_len, uint64_t *answer,
+                          size_t answer_len)
+{
+    return order::answer_windows({parts, parts_len, rules, rules_len, answer, answer_len},
+                                 {first, first_len, last, last_len},
+                                 [](const order::Given &given, order::Windows &found) {
+                                     return order::Plain(given).windows(found);
+                                 });
 }
 
 size_t baseline_report(const uint8_t *file, size_t file_len, uint8_t *out, size_t out_len)

@@ -1,5 +1,5 @@
 /*
- * The placing order in both hand-written forms: refusals, then the least order in n * n steps. The last positions are
+ * The calls on parts and rules in both hand-written forms: refusals, then the least order in n * n steps. The last positions are
  * settled along 'before', so that a part before another has no later one. Then, position by position: h is the nearest
  * last position up to which the parts left fill every position, and the lowest part is taken that has begun, ends at h or
  * before, and has no part left before it.
@@ -69,20 +69,18 @@ struct Given {
     }
 };
 
-/* Lent buffers of a call. */
+/* Parts, rules and answer of a call as they are lent. */
 struct Lent {
     const uint32_t *parts;
     size_t parts_len;
     const uint32_t *rules;
     size_t rules_len;
-    uint8_t *order;
-    size_t order_len;
     uint64_t *answer;
     size_t answer_len;
 };
 
-/* Answers by least(given, order), which fills the order of a good call, and is false where none obeys. */
-template <typename Least> [[gnu::always_inline]] inline uint32_t answer_order(const Lent &lent, const Least &least)
+/* Answers a call on parts and rules: refused where the answer is short or a part or a rule not good, else by work(given). */
+template <typename Work> [[gnu::always_inline]] inline uint32_t answer_on_parts(const Lent &lent, const Work &work)
 {
     if (lent.answer_len < TIPSHARE_ANSWER_PLACES) {
         return TIPSHARE_SHORT_ANSWER;
@@ -103,15 +101,113 @@ template <typename Least> [[gnu::always_inline]] inline uint32_t answer_order(co
     if (rule < given.rule_count) {
         return job::refused(lent.answer, TIPSHARE_BAD_RULE, rule);
     }
-    if (lent.order_len < given.count) {
-        return job::refused(lent.answer, TIPSHARE_SHORT_ORDER);
+    return work(given);
+}
+
+/* Answers by least(given, order), which fills the order of a good call, and is false where none obeys. */
+template <typename Least>
+[[gnu::always_inline]] inline uint32_t answer_order(const Lent &lent, uint8_t *order, size_t order_len,
+                                                    const Least &least)
+{
+    return answer_on_parts(lent, [&](const Given &given) {
+        if (order_len < given.count) {
+            return job::refused(lent.answer, TIPSHARE_SHORT_ORDER);
+        }
+        uint8_t found[kMostParts];
+        if (!least(given, found)) {
+            return job::refused(lent.answer, TIPSHARE_NO_ORDER);
+        }
+        memcpy(order, found, given.count);
+        return job::answered(lent.answer, TIPSHARE_ACCEPTED, 0, given.count, 0, 0);
+    });
+}
+
+/* The first and the last position of each part. */
+struct Windows {
+    uint8_t first[kMostParts];
+    uint8_t last[kMostParts];
+};
+
+/* Buffers for the positions of each part. */
+struct LentWindows {
+    uint8_t *first;
+    size_t first_len;
+    uint8_t *last;
+    size_t last_len;
+};
+
+/* Answers by find(given, windows), which fills the positions of a good call, and is false where no order obeys. */
+template <typename Find>
+[[gnu::always_inline]] inline uint32_t answer_windows(const Lent &lent, const LentWindows &to, const Find &find)
+{
+    return answer_on_parts(lent, [&](const Given &given) {
+        if (to.first_len < given.count || to.last_len < given.count) {
+            return job::refused(lent.answer, TIPSHARE_SHORT_ORDER);
+        }
+        Windows found;
+        if (!find(given, found)) {
+            return job::refused(lent.answer, TIPSHARE_NO_ORDER);
+        }
+        memcpy(to.first, found.first, given.count);
+        memcpy(to.last, found.last, given.count);
+        return job::answered(lent.answer, TIPSHARE_ACCEPTED, 0, given.count, 0, 0);
+    });
+}
+
+/* What an order by tips is lent beside an order: the tip of each part, and the mounted one. */
+struct LentTips {
+    const uint8_t *plan;
+    size_t plan_len;
+    size_t mounted;
+};
+
+/* The tip on the head before a position, or no tip. */
+inline size_t tip_before(const LentTips &tips, const uint8_t *order, size_t position)
+{
+    return position == 0 ? tips.mounted : size_t{tips.plan[order[position - 1]]};
+}
+
+/* The first part whose tip is none, their number where there is none. */
+inline size_t first_bad_tip(const LentTips &tips, size_t count)
+{
+    size_t part = 0;
+    while (part < count && tips.plan[part] < job::kMostTips) {
+        part++;
     }
-    uint8_t found[kMostParts];
-    if (!least(given, found)) {
-        return job::refused(lent.answer, TIPSHARE_NO_ORDER);
-    }
-    memcpy(lent.order, found, given.count);
-    return job::answered(lent.answer, TIPSHARE_ACCEPTED, 0, given.count, 0, 0);
+    return part;
+}
+
+/* Answers by best(given, order), which fills the order by tips of a good call, and is false where none obeys. */
+template <typename Best>
+[[gnu::always_inline]] inline uint32_t answer_by_tips(const Lent &lent, const LentTips &tips, uint8_t *order,
+                                                      size_t order_len, const Best &best)
+{
+    return answer_on_parts(lent, [&](const Given &given) {
+        if (order_len < given.count) {
+            return job::refused(lent.answer, TIPSHARE_SHORT_ORDER);
+        }
+        if (tips.plan_len < given.count) {
+            return job::refused(lent.answer, TIPSHARE_SHORT_PLAN);
+        }
+        const size_t part = first_bad_tip(tips, given.count);
+        if (part < given.count) {
+            return job::refused(lent.answer, TIPSHARE_TIP_OUTSIDE, part);
+        }
+        if (tips.mounted >= job::kMostTips && tips.mounted != TIPSHARE_NO_TIP) {
+            return job::refused(lent.answer, TIPSHARE_MOUNTED_OUTSIDE);
+        }
+        uint8_t found[kMostParts];
+        if (!best(given, found)) {
+            return job::refused(lent.answer, TIPSHARE_NO_ORDER);
+        }
+        memcpy(order, found, given.count);
+        uint64_t changes = 0;
+        for (size_t position = 0; position < given.count; position++) {
+            const size_t before = tip_before(tips, found, position);
+            changes += before != TIPSHARE_NO_TIP && before != tips.plan[found[position]];
+        }
+        return job::answered(lent.answer, TIPSHARE_ACCEPTED, 0, given.count, changes, 0);
+    });
 }
 
 /* The same steps as the proved library, in plain loops over bytes. */
@@ -138,14 +234,28 @@ public:
 
     bool least(uint8_t *order)
     {
+        return best(order, [](size_t, size_t) { return true; });
+    }
+
+    /*
+     * At each position the lowest of the wanted parts, given the position and the part, else the lowest of all. The last
+     * positions are settled, so that a second order of the same parts begins with them.
+     */
+    template <typename IsWanted> bool best(uint8_t *order, const IsWanted &is_wanted)
+    {
         settle();
         count_waits();
         for (size_t position = 0; position < count; position++) {
             const size_t bound = full_up_to(position);
+            const auto is_candidate = [&](size_t part) {
+                return waits[part] == 0 && left[part] != 0 && last[part] <= bound && first[part] <= position;
+            };
             size_t part = 0;
-            while (part < count &&
-                   (waits[part] != 0 || left[part] == 0 || last[part] > bound || first[part] > position)) {
+            while (part < count && !(is_candidate(part) && is_wanted(position, part))) {
                 part++;
+            }
+            for (size_t other = 0; part == count && other < count; other++) {
+                part = is_candidate(other) ? other : count;
             }
             if (bound == count || part == count) {
                 return false;
@@ -155,6 +265,48 @@ public:
             for (size_t other = 0; other < count; other++) {
                 waits[other] = static_cast<uint8_t>(waits[other] - before[part][other]);
             }
+        }
+        return true;
+    }
+
+    /* Halves the positions of each part: an order with the part no later than one of them has it no later than the next. */
+    bool windows(Windows &found)
+    {
+        uint8_t order[kMostParts];
+        if (!least(order)) {
+            return false;
+        }
+        uint8_t settled[kMostParts];
+        memcpy(settled, last, count);
+        const auto has_order = [&](uint8_t &bound, size_t position) {
+            const uint8_t kept = bound;
+            bound = static_cast<uint8_t>(position);
+            const bool has = least(order);
+            memcpy(last, settled, count);
+            bound = kept;
+            return has;
+        };
+        for (size_t part = 0; part < count; part++) {
+            size_t none = first[part], some = last[part];
+            while (none < some) {
+                const size_t middle = (none + some) / 2;
+                if (has_order(last[part], middle)) {
+                    some = middle;
+                } else {
+                    none = middle + 1;
+                }
+            }
+            found.first[part] = static_cast<uint8_t>(some);
+            size_t least_last = some, most = last[part];
+            while (least_last < most) {
+                const size_t middle = (least_last + most + 1) / 2;
+                if (has_order(first[part], middle)) {
+                    least_last = middle;
+                } else {
+                    most = middle - 1;
+                }
+            }
+            found.last[part] = static_cast<uint8_t>(most);
         }
         return true;
     }
@@ -237,6 +389,14 @@ template <size_t Words> struct Parts {
     {
         return Words == 1 || word[0] != 0 ? job::lowest(word[0]) : 64 + job::lowest(word[Words - 1]);
     }
+    size_t size() const
+    {
+        size_t all = 0;
+        for (size_t at = 0; at < Words; at++) {
+            all += static_cast<size_t>(__builtin_popcountll(word[at]));
+        }
+        return all;
+    }
     void put(size_t part) { word[word_of(part)] |= uint64_t{1} << part % 64; }
     void take(size_t part) { word[word_of(part)] &= ~(uint64_t{1} << part % 64); }
 
@@ -279,11 +439,131 @@ template <size_t Words> struct Parts {
  */
 template <size_t Words> class Tuned {
 public:
-    explicit Tuned(const Given &given) : given(given), count(given.count) {}
+    explicit Tuned(const Given &given) : given(given), count(given.count) { list_before(); }
 
     bool least(uint8_t *__restrict order)
     {
-        list_before();
+        return place(order, [](const Set &candidates, size_t) { return candidates; });
+    }
+
+    /* The lowest of those on the tip on the head, else the lowest. */
+    bool by_tips(const LentTips &tips, uint8_t *__restrict order)
+    {
+        Set on_tip[job::kMostTips] = {};
+        for (size_t part = 0; part < count; part++) {
+            on_tip[tips.plan[part]].put(part);
+        }
+        return place(order, [&](const Set &candidates, size_t position) {
+            const size_t tip = tip_before(tips, order, position);
+            const Set wanted = tip == TIPSHARE_NO_TIP ? Set{} : candidates & on_tip[tip];
+            return wanted.any() ? wanted : candidates;
+        });
+    }
+
+    /*
+     * The positions of each part in the orders found, in which it comes as early or as late as it can: its first position is
+     * halved between the earliest that those before it leave and the earliest found, and its last likewise. The parts given,
+     * whose positions are changed meanwhile, are these.
+     */
+    bool windows(uint32_t *parts, Windows &found)
+    {
+        uint8_t order[kMost];
+        if (!least(order)) {
+            return false;
+        }
+        memset(found.first, static_cast<int>(count), count);
+        memset(found.last, 0, count);
+        note(order, found);
+        uint8_t low[kMost], high[kMost];
+        narrow(order, low, high);
+        const auto early = [&](size_t part) {
+            return [=](const Set &candidates, size_t) { return preferred(candidates, candidates & ahead[part]); };
+        };
+        const auto late = [&](size_t part) {
+            return [=](const Set &candidates, size_t) { return preferred(candidates, candidates & ~behind[part]); };
+        };
+        for (size_t part = 0; part < count; part++) {
+            uint32_t &first = parts[TIPSHARE_PART_PLACES * part], &last = parts[TIPSHARE_PART_PLACES * part + 1];
+            const uint32_t given_first = first, given_last = last;
+            for (size_t none = low[part]; none < found.first[part];) {
+                const size_t middle = (none + found.first[part]) / 2;
+                last = static_cast<uint32_t>(middle);
+                if (place(order, early(part))) {
+                    note(order, found);
+                } else {
+                    none = middle + 1;
+                }
+            }
+            last = given_last;
+            for (size_t none = high[part]; found.last[part] < none;) {
+                const size_t middle = (none + found.last[part] + 1) / 2;
+                first = static_cast<uint32_t>(middle);
+                if (place(order, late(part))) {
+                    note(order, found);
+                } else {
+                    none = middle - 1;
+                }
+            }
+            first = given_first;
+        }
+        return true;
+    }
+
+private:
+    using Set = Parts<Words>;
+    static constexpr size_t kStep = 16;
+    static constexpr size_t kMost = 64 * Words;
+
+    static Set preferred(const Set &candidates, const Set &wanted) { return wanted.any() ? wanted : candidates; }
+
+    /* Takes the positions of an order into those found. */
+    void note(const uint8_t *order, Windows &found) const
+    {
+        for (size_t position = 0; position < count; position++) {
+            const auto here = static_cast<uint8_t>(position);
+            uint8_t &first = found.first[order[position]], &last = found.last[order[position]];
+            first = first < here ? first : here;
+            last = last > here ? last : here;
+        }
+    }
+
+    /* The positions that flags and rules leave to each part, and the parts ahead of it and behind it, itself among both. */
+    void narrow(const uint8_t *order, uint8_t *low, uint8_t *high)
+    {
+        const size_t fine_parts = fine.size(), low_parts = this->low.size();
+        for (size_t part = 0; part < count; part++) {
+            const bool is_fine = fine.has(part), is_low = this->low.has(part);
+            const size_t least = is_low ? (is_fine ? 0 : fine_parts) : low_parts;
+            const size_t most = (is_fine ? fine_parts : is_low ? low_parts : count) - 1;
+            low[part] = static_cast<uint8_t>(least > given.first(part) ? least : given.first(part));
+            high[part] = static_cast<uint8_t>(most < given.last(part) ? most : given.last(part));
+            ahead[part] = behind[part] = {};
+        }
+        for (size_t position = 0; position < count; position++) {
+            const size_t part = order[position];
+            before[part].each([&](size_t other) {
+                low[part] = low[part] > low[other] ? low[part] : static_cast<uint8_t>(low[other] + 1);
+                ahead[part] = ahead[part] | ahead[other];
+            });
+            const size_t others = ahead[part].size();
+            low[part] = low[part] > others ? low[part] : static_cast<uint8_t>(others);
+            ahead[part].put(part);
+        }
+        for (size_t position = count; position-- > 0;) {
+            const size_t part = order[position];
+            const size_t most = count - 1 - behind[part].size();
+            high[part] = high[part] < most ? high[part] : static_cast<uint8_t>(most);
+            behind[part].put(part);
+            before[part].each([&](size_t other) {
+                high[other] = high[other] < high[part] ? high[other] : static_cast<uint8_t>(high[part] - 1);
+                behind[other] = behind[other] | behind[part];
+            });
+        }
+    }
+
+    /* At each position the lowest of those that pick leaves of the candidates. */
+    template <typename Pick> [[gnu::always_inline]] bool place(uint8_t *__restrict order, const Pick &pick)
+    {
         if (!settle()) {
             return false;
         }
@@ -294,18 +574,13 @@ public:
             if (!candidates.any()) {
                 return false;
             }
-            const size_t part = candidates.lowest();
+            const size_t part = pick(candidates, position).lowest();
             order[position] = static_cast<uint8_t>(part);
             leave(part);
             count_down(position, last[part]);
         }
         return true;
     }
-
-private:
-    using Set = Parts<Words>;
-    static constexpr size_t kStep = 16;
-    static constexpr size_t kMost = 64 * Words;
 
     void list_before()
     {
@@ -442,6 +717,9 @@ private:
     Set beginning[kMost];
     // Those that are looked at again when this one leaves.
     Set waiting[kMost];
+    // Of windows alone.
+    Set ahead[kMost];
+    Set behind[kMost];
 };
 
 }  // namespace order

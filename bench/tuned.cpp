@@ -6,6 +6,8 @@
  * at at once. Best sharing goes by the length of the stretch, four stretches at once, and so does a check, but in 64 bits
  * where some entry of the table is huge or the table not one that best sharing could have written. A goal of pairs makes
  * its tables once for all lines.
+ * Along the list each line either goes on with a segment or begins one, without a branch. Exact sharing scores eight sets of
+ * tips at once.
  * Sets are used as they stand in the file: the bit of tip t there is bit t ^ 56 of a 64-bit number. Those of version 2
  * are first packed without the quantities between them. A board whose quantities are all 1 has code of its own wherever
  * a quantity counts.
@@ -17,6 +19,8 @@
 #include <algorithm>
 #include <iterator>
 
+#include "along.h"
+#include "exact.h"
 #include "job.h"
 #include "mend.h"
 #include "order.h"
@@ -1199,6 +1203,183 @@ struct Reach {
     }
 };
 
+/* A segment of a plan along the list: the tips that its lines share, as they stand in a file, and what is before its end. */
+struct Segment {
+    uint64_t shared;
+    uint32_t lines;
+    uint32_t placements;
+};
+
+/* Splits the lines into segments, and gives their number; each line writes the segment before it, which stays if it ends it. */
+template <typename Quantities>
+size_t split(const Raw &raw, Quantities quantities, size_t lines, size_t mounted, Segment *segments)
+{
+    uint64_t shared = __builtin_bswap64(tips_before(mounted));
+    uint32_t placements = 0;
+    size_t ended = 0;
+    for (size_t line = 0; line < lines; line++) {
+        segments[ended] = {shared, static_cast<uint32_t>(line), placements};
+        const uint64_t set = raw.set(line);
+        const uint64_t both = shared & set;
+        ended += both == 0 ? 1 : 0;
+        shared = both == 0 ? set : both;
+        placements += quantities[line];
+    }
+    segments[ended] = {shared, static_cast<uint32_t>(lines), placements};
+    return ended + 1;
+}
+
+/* Plans along the list; the plan is laid 16 lines at once, which may pass the end of a segment. */
+template <typename Quantities>
+Along lay_along(const Raw &raw, Quantities quantities, size_t lines, size_t mounted, uint8_t *plan)
+{
+    constexpr size_t kStep = 16;
+    Segment segments[kMostLines + 1];
+    alignas(kStep) uint8_t laid[kMostLines + kStep];
+    uint32_t placements[kMostTips] = {};
+    const size_t number = split(raw, quantities, lines, mounted, segments);
+    size_t line = 0;
+    uint32_t before = 0;
+    for (size_t at = 0; at < number; at++) {
+        const Segment &segment = segments[at];
+        const unsigned tip = lowest(__builtin_bswap64(segment.shared));
+        const __m128i tips = _mm_set1_epi8(static_cast<char>(tip));
+        for (size_t from = line; from < segment.lines; from += kStep) {
+            _mm_storeu_si128(reinterpret_cast<__m128i *>(laid + from), tips);
+        }
+        placements[tip] += segment.placements - before;
+        before = segment.placements;
+        line = segment.lines;
+    }
+    memcpy(plan, laid, lines);
+    return {static_cast<uint32_t>(number - 1), pairs_of(placements)};
+}
+
+/*
+ * The scores of the sets of ranks, eight sets at once: those that differ in the three lowest ranks alone. A tip above these
+ * is taken from all eight; the three lowest are then taken from each.
+ */
+struct Scores {
+    static constexpr size_t kEight = 8;
+
+    const uint32_t *within;
+    uint32_t *score;
+    uint32_t price;
+
+    /* The gains of four tips with so many placements: half of p * (p - 1), or the price for none. */
+    static __m128i gains(__m128i placements, __m128i price)
+    {
+        const __m128i others = _mm_add_epi32(placements, _mm_set1_epi32(-1));
+        const __m128i pairs = _mm_srli_epi32(_mm_madd_epi16(placements, others), 1);
+        return _mm_or_si128(pairs, _mm_and_si128(_mm_cmpeq_epi32(placements, _mm_setzero_si128()), price));
+    }
+
+    static __m128i larger(__m128i one, __m128i other)
+    {
+        const __m128i above = _mm_cmpgt_epi32(one, other);
+        return _mm_or_si128(_mm_and_si128(above, one), _mm_andnot_si128(above, other));
+    }
+
+    static __m128i four_at(const uint32_t *at) { return _mm_loadu_si128(reinterpret_cast<const __m128i *>(at)); }
+
+    /* Of the eight sets from this one on, by the tips above the three lowest. */
+    void take_high(size_t first)
+    {
+        const __m128i prices = _mm_set1_epi32(static_cast<int>(price));
+        __m128i low = _mm_setzero_si128(), high = low;
+        const __m128i all_low = four_at(within + first), all_high = four_at(within + first + 4);
+        for (size_t rest = first; rest != 0; rest &= rest - 1) {
+            const size_t without = first ^ (rest & -rest);
+            const __m128i left_low = four_at(within + without), left_high = four_at(within + without + 4);
+            const __m128i gain_low = gains(_mm_sub_epi32(all_low, left_low), prices);
+            const __m128i gain_high = gains(_mm_sub_epi32(all_high, left_high), prices);
+            low = larger(low, _mm_add_epi32(gain_low, four_at(score + without)));
+            high = larger(high, _mm_add_epi32(gain_high, four_at(score + without + 4)));
+        }
+        _mm_storeu_si128(reinterpret_cast<__m128i *>(score + first), low);
+        _mm_storeu_si128(reinterpret_cast<__m128i *>(score + first + 4), high);
+    }
+
+    /* Of one set, by these of its tips. */
+    void take(size_t set, size_t tips)
+    {
+        uint32_t most = score[set];
+        for (size_t rest = tips; rest != 0; rest &= rest - 1) {
+            const size_t without = set ^ (rest & -rest);
+            most = std::max(most, gain_of(within[set] - within[without], price) + score[without]);
+        }
+        score[set] = most;
+    }
+
+    void fill(size_t sets)
+    {
+        if (sets < kEight) {
+            score[0] = 0;
+            for (size_t set = 1; set < sets; set++) {
+                score[set] = 0;
+                take(set, set);
+            }
+            return;
+        }
+        for (size_t first = 0; first < sets; first += kEight) {
+            take_high(first);
+            for (size_t low = 1; low < kEight; low++) {
+                take(first + low, low);
+            }
+        }
+    }
+};
+
+/* The placements of the lines within each set of ranks. */
+template <typename Quantities>
+void count_within(const uint64_t *sets, Quantities quantities, size_t count, const Named &named, uint32_t *within)
+{
+    const size_t all = size_t{1} << named.count;
+    memset(within, 0, all * sizeof *within);
+    for (size_t line = 0; line < count; line++) {
+        within[ranks_of(named, sets[line])] += quantities[line];
+    }
+    for (size_t half = 1; half < all; half *= 2) {
+        for (size_t from = 0; from < all; from += 2 * half) {
+            const uint32_t *const without = within + from;
+            uint32_t *const with = within + from + half;
+#pragma GCC ivdep
+            for (size_t at = 0; at < half; at++) {
+                with[at] += without[at];
+            }
+        }
+    }
+}
+
+/* Exact sharing: the lines that no tip has taken are gone through tip by tip. */
+template <typename Quantities>
+Shared share_exactly(const uint64_t *sets, Quantities quantities, size_t count, const Named &named, size_t mounted,
+                     uint32_t price, uint8_t *plan, uint32_t *table)
+{
+    const size_t all = size_t{1} << named.count;
+    count_within(sets, quantities, count, named, table);
+    Scores{table, table + all, price}.fill(all);
+    uint16_t left[kMostLines];
+    for (size_t line = 0; line < count; line++) {
+        left[line] = static_cast<uint16_t>(line);
+    }
+    size_t lines = count;
+    return take_tips(named, mounted, price, table, [&](unsigned tip) {
+        uint32_t placements = 0;
+        size_t stay = 0;
+        for (size_t at = 0; at < lines; at++) {
+            const size_t line = left[at];
+            const bool taken = (sets[line] >> tip & 1) != 0;
+            plan[line] = static_cast<uint8_t>(tip);
+            placements += taken ? quantities[line] : 0;
+            left[stay] = static_cast<uint16_t>(line);
+            stay += !taken;
+        }
+        lines = stay;
+        return placements;
+    });
+}
+
 }  // namespace
 
 extern "C" {
@@ -1303,6 +1484,35 @@ uint32_t tuned_best(const uint8_t *file, size_t file_len, size_t mounted, uint8_
     });
 }
 
+uint32_t tuned_along(const uint8_t *file, size_t file_len, size_t mounted, uint8_t *plan, size_t plan_len,
+                     uint64_t *answer, size_t answer_len)
+{
+    Raw raw;
+    const auto read = [&] { return read_raw(file, file_len, raw); };
+    return answer_with(answer, answer_len, read, [&](const Job &job) {
+        return answer_along(job, mounted, plan_len, answer, [&] {
+            return with_quantities(job, raw.quantities, [&](auto quantities) {
+                return lay_along(raw, quantities, job.count, mounted, plan);
+            });
+        });
+    });
+}
+
+uint32_t tuned_exact(const uint8_t *file, size_t file_len, size_t mounted, uint32_t price, uint8_t *plan,
+                     size_t plan_len, uint32_t *table, size_t table_len, uint64_t *answer, size_t answer_len)
+{
+    Lines lines;
+    const auto read = [&] { return read_sets(file, file_len, lines); };
+    return answer_with(answer, answer_len, read, [&](const Job &job) {
+        const Exact exact{price, plan_len, table, table_len};
+        return answer_exact(lines.sets, job, mounted, exact, answer, [&](const Named &named, uint32_t counted) {
+            return with_quantities(job, lines.quantities, [&](auto quantities) {
+                return share_exactly(lines.sets, quantities, job.count, named, mounted, counted, plan, table);
+            });
+        });
+    });
+}
+
 uint32_t tuned_check(const uint8_t *file, size_t file_len, const uint8_t *plan, size_t plan_len, uint32_t claim,
                      const uint32_t *table, size_t table_len, uint64_t *answer, size_t answer_len)
 {
@@ -1396,11 +1606,38 @@ uint32_t tuned_mend(const uint8_t *file, size_t file_len, uint8_t *out, size_t o
 uint32_t tuned_order(const uint32_t *parts, size_t parts_len, const uint32_t *rules, size_t rules_len,
                      uint8_t *order, size_t order_len, uint64_t *answer, size_t answer_len)
 {
-    return order::answer_order({parts, parts_len, rules, rules_len, order, order_len, answer, answer_len},
+    return order::answer_order({parts, parts_len, rules, rules_len, answer, answer_len}, order, order_len,
                                [](const order::Given &given, uint8_t *found) {
                                    return given.count <= 64 ? order::Tuned<1>(given).least(found)
                                                             : order::Tuned<2>(given).least(found);
                                });
+}
+
+uint32_t tuned_order_by_tips(const uint32_t *parts, size_t parts_len, const uint32_t *rules, size_t rules_len,
+                             const uint8_t *plan, size_t plan_len, size_t mounted, uint8_t *order, size_t order_len,
+                             uint64_t *answer, size_t answer_len)
+{
+    const order::LentTips tips{plan, plan_len, mounted};
+    return order::answer_by_tips({parts, parts_len, rules, rules_len, answer, answer_len}, tips, order, order_len,
+                                 [&](const order::Given &given, uint8_t *found) {
+                                     return given.count <= 64 ? order::Tuned<1>(given).by_tips(tips, found)
+                                                              : order::Tuned<2>(given).by_tips(tips, found);
+                                 });
+}
+
+uint32_t tuned_windows(const uint32_t *parts, size_t parts_len, const uint32_t *rules, size_t rules_len,
+                       uint8_t *first, size_t first_len, uint8_t *last, size_t last_len, uint64_t *answer,
+                       size_t answer_len)
+{
+    return order::answer_windows({parts, parts_len, rules, rules_len, answer, answer_len},
+                                 {first, first_len, last, last_len},
+                                 [](const order::Given &lent, order::Windows &found) {
+                                     uint32_t numbers[TIPSHARE_PART_PLACES * order::kMostParts];
+                                     memcpy(numbers, lent.parts, TIPSHARE_PART_PLACES * lent.count * sizeof *numbers);
+                                     const order::Given given{numbers, lent.count, lent.rules, lent.rule_count};
+                                     return given.count <= 64 ? order::Tuned<1>(given).windows(numbers, found)
+                                                              : order::Tuned<2>(given).windows(numbers, found);
+                                 });
 }
 
 size_t tuned_report(const uint8_t *file, size_t file_len, uint8_t *out, size_t out_len)

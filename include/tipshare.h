@@ -89,8 +89,11 @@
  *        63                                    to 63
  *     4  plan is shorter than n bytes, for     pass n bytes; 512 is always
  *        tipshare_alone than both plans        enough, for tipshare_alone 1024
- *     5  table is shorter than m * m places    pass m * m places; 4096 is
- *                                              always enough
+ *     5  table is shorter than m * m places,   pass m * m places; 4096 is
+ *        for tipshare_exact than 2 * 2^r       always enough. For
+ *                                              tipshare_exact pass 2 * 2^r, r
+ *                                              being the number of different
+ *                                              tips of all lines
  *     6  the file is shorter than 8 bytes      pass the whole file
  *     7  the file does not begin with "TIP"    pass a job file
  *     8  the version is neither 1 nor 2        write the file as version 1 or 2
@@ -142,6 +145,8 @@
  *        that the plan has the most pairs      use tipshare_best
  *    34  no plan has goal pairs or more        lower the goal to the pairs of
  *                                              tipshare_best
+ *    35  tipshare_exact, and the lines have     use tipshare_quick, which takes
+ *        more than 20 different tips           any lines
  *   100  answer has fewer than 4 places        pass 4 places
  *   101  parts_len is not a multiple of 4, or  pass 4 numbers a part and 2
  *        rules_len not of 2                    numbers a rule
@@ -167,6 +172,9 @@ extern "C" {
 #define TIPSHARE_MOST_PLACEMENTS 2048 /* the most placements of all lines together */
 #define TIPSHARE_MOST_PAIRS 2096128   /* the most pairs: all placements on one tip */
 #define TIPSHARE_MOST_PLACES 4096     /* a table that is always enough */
+#define TIPSHARE_EXACT_TIPS 20        /* the most different tips of all lines for exact sharing */
+#define TIPSHARE_EXACT_PLACES 2097152 /* a table that is always enough for exact sharing */
+#define TIPSHARE_MOST_PRICE 2096129   /* a price from which a plan has the fewest tips */
 #define TIPSHARE_JUNIOR_TIPS 8        /* the largest rack that is planned for the Junior */
 #define TIPSHARE_JUNIOR_LINES 64      /* the most lines planned for the Junior, and a plan that is always enough for it */
 #define TIPSHARE_LONGEST_FILE 4616    /* the longest good job file, in bytes, and an out that is always enough */
@@ -216,6 +224,7 @@ extern "C" {
 #define TIPSHARE_NO_TWO_TIPS 31
 #define TIPSHARE_WRONG_TABLE 33
 #define TIPSHARE_GOAL_MISSED 34
+#define TIPSHARE_TOO_MANY_NAMED 35
 #define TIPSHARE_SHORT_ANSWER 100
 #define TIPSHARE_BROKEN_RECORD 101
 
@@ -367,6 +376,33 @@ uint32_t tipshare_junior(const uint8_t *file, size_t file_len,
                          uint64_t *answer, size_t answer_len);
 
 /*
+ * Plans any lines that have at most 20 different tips, at a price for each tip
+ * that the plan uses: no other plan has more pairs when the price is taken off
+ * for each of its tips. Price 0 gives the most pairs. A price of 2096129 gives
+ * the fewest tips, and of the plans with as few the most pairs; a higher price
+ * counts as 2096129. Lines with equal sets are on equal tips. With r different
+ * tips it takes about r * 2^r steps.
+ * file: file_len bytes, any number. mounted: the tip on the head, 0 to m - 1,
+ * or TIPSHARE_NO_TIP. price: any number. plan: at least n bytes. table: at least
+ * 2 * 2^r places, r being the number of different tips of all lines;
+ * TIPSHARE_EXACT_PLACES is always enough. answer: at least 4 places.
+ * Accepted: plan[i] is the tip of line i, for i below n; for each set U of the
+ * different tips, bit i standing for the i-th of them, the lowest first,
+ * table[U] is the number of placements of the lines that have no tip outside U,
+ * and table[2^r + U] the most that a plan of those lines reaches: its pairs and
+ * the price for each tip of U that it does not use; the rest of plan and table
+ * is untouched; answer is 0, the number of pairs in the plan (2096128 at most),
+ * the number of tips that it uses, 0.
+ * Refused (1, 2, 3, 6 to 10, 15, 30, then 16, 4, 35, 5): plan and table are
+ * untouched; answer is the line, 0, 0, 0.
+ */
+uint32_t tipshare_exact(const uint8_t *file, size_t file_len, size_t mounted,
+                        uint32_t price,
+                        uint8_t *plan, size_t plan_len,
+                        uint32_t *table, size_t table_len,
+                        uint64_t *answer, size_t answer_len);
+
+/*
  * Plans for a machine that places the lines in the order of the list, with the
  * fewest tip changes. A change is counted wherever two neighbouring lines are on
  * different tips, and before the first line if a tip is mounted and that line is
@@ -487,7 +523,7 @@ uint32_t tipshare_order(const uint32_t *parts, size_t parts_len,
  * Finds the first and the last position that each part has in any placing order
  * that obeys, as tipshare_order describes it. Both are exact: some order has the
  * part there, and none has it earlier or later. Between them there may be
- * positions that the part has in no order. No job file is read.
+ * positions that the part has in no order. It reads no job file.
  * parts, rules: as for tipshare_order. first, last: at least n bytes each.
  * answer: at least 4 places.
  * Accepted: part i has position first[i] in some order, last[i] in some order,
@@ -495,7 +531,7 @@ uint32_t tipshare_order(const uint32_t *parts, size_t parts_len,
  * answer is 0, the number of parts n, 0, 0. Without parts the call is accepted,
  * and nothing is written to first and last.
  * Refused (101, then 12, 13, 14, 29): first and last are untouched; answer is
- * the first part with bad positions for 12 (0 where there are over 128 parts),
+ * the first part with bad positions for 12 (0 if there are over 128 parts),
  * the first bad rule for 13, else 0, then 0, 0, 0.
  */
 uint32_t tipshare_windows(const uint32_t *parts, size_t parts_len,
@@ -512,7 +548,7 @@ uint32_t tipshare_windows(const uint32_t *parts, size_t parts_len,
  * changes it; an order that begins otherwise may have fewer changes. If all parts
  * are on one tip, the order is that of tipshare_order.
  * A change is counted wherever two neighbouring parts are on different tips, and
- * before the first part where a tip is mounted and that part is on another.
+ * before the first part if a tip is mounted and that part is on another.
  * parts, rules, order: as for tipshare_order. plan: at least n bytes, plan[i] is
  * the tip of part i, 0 to 63. mounted: the tip on the head, 0 to 63, or
  * TIPSHARE_NO_TIP. answer: at least 4 places.

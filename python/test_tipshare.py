@@ -82,6 +82,22 @@ class Calls(unittest.TestCase):
             with self.assertRaises(ValueError):
                 tipshare.along(file, wrong)
 
+    def test_exact(self):
+        # Tips 0, 1 and 2 with 10 pairs, or tips 1 and 2 with 9.
+        file = tipshare.job(3, [([0, 1], 3), ([0, 2], 2), [1], [2]])
+        self.assertEqual(tipshare.exact(file), ([0, 0, 1, 2], 10, 3))
+        self.assertEqual(tipshare.exact(file, price=1), ([0, 0, 1, 2], 10, 3))
+        self.assertEqual(tipshare.exact(file, price=1, mounted=2), ([1, 2, 1, 2], 9, 2))
+        self.assertEqual(tipshare.exact(file, price=2**32 - 1), ([1, 2, 1, 2], 9, 2))
+        self.assertEqual(tipshare.exact(tipshare.job(64, [])), ([], 0, 0))
+        self.assertEqual(tipshare.exact(tipshare.job(64, [[0, 63], [63]])), ([63, 63], 1, 1))
+        self.refused(16, 0, tipshare.exact, file, 0, 3)
+        self.refused(35, 0, tipshare.exact, tipshare.job(64, [range(21)]))
+        self.refused(6, 0, tipshare.exact, b"")
+        for wrong in (-1, 2**32):
+            with self.assertRaises(ValueError):
+                tipshare.exact(file, wrong)
+
     def test_check(self):
         file = tipshare.job(3, [([0], 2), ([0, 1], 3), ([1, 2], 3), ([2], 2)])
         tips, pairs, table = tipshare.best(file)

@@ -20,8 +20,8 @@ import pathlib
 
 __version__ = "2.0.0"
 __all__ = [
-    "Refused", "Plan", "Part", "plan", "job", "read", "common", "keep", "goal", "quick", "best", "along", "check",
-    "junior", "merge", "alone", "mend", "order", "windows", "order_by_tips",
+    "Refused", "Plan", "Part", "plan", "job", "read", "common", "keep", "goal", "quick", "best", "along", "exact",
+    "check", "junior", "merge", "alone", "mend", "order", "windows", "order_by_tips",
     "report", "words", "version",
 ]
 
@@ -31,6 +31,7 @@ MOST_QUANTITY = 255
 LONGEST_FILE = 4616
 LONGEST_CHANGES = 3081
 MOST_PARTS = 128
+EXACT_TIPS = 20
 _REPORT_SPACE = 16384
 _NO_TIP = ctypes.c_size_t(-1).value
 _NAME = "libtipshare.so.2"
@@ -81,7 +82,8 @@ def _load():
     before = {
         "read": lent, "common": lent, "keep": lent + [ctypes.c_uint16] + lent, "goal": lent + [number] + lent,
         "quick": lent + [size] + lent, "best": lent + [size] + lent + lent,
-        "along": lent + [size] + lent, "check": lent + lent + [number] + lent, "junior": lent + lent, "merge": lent + lent + lent,
+        "along": lent + [size] + lent,
+        "exact": lent + [size, number] + lent + lent, "check": lent + lent + [number] + lent, "junior": lent + lent, "merge": lent + lent + lent,
         "alone": lent + lent + lent, "mend": lent + lent + lent, "order": lent + lent + lent,
         "windows": lent + lent + lent + lent, "order_by_tips": lent + lent + lent + [size] + lent,
     }
@@ -200,6 +202,25 @@ def along(file, mounted=None):
     """The tip of each line in the plan with the fewest tip changes along the list, its changes, and its pairs."""
     plan_, count = _lent(ctypes.c_uint8, MOST_LINES), read(file)[1]
     answer = _call("along", *_given(file), _mounted(mounted), plan_, len(plan_))
+    return list(plan_[:count]), answer[1], answer[2]
+
+
+def _named_tips(file):
+    """How many different tips the lines of a good job file have."""
+    file, named = bytes(file), 0
+    for at in range(8, len(file), 9 if file[4] == 2 else 8):
+        named |= int.from_bytes(file[at : at + 8], "big")
+    return bin(named).count("1")
+
+
+def exact(file, price=0, mounted=None):
+    """The tip of each line in the plan with the most pairs less the price of each tip that it uses, its pairs, and its number of
+    tips; for lines that name 20 tips at most."""
+    plan_, count = _lent(ctypes.c_uint8, MOST_LINES), read(file)[1]
+    # With more tips than these the call is refused, whatever the table.
+    table = _lent(ctypes.c_uint32, 2 << min(_named_tips(file), EXACT_TIPS))
+    lent = plan_, len(plan_), table, len(table)
+    answer = _call("exact", *_given(file), _mounted(mounted), _in_range("the price", price, 2**32 - 1), *lent)
     return list(plan_[:count]), answer[1], answer[2]
 
 

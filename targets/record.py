@@ -3,8 +3,8 @@
 import struct
 
 MARK = b"TIPCALLS"
-NAMES = "read common keep goal quick best along check junior merge alone mend report order windows order_by_tips".split()
-BUFFERS = [2, 2, 3, 3, 3, 4, 3, 4, 3, 4, 4, 4, 2, 4, 5, 5]
+NAMES = "read common keep goal quick best along exact check junior merge alone mend report order windows order_by_tips".split()
+BUFFERS = [2, 2, 3, 3, 3, 4, 3, 4, 4, 3, 4, 4, 4, 2, 4, 5, 5]
 END = 255
 
 
@@ -26,7 +26,7 @@ def calls_of(data):
     reader = Reader(data)
     assert reader.take(8) == MARK, "no record"
     while (function := reader.number("B")) != END:
-        head, buffers = reader.take(16), []
+        head, buffers = reader.take(24), []
         for _ in range(BUFFERS[function]):
             width, cells, start, length = form = struct.unpack("<BIII", reader.take(13))
             before = reader.take(width * cells)

@@ -10,13 +10,13 @@
 #include <string.h>
 
 #define MOST_BUFFERS 5
-#define FUNCTIONS 16
+#define FUNCTIONS 17
 #define END 255
 
-static const char *const names[FUNCTIONS] = {"read",   "common", "keep",  "goal", "quick",  "best",  "along",  "check",
+static const char *const names[FUNCTIONS] = {"read",  "common", "keep",   "goal",  "quick", "best", "along",  "exact",  "check",
                                              "junior", "merge",  "alone", "mend", "report", "order", "windows", "order_by_tips"};
 /* The buffers of each function. */
-static const int buffers_of[FUNCTIONS] = {2, 2, 3, 3, 3, 4, 3, 4, 3, 4, 4, 4, 2, 4, 5, 5};
+static const int buffers_of[FUNCTIONS] = {2, 2, 3, 3, 3, 4, 3, 4, 4, 3, 4, 4, 4, 2, 4, 5, 5};
 
 /* A lent part of some cells, and all bytes of the cells: those lent to the call, and those that are expected afterwards. */
 struct buffer {
@@ -81,7 +81,7 @@ static struct buffer take_buffer(void)
     return it;
 }
 
-static uint64_t call(int function, uint64_t argument, struct buffer *lent)
+static uint64_t call(int function, uint64_t argument, uint64_t price, struct buffer *lent)
 {
     void *at[MOST_BUFFERS];
     size_t len[MOST_BUFFERS];
@@ -97,14 +97,16 @@ static uint64_t call(int function, uint64_t argument, struct buffer *lent)
     case 4: return tipshare_quick(at[0], len[0], (size_t)argument, at[1], len[1], at[2], len[2]);
     case 5: return tipshare_best(at[0], len[0], (size_t)argument, at[1], len[1], at[2], len[2], at[3], len[3]);
     case 6: return tipshare_along(at[0], len[0], (size_t)argument, at[1], len[1], at[2], len[2]);
-    case 7: return tipshare_check(at[0], len[0], at[1], len[1], (uint32_t)argument, at[2], len[2], at[3], len[3]);
-    case 8: return tipshare_junior(at[0], len[0], at[1], len[1], at[2], len[2]);
-    case 9: return tipshare_merge(at[0], len[0], at[1], len[1], at[2], len[2], at[3], len[3]);
-    case 10: return tipshare_alone(at[0], len[0], at[1], len[1], at[2], len[2], at[3], len[3]);
-    case 11: return tipshare_mend(at[0], len[0], at[1], len[1], at[2], len[2], at[3], len[3]);
-    case 12: return tipshare_report(at[0], len[0], at[1], len[1]);
-    case 13: return tipshare_order(at[0], len[0], at[1], len[1], at[2], len[2], at[3], len[3]);
-    case 14: return tipshare_windows(at[0], len[0], at[1], len[1], at[2], len[2], at[3], len[3], at[4], len[4]);
+    case 7:
+        return tipshare_exact(at[0], len[0], (size_t)argument, (uint32_t)price, at[1], len[1], at[2], len[2], at[3], len[3]);
+    case 8: return tipshare_check(at[0], len[0], at[1], len[1], (uint32_t)argument, at[2], len[2], at[3], len[3]);
+    case 9: return tipshare_junior(at[0], len[0], at[1], len[1], at[2], len[2]);
+    case 10: return tipshare_merge(at[0], len[0], at[1], len[1], at[2], len[2], at[3], len[3]);
+    case 11: return tipshare_alone(at[0], len[0], at[1], len[1], at[2], len[2], at[3], len[3]);
+    case 12: return tipshare_mend(at[0], len[0], at[1], len[1], at[2], len[2], at[3], len[3]);
+    case 13: return tipshare_report(at[0], len[0], at[1], len[1]);
+    case 14: return tipshare_order(at[0], len[0], at[1], len[1], at[2], len[2], at[3], len[3]);
+    case 15: return tipshare_windows(at[0], len[0], at[1], len[1], at[2], len[2], at[3], len[3], at[4], len[4]);
     default:
         return tipshare_order_by_tips(at[0], len[0], at[1], len[1], at[2], len[2], (size_t)argument, at[3], len[3], at[4],
                                       len[4]);
@@ -115,11 +117,11 @@ static uint64_t call(int function, uint64_t argument, struct buffer *lent)
 static int is_met(int function, uint64_t which)
 {
     struct buffer lent[MOST_BUFFERS];
-    uint64_t argument = number(8), expected = number(8);
+    uint64_t argument = number(8), price = number(8), expected = number(8);
     for (int i = 0; i < buffers_of[function]; i++) {
         lent[i] = take_buffer();
     }
-    uint64_t returned = call(function, argument, lent);
+    uint64_t returned = call(function, argument, price, lent);
     int met = returned == expected;
     if (!met) {
         printf("DIFFERENCE: call %llu, %s: returned %llu, expected %llu\n", (unsigned long long)which, names[function],

@@ -3,7 +3,7 @@
 // 2, wrong arguments.
 import { openSync, readFileSync, readSync } from "node:fs";
 
-// Of each function the parameters: a buffer with its length, or the number, as a Number or a BigInt.
+// Of each function the parameters: a buffer with its length, the first number, as a Number or a BigInt, or the price.
 const FUNCTIONS = [
   ["read", "buffer buffer"],
   ["common", "buffer buffer"],
@@ -12,6 +12,7 @@ const FUNCTIONS = [
   ["quick", "buffer big buffer buffer"],
   ["best", "buffer big buffer buffer buffer"],
   ["along", "buffer big buffer buffer"],
+  ["exact", "buffer big price buffer buffer buffer"],
   ["check", "buffer buffer number buffer buffer"],
   ["junior", "buffer buffer buffer"],
   ["merge", "buffer buffer buffer buffer"],
@@ -72,7 +73,7 @@ function takeBuffer() {
 
 // Lays the buffers into the module's memory, one behind the other, and makes the call: whether all is as expected.
 function isMet({ name, parameters }, which) {
-  const [argument, expected] = [big(), big()];
+  const [argument, price, expected] = [big(), big(), big()];
   const buffers = parameters.filter((what) => what === "buffer").map(takeBuffer);
   let end = (__heap_base.value + 15) & ~15;
   for (const buffer of buffers) {
@@ -86,6 +87,7 @@ function isMet({ name, parameters }, which) {
   const words = parameters.flatMap((what) => {
     if (what === "number") return [Number(argument)];
     if (what === "big") return [argument];
+    if (what === "price") return [Number(price)];
     const { address, width, start, length } = lent.next().value;
     return [address + start * width, BigInt(length)];
   });

@@ -90,6 +90,7 @@ async function drive() {
   await same("keep at the least k", "keep-text", native("keep", "3", example));
   await same("a goal of all pairs", "goal-text", native("goal", "12", example));
   await same("the placing order", "order-text", native("order", example));
+  await same("the positions", "windows-text", native("windows", example));
   await same("the Junior", "junior-text", native("junior", example));
   await picture("wide-light", 1920, "light");
   await picture("wide-dark", 1920, "dark");
@@ -105,9 +106,19 @@ async function drive() {
   await same("goal 9", "goal-text", native("goal", "9", example));
   await set("mounted", "4", "change");
   await same("tip 4 mounted", "plan", native("plan", example, "--mounted", "4"));
+  await set("by-tips", "best", "change");
+  await same("the order by tips, tip 4 mounted", "order-text", native("order", example, "--tips", "best", "--mounted", "4"));
   await set("mounted", "", "change");
+  await same("the order by tips", "order-text", native("order", example, "--tips", "best"));
+  await set("by-tips", "", "change");
+  await set("price", "3", "input");
+  await same("a price", "plan", native("plan", example, "--price", "3"));
+  await value("at('fewest').click()");
+  await same("the fewest tips", "plan", native("plan", example, "--fewest-tips"));
+  await holds("the numbers have the three plans", "[...at('numbers').tBodies[0].rows].map(row => row.cells[0].textContent).join() === 'quick,best,exact'");
+  await set("price", "", "input");
   await value("at('if-part').value = '0'; at('if-tip').value = '5'; at('if-allow').click()");
-  await holds("what if has both plans", "at('if').tBodies[0].rows.length === 2");
+  await holds("what if has the three plans", "at('if').tBodies[0].rows.length === 3");
 
   // KiCad: the table and the board are picked together, and each comes to its place.
   const kicad = "checklist/" + fs.readdirSync("checklist").find(name => name.endsWith("-import-kicad")) + "/";

@@ -53,12 +53,21 @@ async function plan(is_new) {
   if (mine !== asked) return;
   if (!list.ok) return refuse(list.why);
   const text = opened_job ?? list.fields[0];
-  const made = await ask("plan", text, at("mounted").value);
+  const made = await ask("plan", text, at("mounted").value, at("price").value);
   if (mine !== asked) return;
   if (!made.ok) return refuse(made.why);
   show(text, made.fields, is_new);
   await struck();
+  if (mine === asked) await order(text);
   if (mine === asked && is_new) await more(mine, text);
+}
+
+// The placing order, by the tips of a plan where one is chosen.
+let ordered = 0;
+async function order(text) {
+  const mine = ++ordered;
+  const told = await ask("order", text, at("by-tips").value, at("mounted").value, at("price").value);
+  if (mine === ordered) at("order-text").textContent = told.ok ? words(told.fields[0]) : told.why;
 }
 
 // What the sliders strike. Only the last of many steps is shown.
@@ -79,7 +88,7 @@ async function struck() {
 
 // What does not depend on a slider.
 async function more(mine, text) {
-  for (const [command, id] of [["order", "order-text"], ["junior", "junior-text"]]) {
+  for (const [command, id] of [["windows", "windows-text"], ["junior", "junior-text"]]) {
     const told = await ask(command, text);
     if (mine !== asked) return;
     at(id).textContent = told.ok ? words(told.fields[0]) : told.why;
@@ -147,8 +156,8 @@ function row(body, cells) {
 function show(text, fields, is_new) {
   const told = fields.map(words);
   const [rack, parts, placements, least] = told.slice(0, 4).map(Number);
-  const [quick, best] = [told.slice(4, 8), told.slice(8, 12)];
-  const [no_best, drawing] = [told[12], told[13]];
+  const [quick, best, exact] = [told.slice(4, 8), told.slice(8, 12), told.slice(12, 16)];
+  const [no_best, no_exact, drawing] = told.slice(16, 19);
   const has_best = best[0] !== "-";
   at("faults").replaceChildren();
   at("shown").hidden = false;
@@ -157,10 +166,12 @@ function show(text, fields, is_new) {
   body.replaceChildren();
   row(body, ["quick", ...quick]);
   row(body, ["best", ...best]);
+  row(body, ["exact", ...exact]);
   at("no-best").textContent = no_best ? `There is no best plan: ${no_best}.` : "";
+  at("no-exact").textContent = no_exact ? `There is no exact plan: ${no_exact}.` : "";
   at("picture").innerHTML = drawing;
-  at("plan").textContent = told[16];
-  last = { text, job: fields[14], csv: fields[15], kept: null, drawing, numbers: { quick, best }, has_best, panel: null };
+  at("plan").textContent = told[21];
+  last = { text, job: fields[19], csv: fields[20], kept: null, drawing, numbers: { quick, best, exact }, has_best, panel: null };
   if (!is_new) return;
   Object.assign(at("k"), { min: 0, max: placements, value: least });
   Object.assign(at("goal"), { min: 0, max: has_best ? best[0] : 0, disabled: !has_best, value: has_best ? best[0] : 0 });
@@ -312,11 +323,13 @@ function save_png() {
 }
 
 function plan_as_json() {
-  const [quick, best] = [last.numbers.quick, last.numbers.best].map(of => of[0] === "-" ? null : Number(of[0]));
-  const parts = rows_of(last.csv).map(([part, quantity, tips, of_quick, of_best, comment]) => ({
-    part, quantity: Number(quantity), tips, quick: Number(of_quick), best: of_best === "-" ? null : Number(of_best), comment,
+  const number = of => of === "-" ? null : Number(of);
+  const { quick, best, exact } = last.numbers;
+  const pairs = { quick: number(quick[0]), best: number(best[0]), exact: number(exact[0]) };
+  const parts = rows_of(last.csv).map(([part, quantity, tips, of_quick, of_best, of_exact, comment]) => ({
+    part, quantity: Number(quantity), tips, quick: number(of_quick), best: number(of_best), exact: number(of_exact), comment,
   }));
-  return JSON.stringify({ pairs: { quick, best }, parts }, null, 2) + "\n";
+  return JSON.stringify({ pairs, parts }, null, 2) + "\n";
 }
 
 const SAVES = {
@@ -341,7 +354,7 @@ async function what_if(rack, line, tip) {
   body.replaceChildren();
   if (!told.ok) return row(body, [told.why, "", "", "", ""]);
   const of = told.fields.map(words);
-  for (const [plan, place] of [["quick", 0], ["best", 4]]) row(body, [plan, of[place], of[8 + place], of[place + 1], of[9 + place]]);
+  for (const [plan, place] of [["quick", 0], ["best", 4], ["exact", 8]]) row(body, [plan, of[place], of[12 + place], of[place + 1], of[13 + place]]);
 }
 
 // ---- the page
@@ -350,7 +363,9 @@ function begin() {
   at("list").oninput = () => { opened_job = null; plan(true); };
   at("tips").oninput = table_changed;
   at("k").oninput = at("goal").oninput = struck;
-  at("mounted").onchange = () => plan(false);
+  at("mounted").onchange = at("price").oninput = () => plan(false);
+  at("fewest").onclick = () => { at("price").value = at("price").max; plan(false); };
+  at("by-tips").onchange = () => last && order(last.text);
   for (const id of ["side", "c-reference", "c-package", "c-value"]) at(id).onchange = () => plan(true);
   at("file").onchange = event => load(event.target.files, "list");
   at("others").onchange = async event => {

@@ -43,9 +43,16 @@ for (const file of files) {
   const bytes = fs.readFileSync(file);
   // Of a file without bytes the program tells by its name what it should be; these calls have no name.
   if (!bytes.length) continue;
-  for (const command of ["plan", "picture", "make", "order", "junior"]) {
+  for (const command of ["picture", "make", "windows", "junior"]) {
     if (command === "make" && bytes.subarray(0, 3).toString() === "TIP") continue;
-    same(`${command} ${file}`, native(command, file), call(command === "plan" ? "text" : command, bytes));
+    same(`${command} ${file}`, native(command, file), call(command, bytes));
+  }
+  for (const price of ["", "0", "3", "4294967295"]) {
+    same(`plan ${price} ${file}`, native("plan", file, ...(price ? ["--price", price] : [])), call("text", bytes, price));
+  }
+  same(`order ${file}`, native("order", file), call("order", bytes, "", "", ""));
+  for (const plan of ["quick", "best", "exact"]) {
+    same(`order by ${plan} ${file}`, native("order", file, "--tips", plan), call("order", bytes, plan, "", ""));
   }
   same(`page ${file}`, native("page", file), call("page", file, bytes));
   for (const k of [0, 1, 5]) same(`keep ${k} ${file}`, native("keep", String(k), file), call("keep", bytes, String(k)));

@@ -43,7 +43,7 @@ fn at_places(set: u64, places: &[usize]) -> u64 {
 pub fn fixed_boards() -> Vec<Board> {
     let kinds =
         [fixed_single_boards(), fixed_counted_boards(), fixed_boards_with_absent_tips(), fixed_boards_with_ties()];
-    let mut boards = kinds.concat();
+    let mut boards = [kinds.concat(), fixed_boards_with_prices()].concat();
     boards.sort_by_key(|board| (board.count > 48, board.rack > 9));
     boards
 }
@@ -177,6 +177,25 @@ fn fixed_boards_with_ties() -> Vec<Board> {
         counted(3, &[(0b001, 2), (0b101, 1), (0b110, 1)]),
         Board::of_sets(3, &[0b001, 0b010, 0b101, 0b110]),
     ]
+}
+
+/// Boards where the price of a tip decides, and boards of as many tips as are shared exactly, and one more.
+fn fixed_boards_with_prices() -> Vec<Board> {
+    let every_third = |tips: usize| (0..tips).fold(0, |set, tip| set | 1 << (3 * tip));
+    let mut boards = vec![
+        // Three tips with 10 pairs, or two with 9.
+        counted(3, &[(0b011, 3), (0b101, 2), (0b010, 1), (0b100, 1)]),
+        // Every pair of four tips, where two tips never serve all.
+        Board::of_sets(4, &[0b0011, 0b0101, 0b1001, 0b0110, 0b1010, 0b1100]),
+        Board::of_sets(64, &[every_third(20), 1 << 57, 1 << 3]),
+        Board::of_sets(64, &[every_third(21)]),
+        Board::of_sets(20, &[(1 << 20) - 1]),
+        Board::of_sets(21, &[(1 << 21) - 1]),
+    ];
+    let mixed: Vec<(u64, u8)> =
+        (0..512_usize).map(|line| (1 << (3 * (line % 20)) | 1 << (3 * (line * 7 % 19)), 1 + line as u8 % 7)).collect();
+    boards.push(counted(58, &mixed));
+    boards
 }
 
 /// Hands on every board of a rack with this many lines and these quantities.

@@ -21,6 +21,7 @@ pub enum Call {
     Quick { mounted: usize, plan: usize, answer: usize },
     Best { mounted: usize, plan: usize, table: usize, answer: usize },
     Along { mounted: usize, plan: usize, answer: usize },
+    Exact { mounted: usize, price: u32, plan: usize, table: usize, answer: usize },
     Check { claim: u32, plan: usize, table: usize, answer: usize },
     Junior { plan: usize, answer: usize },
     Merge { out: usize, answer: usize },
@@ -30,8 +31,10 @@ pub enum Call {
 }
 
 /// The names of the calls, in the order of their columns.
-pub const CALL_NAMES: [&str; 13] =
-    ["read", "common", "keep", "goal", "quick", "best", "along", "check", "junior", "merge", "alone", "mend", "report"];
+pub const CALL_NAMES: [&str; 14] = [
+    "read", "common", "keep", "goal", "quick", "best", "along", "exact", "check", "junior", "merge", "alone", "mend",
+    "report",
+];
 
 impl Call {
     /// Where the call stands among the names.
@@ -44,12 +47,13 @@ impl Call {
             Call::Quick { .. } => 4,
             Call::Best { .. } => 5,
             Call::Along { .. } => 6,
-            Call::Check { .. } => 7,
-            Call::Junior { .. } => 8,
-            Call::Merge { .. } => 9,
-            Call::Alone { .. } => 10,
-            Call::Mend { .. } => 11,
-            Call::Report { .. } => 12,
+            Call::Exact { .. } => 7,
+            Call::Check { .. } => 8,
+            Call::Junior { .. } => 9,
+            Call::Merge { .. } => 10,
+            Call::Alone { .. } => 11,
+            Call::Mend { .. } => 12,
+            Call::Report { .. } => 13,
         }
     }
 }
@@ -126,6 +130,7 @@ impl Buffers {
             Call::Quick { plan, answer, .. } | Call::Along { plan, answer, .. } => (plan, 0, answer),
             Call::Junior { plan, answer } => (plan, 0, answer),
             Call::Best { plan, table, answer, .. } | Call::Check { plan, table, answer, .. } => (plan, table, answer),
+            Call::Exact { plan, table, answer, .. } => (plan, table, answer),
             Call::Merge { out, answer } => (out, 0, answer),
             Call::Alone { plan, answer } => (plan, 0, answer),
             Call::Mend { out, answer, .. } => (out, 0, answer),
@@ -165,6 +170,7 @@ macro_rules! made_by {
             Call::Quick { mounted, .. } => $module::quick(file, mounted, bytes, answer).into(),
             Call::Best { mounted, .. } => $module::best(file, mounted, bytes, table, answer).into(),
             Call::Along { mounted, .. } => $module::along(file, mounted, bytes, answer).into(),
+            Call::Exact { mounted, price, .. } => $module::exact(file, mounted, price, bytes, table, answer).into(),
             Call::Check { claim, .. } => $module::check(file, bytes, claim, table, answer).into(),
             Call::Junior { .. } => $module::junior(file, bytes, answer).into(),
             Call::Merge { .. } => $module::merge(file, other, bytes, answer).into(),

@@ -13,9 +13,9 @@ use compare::record::Record;
 use compare::run::{compare_program, Run};
 use compare::sought::Sought;
 
-const DEFAULT_CASES: u64 = 440_000;
-/// The fixed and the small boards take some 340,000; with fewer there would be no seeded ones.
-const LEAST_CASES: u64 = 380_000;
+const DEFAULT_CASES: u64 = 560_000;
+/// The fixed and the small boards take some 460,000; with fewer there would be no seeded ones.
+const LEAST_CASES: u64 = 500_000;
 const DEFAULT_FILES: u64 = 2_000;
 const LEAST_FILES: u64 = 1_000;
 const DEFAULT_SEED: u64 = 1;
@@ -26,7 +26,7 @@ const CALLS_AN_ORDER: u64 = 15;
 const DEFAULT_RECORDED: u64 = 200_000;
 
 const USAGE: &str = "\
-compare [--cases N] [--seed S] [--last FILE]     compare the library on N calls, 440,000 without N, 380,000 at least
+compare [--cases N] [--seed S] [--last FILE]     compare the library on N calls, 560,000 without N, 500,000 at least
 compare --record FILE [--recorded M]             the same, and M of its calls are written to FILE, 200,000 without M, to be
                                                  made again on another machine (targets/README.md)
 compare --orders N [--seed S]                    compare it on N placing orders alone

@@ -11,6 +11,7 @@ mod best;
 mod changes;
 mod checking;
 mod common;
+mod exact;
 mod goal;
 mod junior;
 mod mending;
@@ -41,7 +42,7 @@ pub fn mistakes() -> impl Iterator<Item = &'static Mistake> {
         reading::OF_VERSIONS,
     ];
     let of_tips = [best::OF_NAMED_TIPS, mounted::OF_REFUSED_MOUNTED_TIPS, mounted::OF_MOUNTED_TIPS];
-    let of_later_calls = [goal::OF_GOALS, junior::OF_JUNIOR, along::OF_ALONG];
+    let of_later_calls = [goal::OF_GOALS, junior::OF_JUNIOR, along::OF_ALONG, exact::OF_EXACT, exact::OF_TABLES];
     let of_checks = [checking::OF_CHECKED_PLANS, checking::OF_CHECKED_TABLES, checking::OF_ORDER_IN_CHECKS];
     of_calls.into_iter().chain(of_quantities).chain(of_tips).chain(of_checks).chain(of_later_calls).flatten()
 }

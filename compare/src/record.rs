@@ -4,13 +4,14 @@
 //! The file is the 8 bytes `TIPCALLS`, the calls, and then a byte 255 and the number of calls (64 bits). A call is
 //! - its function (8 bits): the place of its name in [`CALL_NAMES`], behind them the places of the calls on parts and rules, in the order of
 //!   [`orders::CALL_NAMES`];
-//! - the number among its arguments (64 bits): `k`, `goal`, `mounted` or `claim`, else 0;
+//! - the numbers among its arguments (64 bits each): `k`, `goal`, `mounted` or `claim`, else 0; and `price`, else 0;
 //! - the number that it must return (64 bits);
 //! - its buffers, in the order of the parameters.
 //!
 //! A buffer is the bytes of a cell (8 bits), its cells, the first lent cell and the number of lent cells (32 bits each),
 //! the bytes of all cells before the call, and what the call must change: the number of stretches (32 bits), and of each the
-//! first byte and the number of bytes (32 bits each) and the bytes afterwards. All numbers are little-endian.
+//! first byte and the number of bytes (32 bits each) and the bytes afterwards. All numbers are little-endian. Calls with large
+//! tables are left out, so that the file stays small.
 
 use std::collections::BTreeSet;
 use std::fs::File;
@@ -24,6 +25,9 @@ const MARK: &[u8] = b"TIPCALLS";
 const END: u8 = 255;
 /// The first function on parts and rules, behind those on job files.
 const ON_PARTS: usize = CALL_NAMES.len();
+
+/// The most places of a table that is recorded.
+const MOST_PLACES: usize = 1 << 14;
 
 /// A cell of a buffer, as bytes.
 trait Cell: Copy {
@@ -84,10 +88,10 @@ impl Record {
         after: &Buffers,
     ) -> io::Result<()> {
         let function = call.column() as u8;
-        if !self.takes(function, number) {
+        if before.table.length > MOST_PLACES || !self.takes(function, number) {
             return Ok(());
         }
-        let mut bytes = head(function, argument(call), returned);
+        let mut bytes = head(function, arguments(call), returned);
         put(&mut bytes, &before.file, &after.file);
         match call {
             Call::Read { .. } | Call::Common { .. } => {}
@@ -99,7 +103,7 @@ impl Record {
                 put(&mut bytes, &before.bytes, &after.bytes);
                 put(&mut bytes, &before.other, &after.other);
             }
-            Call::Best { .. } | Call::Check { .. } => {
+            Call::Best { .. } | Call::Exact { .. } | Call::Check { .. } => {
                 put(&mut bytes, &before.bytes, &after.bytes);
                 put(&mut bytes, &before.table, &after.table);
             }
@@ -130,7 +134,7 @@ impl Record {
             orders::Call::ByTips { mounted, .. } => mounted as u64,
             _ => 0,
         };
-        let mut bytes = head(function, argument, returned.into());
+        let mut bytes = head(function, [argument, 0], returned.into());
         put(&mut bytes, &before.parts, &after.parts);
         put(&mut bytes, &before.rules, &after.rules);
         match call {
@@ -162,20 +166,22 @@ impl Record {
     }
 }
 
-/// The number among the arguments of a call.
-fn argument(call: &Call) -> u64 {
-    match *call {
+/// The numbers among the arguments of a call.
+fn arguments(call: &Call) -> [u64; 2] {
+    let first = match *call {
+        Call::Exact { mounted, price, .. } => return [mounted as u64, price.into()],
         Call::Keep { k, .. } => k.into(),
         Call::Goal { goal, .. } => goal.into(),
         Call::Quick { mounted, .. } | Call::Best { mounted, .. } | Call::Along { mounted, .. } => mounted as u64,
         Call::Check { claim, .. } => claim.into(),
         _ => 0,
-    }
+    };
+    [first, 0]
 }
 
-fn head(function: u8, argument: u64, returned: u64) -> Vec<u8> {
+fn head(function: u8, arguments: [u64; 2], returned: u64) -> Vec<u8> {
     let mut bytes = vec![function];
-    bytes.extend(argument.to_le_bytes());
+    arguments.iter().for_each(|argument| bytes.extend(argument.to_le_bytes()));
     bytes.extend(returned.to_le_bytes());
     bytes
 }

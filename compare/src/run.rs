@@ -20,6 +20,7 @@ use crate::sought::{all_found, look, Sought};
 use crate::tally::{Event, Tally, SHORT_REPORT};
 
 mod along;
+mod exact;
 mod goal;
 mod junior;
 mod mending;
@@ -164,6 +165,7 @@ impl Run {
         self.each_goal(board, file)?;
         self.each_junior(board, file)?;
         self.each_along(board, file)?;
+        self.each_exact(board, file)?;
         self.try_plans(board, file)?;
         let is_short = file.len() < 100;
         // Every cut of a short file, and some of a long one.
@@ -372,6 +374,7 @@ impl Run {
         self.goals(board, file, &best)?;
         self.juniors(board, file, &quick)?;
         self.alongs(board, file, &quick)?;
+        self.exacts(board, file, &quick, &best)?;
 
         let any = self.random.below(100);
         let out = self.random.one_of(&[REPORT_SPACE, REPORT_SPACE, REPORT_SPACE + any, REPORT_SPACE - 1, any]);
@@ -410,6 +413,9 @@ impl Run {
         self.case(file, Call::Junior { plan, answer })?;
         let (mounted, plan, answer) = (self.mounted_number(rack), self.length_around(count), self.answer_length());
         self.case(file, Call::Along { mounted, plan, answer })?;
+        let (mounted, plan, answer) = (self.mounted_number(rack), self.length_around(count), self.answer_length());
+        let (price, table) = (self.price(), self.length_around(32));
+        self.case(file, Call::Exact { mounted, price, plan, table, answer })?;
         let out = self.random.one_of(&[REPORT_SPACE, REPORT_SPACE, REPORT_SPACE, REPORT_SPACE - 1]);
         self.case(file, Call::Report { out })?;
         Ok(())
@@ -732,6 +738,7 @@ fn against_every_plan(board: &Board) -> Result<(), String> {
             return Err(format!("along {plan:?} with {along:?}, {mounted:?}, every plan {tried:?}"));
         }
     }
+    exact::against_every_plan(board, &tried)?;
     // Both rules, whichever tip is mounted.
     for mounted in [None].into_iter().chain((0..board.rack).map(Some)) {
         let mut plan = vec![0; count];

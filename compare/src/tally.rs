@@ -94,6 +94,20 @@ pub enum Event {
     AlongChangeBefore,
     AlongMountedNotNamed,
     AlongMountedAndShortPlan,
+    ExactWithoutRuns,
+    ExactAboveQuick,
+    ExactAsBest,
+    ExactWithoutLines,
+    ExactWithAbsentTip,
+    ExactOf20Tips,
+    ExactByMounted,
+    ExactByPrice,
+    ExactFewestTips,
+    ExactPriceTooHigh,
+    ExactTipWithoutLine,
+    ShortPlanAndManyTips,
+    MountedAndManyTips,
+    ManyTipsAndShortTable,
     FirstBoardBad,
     SecondBoardBad,
     BothBoardsBad,
@@ -129,7 +143,7 @@ pub enum Event {
     ShortReportAlone,
 }
 
-const EVENTS: [(Event, &str); 113] = [
+const EVENTS: [(Event, &str); 127] = [
     (Event::RackOf1, "boards with rack 1"),
     (Event::RackOf64, "boards with rack 64"),
     (Event::NoLines, "boards without lines"),
@@ -210,6 +224,20 @@ const EVENTS: [(Event, &str); 113] = [
     (Event::AlongChangeBefore, "along with a mounted tip that does not suit the first line"),
     (Event::AlongMountedNotNamed, "along with a mounted tip that no line names"),
     (Event::AlongMountedAndShortPlan, "along with a mounted tip outside the rack, and a short plan"),
+    (Event::ExactWithoutRuns, "exact where a line is no run"),
+    (Event::ExactAboveQuick, "exact with more pairs than quick, where a line is no run"),
+    (Event::ExactAsBest, "exact with the plan of best, of several lines"),
+    (Event::ExactWithoutLines, "exact without lines"),
+    (Event::ExactWithAbsentTip, "exact with a tip of the rack that no line names"),
+    (Event::ExactOf20Tips, "exact with 20 named tips"),
+    (Event::ExactByMounted, "exact with a mounted tip, which changes the plan"),
+    (Event::ExactByPrice, "exact with a price, which takes a tip off the plan"),
+    (Event::ExactFewestTips, "exact with the highest price, which costs pairs"),
+    (Event::ExactPriceTooHigh, "exact with a price above the highest that counts"),
+    (Event::ExactTipWithoutLine, "exact with a price, and a named tip that no line is on"),
+    (Event::ShortPlanAndManyTips, "exact with a short plan, and too many named tips"),
+    (Event::MountedAndManyTips, "exact with a mounted tip outside the rack, and too many named tips"),
+    (Event::ManyTipsAndShortTable, "exact with too many named tips, and a short table"),
     (Event::FirstBoardBad, "two boards, the first refused and the second good"),
     (Event::SecondBoardBad, "two boards, the first good and the second refused"),
     (Event::BothBoardsBad, "two boards, both refused, with different numbers"),
@@ -308,6 +336,7 @@ fn needed(column: usize) -> Vec<u32> {
         "quick" => &[4, 16, 100],
         "best" => &[4, 5, 16, 25, 100],
         "along" => &[4, 16, 100],
+        "exact" => &[4, 5, 16, 35, 100],
         "check" => &[4, 5, 19, 20, 25, 33, 100],
         "junior" => &[4, 24, 31, 100],
         "merge" => &[11, 17, 24, 100],
@@ -366,10 +395,10 @@ mod tests {
     fn what_never_occurred_is_missing() {
         let mut tally = Tally::default();
         let all = tally.missing().len();
-        // 0 and reading's 10 for 12 calls, 100 for 11, the short report; keep's 11, 26, quick's 4, 16, best's 4, 5, 16, 25,
-        // along's 4, 16, the check's 4, 5, 19, 20, 25, 33, the goal's 11, 25, 34, the Junior's 4, 24, 31, merge's 11, 17, 24,
+        // 0 and reading's 10 for 13 calls, 100 for 12, the short report; keep's 11, 26, quick's 4, 16, best's 4, 5, 16, 25,
+        // along's 4, 16, exact's 4, 5, 16, 35, the check's 4, 5, 19, 20, 25, 33, the goal's 11, 25, 34, the Junior's 4, 24, 31, merge's 11, 17, 24,
         // alone's 4; mend's 0, 1, 6, 7, 8, 11, 100.
-        assert_eq!(all, 12 * 11 + 11 + 1 + 8 + 2 + 6 + 3 + 3 + 4 + 7 + EVENTS.len());
+        assert_eq!(all, 13 * 11 + 12 + 1 + 8 + 2 + 4 + 6 + 3 + 3 + 4 + 7 + EVENTS.len());
         tally.count_call(25, 5);
         tally.count_event(Event::NoLines);
         assert_eq!(tally.missing().len(), all - 2);

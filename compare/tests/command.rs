@@ -12,7 +12,7 @@ fn run(arguments: &[&str]) -> (String, String, i32) {
 
 #[test]
 fn numbers_below_the_floor_are_refused() {
-    for (name, value, least) in [("--cases", "379999", 380_000), ("--cases", "many", 380_000), ("--files", "999", 1000)]
+    for (name, value, least) in [("--cases", "499999", 500_000), ("--cases", "many", 500_000), ("--files", "999", 1000)]
     {
         let why = format!("{name} takes a number from {least} on, and not {value}\n");
         assert_eq!(run(&[name, value]), (String::new(), why, 2));

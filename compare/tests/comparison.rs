@@ -12,6 +12,7 @@ fn limits_are_the_same() {
     let of_files = [job_file::MOST_TIPS, job_file::MOST_LINES, job_file::MOST_PLACEMENTS, job_file::LONGEST_FILE];
     assert_eq!(of_files, [second::MOST_TIPS, second::MOST_LINES, second::MOST_PLACEMENTS, second::LONGEST_FILE]);
     assert_eq!(library::MOST_PARTS, second::MOST_PARTS);
+    assert_eq!(library::EXACT_TIPS, second::EXACT_TIPS);
     let of_junior = [library::JUNIOR_TIPS, library::JUNIOR_LINES];
     assert_eq!(of_junior, [second::JUNIOR_TIPS, second::JUNIOR_LINES]);
 }

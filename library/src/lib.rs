@@ -40,6 +40,10 @@ pub const JUNIOR_LINES: usize = 64;
 pub const LONGEST_FILE: usize = 4_616;
 /// The longest report of a mending: a buffer that is always enough.
 pub const LONGEST_CHANGES: usize = 3_081;
+/// The most named tips that are shared exactly.
+pub const EXACT_TIPS: usize = 20;
+/// The most places of a table of exact sharing: a table that is always enough.
+pub const EXACT_PLACES: usize = 2 << EXACT_TIPS;
 /// The mounted tip of the header's functions for no tip.
 pub const NO_TIP: usize = usize::MAX;
 /// The most parts to order: an order buffer, or one of positions, that is always enough.
@@ -266,6 +270,37 @@ pub struct Along {
 pub fn along(file: &[u8], mounted: Option<usize>, plan: &mut [u8]) -> Result<Along, Refusal> {
     let answer = answer_of(|answer| on_slices::along(file, number_of(mounted), plan, answer))?;
     Ok(Along { changes: answer[1], pairs: answer[2] })
+}
+
+/// A plan of exact sharing: its pairs of placements, and the number of different tips that it uses.
+#[derive(Clone, Copy, PartialEq, Eq, Debug)]
+pub struct Exact {
+    pub pairs: u64,
+    pub tips: u64,
+}
+
+/// Plans any lines that name at most 20 tips, so that no other plan has more pairs of placements less the price of each tip
+/// that it uses. The table needs 2 places for each set of named tips.
+///
+/// ```
+/// // Tips 0, 1 and 2 with 10 pairs, or tips 1 and 2 with 9.
+/// let file = tipshare::job_file(3, &[(0b011, 3), (0b101, 2), (0b010, 1), (0b100, 1)]);
+/// let (mut plan, mut table) = ([0; 4], [0; 2 * 8]);
+/// let exact = tipshare::exact(&file, None, 0, &mut plan, &mut table);
+/// assert_eq!((exact, plan), (Ok(tipshare::Exact { pairs: 10, tips: 3 }), [0, 0, 1, 2]));
+/// let exact = tipshare::exact(&file, None, 2, &mut plan, &mut table);
+/// assert_eq!((exact, plan), (Ok(tipshare::Exact { pairs: 9, tips: 2 }), [1, 2, 1, 2]));
+/// ```
+pub fn exact(
+    file: &[u8],
+    mounted: Option<usize>,
+    price: u32,
+    plan: &mut [u8],
+    table: &mut [u32],
+) -> Result<Exact, Refusal> {
+    let mounted = number_of(mounted);
+    let answer = answer_of(|answer| on_slices::exact(file, mounted, price, plan, table, answer))?;
+    Ok(Exact { pairs: answer[1], tips: answer[2] })
 }
 
 /// Checks a plan from other software, with its claimed pairs and its table, for lines that are runs; what is accepted has
@@ -512,6 +547,30 @@ pub mod on_slices {
         }
     }
 
+    pub fn exact(
+        file: &[u8],
+        mounted: usize,
+        price: u32,
+        plan: &mut [u8],
+        table: &mut [u32],
+        answer: &mut [u64],
+    ) -> u32 {
+        unsafe {
+            declared::tipshare_exact(
+                file.as_ptr(),
+                file.len() as u64,
+                of_tip(mounted),
+                price,
+                plan.as_mut_ptr(),
+                plan.len() as u64,
+                table.as_mut_ptr(),
+                table.len() as u64,
+                answer.as_mut_ptr(),
+                answer.len() as u64,
+            )
+        }
+    }
+
     pub fn check(file: &[u8], plan: &[u8], claim: u32, table: &[u32], answer: &mut [u64]) -> u32 {
         unsafe {
             declared::tipshare_check(
@@ -711,6 +770,18 @@ mod declared {
             mounted: Size,
             plan: *mut u8,
             plan_len: Size,
+            answer: *mut u64,
+            answer_len: Size,
+        ) -> u32;
+        pub fn tipshare_exact(
+            file: *const u8,
+            file_len: Size,
+            mounted: Size,
+            price: u32,
+            plan: *mut u8,
+            plan_len: Size,
+            table: *mut u32,
+            table_len: Size,
             answer: *mut u64,
             answer_len: Size,
         ) -> u32;

@@ -1,8 +1,8 @@
 //! The linked library through its safe form.
 
 use tipshare::{
-    alone, along, best, check, common, goal, junior, keep, mend, merge, quick, read, report, Along, CommonTip, Job,
-    Junior, Kept, Mended, Refusal, LONGEST_CHANGES, LONGEST_FILE,
+    alone, along, best, check, common, exact, goal, junior, keep, mend, merge, quick, read, report, Along, CommonTip,
+    Exact, Job, Junior, Kept, Mended, Refusal, EXACT_PLACES, LONGEST_CHANGES, LONGEST_FILE,
 };
 
 /// The example of the rules: rack 3, lines {0} and {1,2}.
@@ -52,7 +52,7 @@ fn quantities_are_counted() {
 
 #[test]
 fn tip_that_no_line_names_is_not_missed() {
-    // {0} and {0,2}: tip 0 takes both, a pair within every stretch from 0 to 2.
+    // {0} and {0,2}: tip 0 takes both, a pair within every interval from 0 to 2.
     let mut file = EXAMPLE;
     file[23] = 0b101;
     let (mut plan, mut table) = ([7; 2], [7; 9]);
@@ -103,6 +103,41 @@ fn fewest_changes_along_the_list() {
     }
     assert_eq!(along(&COUNTED, None, &mut plan[..1]), Err(refused(4, 0, 0)));
     assert_eq!(plan, [0, 1, 7]);
+}
+
+#[test]
+fn price_of_a_tip_decides_exact_sharing() {
+    // {0,1} of 3 placements, {0,2} of 2, {1}, {2}: tips 0, 1 and 2 with 10 pairs, or tips 1 and 2 with 9.
+    let file = tipshare::job_file(3, &[(0b011, 3), (0b101, 2), (0b010, 1), (0b100, 1)]);
+    let (three, two) =
+        ((Exact { pairs: 10, tips: 3 }, [0, 0, 1, 2, 7]), (Exact { pairs: 9, tips: 2 }, [1, 2, 1, 2, 7]));
+    for (mounted, price, (found, tips)) in [
+        (None, 0, three),
+        (None, 1, three),
+        (Some(2), 1, two),
+        (None, 2, two),
+        (Some(0), 2_096_129, two),
+        (Some(0), u32::MAX, two),
+    ] {
+        let (mut plan, mut table) = ([7; 5], [7; 17]);
+        assert_eq!(exact(&file, mounted, price, &mut plan, &mut table), Ok(found));
+        assert_eq!((plan, &table[..8], table[16]), (tips, &[0, 0, 1, 4, 1, 3, 2, 7][..], 7));
+    }
+    // Twenty tips need the largest table.
+    let mut table = vec![7; EXACT_PLACES];
+    let all = tipshare::job_file(20, &[((1 << 20) - 1, 2), (1 << 19, 1)]);
+    let mut plan = [7; 2];
+    assert_eq!(exact(&all, None, 9, &mut plan, &mut table), Ok(Exact { pairs: 3, tips: 1 }));
+    assert_eq!((plan, table[(1 << 20) - 1]), ([19, 19], 3));
+    assert_eq!(exact(&all, None, 9, &mut plan, &mut table[1..]), Err(refused(5, 0, 0)));
+    let many = tipshare::job_file(21, &[((1 << 21) - 1, 1)]);
+    assert_eq!(exact(&many, None, 0, &mut plan, &mut []), Err(refused(35, 0, 0)));
+    assert_eq!(exact(&many, None, 0, &mut [], &mut []), Err(refused(4, 0, 0)));
+    for mounted in [21, 64, usize::MAX] {
+        assert_eq!(exact(&many, Some(mounted), 0, &mut [], &mut []), Err(refused(16, 0, 0)));
+    }
+    assert_eq!(exact(&many[..7], Some(21), 0, &mut [], &mut []), Err(refused(6, 0, 0)));
+    assert_eq!(refused(35, 0, 0).to_string(), "refused 35: the lines name more than 20 tips");
 }
 
 #[test]

@@ -82,6 +82,19 @@ test("plans along the list", () => {
   refused(16, 0, () => tipshare.along(list, 4));
 });
 
+test("exact sharing", () => {
+  // Tips 0, 1 and 2 with 10 pairs, or tips 1 and 2 with 9.
+  const lines = [{ tips: [0, 1], quantity: 3 }, { tips: [0, 2], quantity: 2 }, [1], [2]];
+  const list = { rack: 3, lines };
+  assert.deepEqual(tipshare.exact(list), { tips: [0, 0, 1, 2], pairs: 10, used: 3 });
+  assert.deepEqual(tipshare.exact(list, 1, 2), { tips: [1, 2, 1, 2], pairs: 9, used: 2 });
+  assert.deepEqual(tipshare.exact(list, 2 ** 32 - 1), { tips: [1, 2, 1, 2], pairs: 9, used: 2 });
+  assert.deepEqual(tipshare.exact({ rack: 64, lines: [] }), { tips: [], pairs: 0, used: 0 });
+  refused(16, 0, () => tipshare.exact(list, 0, 3));
+  refused(35, 0, () => tipshare.exact({ rack: 64, lines: [Array.from({ length: 21 }, (_, tip) => tip)] }));
+  for (const wrong of [-1, 2 ** 32, 0.5]) assert.throws(() => tipshare.exact(list, wrong), RangeError);
+});
+
 test("two boards, a damaged file, an order", () => {
   const other = { rack: 3, lines: [{ tips: [2], quantity: 2 }] };
   assert.deepEqual(tipshare.merge(EXAMPLE, other), job(3, [[0], [1, 2], { tips: [2], quantity: 2 }]));

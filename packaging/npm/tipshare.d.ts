@@ -34,6 +34,7 @@ export interface Calls {
   quick(file: JobFile, mounted?: number | null): Plan;
   best(file: JobFile, mounted?: number | null): Plan & { table: number[] };
   along(file: JobFile, mounted?: number | null): Plan & { changes: number };
+  exact(file: JobFile, price?: number, mounted?: number | null): Plan & { used: number };
   check(file: JobFile, tips: number[], claim: number, table: number[]): void;
   junior(file: JobFile): Plan & { carried: [number, number] };
   merge(first: JobFile, second: JobFile): Uint8Array;

@@ -8,6 +8,7 @@ const LONGEST_CHANGES = 3081;
 const REPORT_SPACE = 16384;
 const ANSWER_PLACES = 4;
 const MOST_PARTS = 128;
+const EXACT_TIPS = 20;
 const MOST = 2 ** 32 - 1;
 const NO_TIP = 2n ** 64n - 1n;
 const PAGE = 65536;
@@ -188,6 +189,20 @@ class Calls {
     const { count } = this.read(file);
     const { arrays, answer } = this.#answered("along", bytesOf(file), this.#mounted(mounted), new Uint8Array(MOST_LINES));
     return { tips: [...arrays[1].slice(0, count)], changes: Number(answer[1]), pairs: Number(answer[2]) };
+  }
+
+  /**
+   * The tip of each line in the plan with the most pairs less the price of each tip that it uses, its pairs, and its number of
+   * tips; for lines that name 20 tips at most.
+   */
+  exact(file, price = 0, mounted = null) {
+    const bytes = bytesOf(file);
+    const { count } = this.read(bytes);
+    const named = new Set(board(bytes).lines.flatMap(({ tips }) => tips)).size;
+    // With more tips than these the call is refused, whatever the table.
+    const lent = [new Uint8Array(MOST_LINES), new Uint32Array(2 * 2 ** Math.min(named, EXACT_TIPS))];
+    const { arrays, answer } = this.#answered("exact", bytes, this.#mounted(mounted), inRange("the price", price, MOST), ...lent);
+    return { tips: [...arrays[1].slice(0, count)], pairs: Number(answer[1]), used: Number(answer[2]) };
   }
 
   /** Checks a plan from other software, its pairs and its table: if nothing is thrown, it is a best plan. */

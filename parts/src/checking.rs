@@ -49,7 +49,15 @@ impl Named {
             Ok((Plan { pairs, .. }, _)) => {
                 format!("best {pairs}, the plan has {}\n", fewer(pairs, claim_of(&job, handed)))
             }
-            Err(line) => self.no_best(&job, line),
+            Err(line) => {
+                let exact = self.exact(&job, None, 0).map_or_else(
+                    |why| format!("exact none, {why}\n"),
+                    |Plan { pairs, .. }| {
+                        format!("exact {pairs}, the plan has {}\n", fewer(pairs, claim_of(&job, handed)))
+                    },
+                );
+                self.no_best(&job, line) + &exact
+            }
         };
         Ok(text)
     }

@@ -7,7 +7,7 @@ use std::path::Path;
 use std::str::FromStr;
 
 use parts::checking::Refused;
-use parts::exporting::{Format, Which};
+use parts::exporting::Format;
 use parts::files::{of_standard_output, Identity, Input, Output};
 use parts::handed::Handed;
 use parts::import::csv::{self, Columns};
@@ -21,7 +21,7 @@ use parts::limits::too_large;
 use parts::list::{Fault, List};
 use parts::mending;
 use parts::panel::Panel;
-use parts::planning::{Kept, Named};
+use parts::planning::{Along, Kept, Named, Which, Wish, FEWEST_TIPS};
 use parts::MOST_TIPS;
 
 use crate::arguments::{Arguments, FORCE, OUTPUT, START_TABLE, TABLE};
@@ -281,20 +281,51 @@ fn strike<N: FromStr>(
 
 pub fn plan(arguments: &Arguments) -> Result<(), Failure> {
     let [path] = arguments.files()[..] else { return Err(Failure::Arguments) };
-    let mounted = arguments.option("--mounted").map(tip_of).transpose()?;
     let format = text_behind(arguments, "--format")?.map(Format::of).transpose().map_err(Failure::Argument)?;
     let which = text_behind(arguments, "--plan")?;
     if format.is_none() && which.is_some() {
-        return Err(Failure::Argument("--plan needs a --format; without one both plans are printed".into()));
+        return Err(Failure::Argument("--plan needs a --format; without one all plans are printed".into()));
     }
-    let which = Which::of(which).map_err(Failure::Argument)?;
+    let which = which.map_or(Ok(Which::First), Which::of).map_err(Failure::Argument)?;
+    let mut wish = wish_of(arguments)?;
+    wish.price = wish.price.or((which == Which::Exact).then_some(0));
     let mut files = Files::of(arguments);
     let named = files.named(path)?;
     let text = match format {
-        None => named.plan(mounted),
-        Some(format) => named.exported(format, which, mounted),
+        None => named.plan(wish),
+        Some(format) => named.exported(format, which, wish),
     };
     files.give_text(&text.map_err(|why| about(path, why))?)
+}
+
+/// What the options ask for of the plans.
+fn wish_of(arguments: &Arguments) -> Result<Wish, Failure> {
+    let mounted = arguments.option("--mounted").map(tip_of).transpose()?;
+    let along = match (arguments.has("--in-order"), arguments.has("--in-placing-order")) {
+        (true, true) => {
+            let why = "--in-order and --in-placing-order name two orders; take one of them out";
+            return Err(Failure::Argument(why.into()));
+        }
+        (true, false) => Some(Along::List),
+        (false, true) => Some(Along::PlacingOrder),
+        (false, false) => None,
+    };
+    Ok(Wish { mounted, price: price_of(arguments)?, along })
+}
+
+/// The price of a tip for an exact plan, where one is named.
+fn price_of(arguments: &Arguments) -> Result<Option<u32>, Failure> {
+    let price = arguments.option("--price").map(|word| {
+        let why = || format!("a price is a number from 0 to {}, and not {}", u32::MAX, shown(word));
+        number_of(word).ok_or_else(|| Failure::Argument(why()))
+    });
+    match (price.transpose()?, arguments.has("--fewest-tips")) {
+        (Some(_), true) => {
+            Err(Failure::Argument("--price and --fewest-tips name two prices; take one of them out".into()))
+        }
+        (None, true) => Ok(Some(FEWEST_TIPS)),
+        (price, false) => Ok(price),
+    }
 }
 
 pub fn check(arguments: &Arguments) -> Result<(), Failure> {
@@ -385,8 +416,29 @@ pub fn mend(arguments: &Arguments) -> Result<(), Failure> {
 pub fn order(arguments: &Arguments) -> Result<(), Failure> {
     let [path] = arguments.files()[..] else { return Err(Failure::Arguments) };
     let mut files = Files::of(arguments);
+    let which = text_behind(arguments, TABLE)?.map(Which::of).transpose().map_err(Failure::Argument)?;
+    let mounted = arguments.option("--mounted").map(tip_of).transpose()?;
+    let price = price_of(arguments)?;
+    if which.is_none() && mounted.is_some() {
+        return Err(Failure::Argument(format!("--mounted needs {TABLE} and a plan; without it the tips do not count")));
+    }
+    if which != Some(Which::Exact) && price.is_some() {
+        return Err(Failure::Argument(format!("a price is for the exact plan; add {TABLE} exact")));
+    }
     let list = files.list(path)?;
-    files.give_text(&list.order().map_err(|why| about(path, why))?)
+    let order = match which {
+        None => list.order(),
+        Some(Which::Exact) => list.order_by_plan(Which::Exact, Wish { mounted, price: price.or(Some(0)), along: None }),
+        Some(which) => list.order_by_plan(which, Wish::mounted(mounted)),
+    };
+    files.give_text(&order.map_err(|why| about(path, why))?)
+}
+
+pub fn windows(arguments: &Arguments) -> Result<(), Failure> {
+    let [path] = arguments.files()[..] else { return Err(Failure::Arguments) };
+    let mut files = Files::of(arguments);
+    let list = files.list(path)?;
+    files.give_text(&list.windows().map_err(|why| about(path, why))?)
 }
 
 pub fn picture(arguments: &Arguments) -> Result<(), Failure> {

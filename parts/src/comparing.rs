@@ -3,7 +3,7 @@
 use std::collections::HashMap;
 
 use crate::job::job_of;
-use crate::planning::{Named, Plans};
+use crate::planning::{Named, Plan, Plans, Wish};
 use crate::{counted, tips_in_words};
 
 /// One part of a board, or one row of a table, by what it is called.
@@ -106,10 +106,15 @@ impl Named {
         if rules(self) != rules(other) {
             text += "the rules of the placing order differ\n";
         }
-        let (before, after) = (self.plans(None)?, other.plans(None)?);
+        let (before, after) = (self.plans(Wish::default())?, other.plans(Wish::default())?);
         text += &changed("quick", &before.quick.pairs.to_string(), &after.quick.pairs.to_string());
-        let best = |plans: &Plans| plans.best.as_ref().map_or("none".to_string(), |best| best.pairs.to_string());
-        text += &changed("best", &best(&before), &best(&after));
+        let pairs = |plan: Option<&Plan>| plan.map_or("none".to_string(), |plan| plan.pairs.to_string());
+        text += &match (before.best_or_exact(), after.best_or_exact()) {
+            ((name, plan), (other, other_plan)) if name == other => changed(name, &pairs(plan), &pairs(other_plan)),
+            ((name, plan), (other, other_plan)) => {
+                format!("{name} {}, then {other} {}\n", pairs(plan), pairs(other_plan))
+            }
+        };
         Ok(text + &self.moved(&before, other, &after))
     }
 
@@ -125,9 +130,13 @@ impl Named {
                 &before.quick.tips[line].to_string(),
                 &after.quick.tips[place].to_string(),
             );
-            let best = |plans: &Plans, line: usize| plans.best.as_ref().ok().map(|best| best.tips[line].to_string());
-            if let (Some(before), Some(after)) = (best(before, line), best(after, place)) {
-                text += &changed(&format!("{label} best on tip"), &before, &after);
+            if let ((name, Some(before)), (other, Some(after))) = (before.best_or_exact(), after.best_or_exact()) {
+                let (before, after) = (before.tips[line].to_string(), after.tips[place].to_string());
+                text += &if name == other {
+                    changed(&format!("{label} {name} on tip"), &before, &after)
+                } else {
+                    String::new()
+                };
             }
         }
         text

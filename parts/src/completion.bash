@@ -9,8 +9,8 @@ CASES
         words='top bottom both'
     elif [[ $last == --format ]]; then
         words='text csv json'
-    elif [[ $last == --plan ]]; then
-        words='quick best'
+    elif [[ $last == --plan || ($last == --tips && $typed == 'order '*) ]]; then
+        words='quick best exact'
     elif [[ $is_option && $word != -* ]]; then
         words=
     fi

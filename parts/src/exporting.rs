@@ -2,7 +2,7 @@
 
 use crate::job::Job;
 use crate::json::Quoted;
-use crate::planning::{Named, Plan, Plans};
+use crate::planning::{Named, Plan, Plans, Which, Wish};
 
 /// A form of a plan.
 #[derive(Clone, Copy, PartialEq, Eq, Debug)]
@@ -24,27 +24,6 @@ impl Format {
     }
 }
 
-/// Which of both plans.
-#[derive(Clone, Copy, PartialEq, Eq, Debug)]
-pub enum Which {
-    /// The best plan, where there is one, else the quick one.
-    BestElseQuick,
-    Quick,
-    Best,
-}
-
-impl Which {
-    /// The plan of the option `--plan`.
-    pub fn of(word: Option<&str>) -> Result<Which, String> {
-        let Some(word) = word else { return Ok(Which::BestElseQuick) };
-        match word.to_ascii_lowercase().as_str() {
-            "quick" => Ok(Which::Quick),
-            "best" => Ok(Which::Best),
-            _ => Err(format!("a plan is quick or best, and not {word}")),
-        }
-    }
-}
-
 /// One or more placements of a part.
 struct Row {
     /// The reference designator, else the name of the part, else its line.
@@ -55,16 +34,10 @@ struct Row {
 }
 
 impl Named {
-    /// A plan in this form, with a tip on the head or none.
-    pub fn exported(&self, format: Format, which: Which, mounted: Option<usize>) -> Result<String, String> {
-        let plans = self.plans(mounted)?;
-        let (name, plan) = match (which, &plans.best) {
-            (Which::Quick, _) | (Which::BestElseQuick, Err(_)) => ("quick", &plans.quick),
-            (_, Ok(best)) => ("best", best),
-            (Which::Best, &Err(line)) => {
-                return Err(format!("refused 25: {}; take --plan quick", self.no_run(&plans.job, line)));
-            }
-        };
+    /// A plan in this form.
+    pub fn exported(&self, format: Format, which: Which, wish: Wish) -> Result<String, String> {
+        let plans = self.plans(wish)?;
+        let (name, plan) = plans.chosen(which)?;
         Ok(match format {
             Format::Text => self.as_text(&plans.job, name, plan),
             Format::Csv => self.as_csv(&plans.job, name, plan),
@@ -113,7 +86,11 @@ impl Named {
             text += &format!("  \"mounted\": {tip},\n");
         }
         text += &format!("  \"tips used\": {},\n", plan.tips_used(rack));
-        text += &format!("  \"tip changes\": {},\n  \"placements\": [", plans.changes(plan));
+        for (order, changes) in plans.changes_of(plan) {
+            let changes = changes.map_or("null".into(), |changes| changes.to_string());
+            text += &format!("  \"changes in {order}\": {changes},\n");
+        }
+        text += "  \"placements\": [";
         for (number, row) in self.rows(&plans.job).iter().enumerate() {
             let (reference, label) = (Quoted(&row.reference), self.label(row.line));
             text += if number == 0 { "\n" } else { ",\n" };

@@ -20,7 +20,7 @@ pub struct Command {
 }
 
 /// The commands, in the order of the page.
-pub const COMMANDS: [Command; 18] = [
+pub const COMMANDS: [Command; 19] = [
     Command {
         name: "import kicad",
         arguments: "POS --tips TABLE [--side SIDE] [--start-table]",
@@ -118,22 +118,32 @@ pub const COMMANDS: [Command; 18] = [
     },
     Command {
         name: "plan",
-        arguments: "FILE [--mounted T] [--format FORMAT] [--plan PLAN]",
-        does: "print the quick and the best plan, part by part, and a summary of both;\n\
+        arguments: "FILE [--mounted T] [--price P] [--fewest-tips] [--in-order] [--in-placing-order] [--format FORMAT] [--plan PLAN]",
+        does: "print the quick and the best plan, part by part, and a table of both;\n\
                tip T, which is on the head, wins where tips suit equally;\n\
+               --price and --fewest-tips add an exact plan, with a price P for each tip;\n\
+               --in-order and --in-placing-order add a plan with the fewest tip changes in that order;\n\
                with a FORMAT one plan for other programs, a row for each reference designator",
         more: "Quick takes every list. Best has the most pairs of all plans, a pair being two placements on one tip;\n\
                it takes lists in which each part has every tip between its lowest and its highest, but for tips that\n\
-               no part of the list has. Where a part has a gap, it is named with an order of the rack that helps, if\n\
-               there is one.\n\
-               A quantity other than 1 stands behind the name, as x10; the summary then counts parts and placements.\n\
-               Where several tips suit equally, the lowest is taken, or T where it is one of them. The pairs of the\n\
-               best plan are the same with every T, those of the quick plan may be others.\n\
-               The summary counts tip changes for parts placed tip by tip: one less than the tips used. With a T that\n\
-               no part uses there is one more, at the start.\n\
-               FORMAT is text, csv or json: then one plan is printed, the best one or, where there is none, the quick\n\
-               one, a row for each reference designator that an import wrote into the comments, or else for each part.\n\
-               PLAN is quick or best. `parts check` reads each format.\n",
+               no part of the list has. If a part has a gap, it is named with an order of the rack that helps, if\n\
+               there is one, and the exact plan takes the place of the best one.\n\
+               Exact takes any list that names 20 tips at most. No plan has more pairs. With a price, no plan has more\n\
+               pairs less P for each tip that it uses: the higher P, the fewer tips. --fewest-tips is the highest P: no\n\
+               plan has fewer tips, and none of as few has more pairs.\n\
+               A quantity other than 1 follows the name, as x10; then parts and placements are counted.\n\
+               If several tips suit equally, the lowest is taken, or T if it is one of them. The pairs of the best plan\n\
+               are the same with every T, those of the quick plan may be others.\n\
+               The table has the pairs of each plan, the tips that it uses, and its tip changes where the parts are\n\
+               placed in the order of the list: one wherever a part is on another tip than the one before it, and\n\
+               with a T one before the first part if that is on another tip. The last column has the changes in the\n\
+               order by tips, which `parts order --tips` prints. A list without fine, tall, at= and rules has that\n\
+               order even if it has more than 128 parts.\n\
+               --in-order adds a plan, called along: no plan has fewer tip changes in the order of the list.\n\
+               --in-placing-order adds the plan with the fewest in the order that `parts order` prints.\n\
+               FORMAT is text, csv or json. It prints one plan: the one along an order or with a price if you ask for it,\n\
+               else the first that exists of best, exact and quick. Each reference designator that an import wrote into\n\
+               the comments has a row, else each part. PLAN is quick, best or exact. `parts check` reads each format.\n",
         example: "parts plan board.txt --mounted 3",
         run: commands::plan,
     },
@@ -208,8 +218,9 @@ pub const COMMANDS: [Command; 18] = [
     },
     Command {
         name: "order",
-        arguments: "LIST",
-        does: "print the order in which the parts are placed: fine ones first, tall ones last",
+        arguments: "LIST [--tips PLAN] [--mounted T] [--price P] [--fewest-tips]",
+        does: "print the order in which the parts are placed: fine ones first, tall ones last;\n\
+               with a PLAN the order by its tips: next comes a part on the same tip, if one may be next",
         more:
             "The words fine and tall stand behind a part's name, and at=0-3 where it has only the positions 0 to 3,\n\
                counted from 0; at=2 is one position. A line `before R1 U1` has R1 placed before U1. A part has one\n\
@@ -218,9 +229,24 @@ pub const COMMANDS: [Command; 18] = [
                Of a part that is both only tall counts.\n\
                Of all orders that obey, the one is printed that has the first part of the list at position 0 where it\n\
                can be, else the second, and so on; then the same for position 1.\n\
-               Where no order obeys, it is told which parts stand in each other's way.\n",
-        example: "parts order board.txt",
+               Where no order obeys, it is told which parts stand in each other's way.\n\
+               PLAN is quick, best or exact; P and --fewest-tips are for the exact plan, as in `parts plan`. Each part is\n\
+               on its tip of this plan. A part on the tip of the part before it comes before any other part that may be\n\
+               next, at position 0 a part on tip T, which is on the head; of several the first of the list. So the tip is\n\
+               changed only where every order that obeys and begins alike changes it. The second line has the number\n\
+               of changes in the order printed.\n",
+        example: "parts order board.txt --tips best",
         run: commands::order,
+    },
+    Command {
+        name: "windows",
+        arguments: "LIST",
+        does: "print the first and the last position that each part can have in the placing order",
+        more: "They are exact: some order that obeys the positions, words and rules of the list has the part at its first\n\
+               position, and none has it earlier; likewise the last one. A position between them may be impossible, for\n\
+               instance if another part must have it. If no order obeys, it says which parts are in each other's way.\n",
+        example: "parts windows board.txt",
+        run: commands::windows,
     },
     Command {
         name: "picture",

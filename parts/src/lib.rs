@@ -1,5 +1,6 @@
 //! Parts lists as text, job files as bytes, and what the proved library says of them.
 
+pub mod changes;
 pub mod checking;
 pub mod comparing;
 pub mod exporting;

@@ -2,21 +2,79 @@
 
 use crate::list::{List, Part};
 use crate::no_order::{Because, OrderFault, Placing, Rule, Window};
+use crate::planning::{Named, Which, Wish};
 use crate::{counted, MOST_PARTS};
 
 impl List {
     /// The order in which the parts are placed, or why there is none.
     pub fn order(&self) -> Result<String, String> {
-        let (parts, rules) = (self.placed_parts(), self.numbers_of_rules());
-        let mut order = vec![0; parts.len()];
-        library::order(&parts, &rules, &mut order).map_err(|refusal| {
-            format!("refused {}: {}", refusal.number, self.no_order(refusal.number, refusal.line as usize))
-        })?;
-        let mut text = format!("parts {} rules {}\n", parts.len(), rules.len());
-        for (position, &part) in order.iter().enumerate() {
-            text += &format!("position {position} {}\n", self.in_order(part.into()));
+        let mut text = self.counts();
+        for (position, part) in self.placing_order()?.into_iter().enumerate() {
+            text += &format!("position {position} {}\n", self.in_order(part));
         }
         Ok(text)
+    }
+
+    /// The parts in the order in which they are placed, or why there is none.
+    pub fn placing_order(&self) -> Result<Vec<usize>, String> {
+        let (parts, rules) = (self.placed_parts(), self.numbers_of_rules());
+        let mut order = vec![0; parts.len()];
+        library::order(&parts, &rules, &mut order).map_err(|refusal| self.without_order(refusal))?;
+        Ok(order.into_iter().map(usize::from).collect())
+    }
+
+    /// The parts in the order by these tips, or why there is none.
+    pub fn order_by_tips(&self, tips: &[u8], mounted: Option<usize>) -> Result<Vec<usize>, String> {
+        let (parts, rules) = (self.placed_parts(), self.numbers_of_rules());
+        let mut order = vec![0; parts.len()];
+        library::order_by_tips(&parts, &rules, tips, mounted, &mut order)
+            .map_err(|refusal| self.without_order(refusal))?;
+        Ok(order.into_iter().map(usize::from).collect())
+    }
+
+    /// The order by the tips of a plan, each part with its tip, or why there is none.
+    pub fn order_by_plan(&self, which: Which, wish: Wish) -> Result<String, String> {
+        let mounted = wish.mounted;
+        let named = Named::of_list(self.clone());
+        let plans = named.plans(wish)?;
+        let (name, plan) = plans.chosen(which)?;
+        let order = self.order_by_tips(&plan.tips, mounted)?;
+        let changes = counted(plan.changes_in(&order, mounted) as u64, "change");
+        let begins = mounted.map_or(String::new(), |tip| format!(", tip {tip} mounted"));
+        let mut text = self.counts() + &format!("tips of the {name} plan, {changes} in this order{begins}\n");
+        for (position, part) in order.into_iter().enumerate() {
+            text += &format!("position {position} {} tip {}\n", self.in_order(part), plan.tips[part]);
+        }
+        Ok(text)
+    }
+
+    /// Whether any part may be placed anywhere.
+    pub fn is_free(&self) -> bool {
+        self.rules.is_empty() && self.parts.iter().all(|part| !part.fine && !part.tall && part.at.is_none())
+    }
+
+    /// The first and the last position that each part can have, or why no order obeys.
+    pub fn windows(&self) -> Result<String, String> {
+        let (parts, rules) = (self.placed_parts(), self.numbers_of_rules());
+        let (mut first, mut last) = (vec![0; parts.len()], vec![0; parts.len()]);
+        library::windows(&parts, &rules, &mut first, &mut last).map_err(|refusal| self.without_order(refusal))?;
+        let mut text = self.counts();
+        for (part, (first, last)) in first.into_iter().zip(last).enumerate() {
+            let positions = match first == last {
+                true => format!("position {first}"),
+                false => format!("positions {first} to {last}"),
+            };
+            text += &format!("{} {positions}\n", self.in_order(part));
+        }
+        Ok(text)
+    }
+
+    fn counts(&self) -> String {
+        format!("parts {} rules {}\n", self.parts.len(), self.rules.len())
+    }
+
+    fn without_order(&self, refusal: library::Refusal) -> String {
+        format!("refused {}: {}", refusal.number, self.no_order(refusal.number, refusal.line as usize))
     }
 
     /// The parts as the library takes them; where the list names no positions, a part may have any.

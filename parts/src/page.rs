@@ -1,8 +1,9 @@
 //! One page of a parts list, as HTML that needs no network: the drawing, tips used and changes, and a table of the parts.
 
+use crate::changes::in_cell;
 use crate::job::{job_of, Job};
 use crate::picture::escaped;
-use crate::planning::{Named, Plan, Plans};
+use crate::planning::{Named, Plan, Plans, Wish};
 use crate::{counted, tips_in_words};
 
 /// The page with its style and its few lines of script; TITLE, PAPER and BODY are replaced.
@@ -13,7 +14,7 @@ const UPRIGHT: usize = 1100;
 impl Named {
     /// The page of the list, with a keep within k, or within the least k that is not refused.
     pub fn page(&self, name: &str, k: Option<u16>) -> Result<String, String> {
-        let plans = self.plans(None)?;
+        let plans = self.plans(Wish::default())?;
         let k = k.unwrap_or(u16::try_from(plans.common.off).unwrap_or(u16::MAX));
         let kept = self.keep(k).and_then(|kept| job_of(&kept.file));
         let title = escaped(&format!("Plan of {name}"));
@@ -22,6 +23,9 @@ impl Named {
         let mut body = format!("<h1>{title}</h1>\n<p>{}, {} and a rack of {}.</p>\n", counts[0], counts[1], counts[2]);
         if let Err(line) = plans.best {
             body += &refused(&format!("There is no best plan: {}.", self.no_run(&plans.job, line)));
+            if let Some(Err(why)) = &plans.exact {
+                body += &refused(&format!("There is no exact plan: {why}."));
+            }
         }
         if let Err(why) = &kept {
             body += &refused(&format!("Nothing is kept: {why}."));
@@ -44,9 +48,10 @@ impl Named {
     /// The parts, a row each, with their tips in both plans and those that are kept.
     fn table(&self, plans: &Plans, k: u16, kept: Option<&Job>) -> String {
         let columns = self.columns();
+        let (second, second_plan) = plans.best_or_exact();
         let mut heads = vec![("no.", true), ("part", false), ("quantity", true), ("tips", false)];
         let kept_head = format!("kept, k {k}");
-        heads.extend([(kept_head.as_str(), false), ("quick", true), ("best", true)]);
+        heads.extend([(kept_head.as_str(), false), ("quick", true), (second, true)]);
         heads.extend(columns.iter().map(|column| (*column, true)));
         heads.push(("comment", false));
         let head = |(words, is_number): &(&str, bool)| {
@@ -59,7 +64,7 @@ impl Named {
         text += &format!("<thead><tr>{heads}</tr></thead>\n<tbody>\n");
         for (row, line) in plans.job.lines.iter().enumerate() {
             let left = kept.map_or("-".into(), |kept| kept_in_words(line.set, kept.lines[row].set));
-            let best = plans.best.as_ref().map_or("-".into(), |best| best.tips[row].to_string());
+            let best = second_plan.map_or("-".into(), |best| best.tips[row].to_string());
             let mut cells = cell(&row.to_string(), true) + &cell(&self.label(row), false);
             cells += &cell(&line.quantity.to_string(), true);
             cells += &format!("<td class=\"tips\">{}</td><td class=\"tips\">{left}</td>", tips_in_words(line.set));
@@ -115,17 +120,20 @@ fn kept_in_words(had: u64, has: u64) -> String {
 /// Pairs, tips used, tip changes, and the placements on each tip that is used, for both plans.
 fn summary(plans: &Plans) -> String {
     let rack = plans.job.rack;
+    let (second, second_plan) = plans.best_or_exact();
     let row = |name: &str, of: &dyn Fn(&Plan) -> String| {
-        let best = plans.best.as_ref().map_or("-".into(), of);
+        let best = second_plan.map_or("-".into(), of);
         format!("<tr>{}{}{}</tr>\n", cell(name, false), cell(&of(&plans.quick), true), cell(&best, true))
     };
     let mut rows = row("pairs", &|plan| plan.pairs.to_string());
     rows += &row("tips used", &|plan| plan.tips_used(rack).to_string());
-    rows += &row("tip changes, parts placed tip by tip", &|plan| plans.changes(plan).to_string());
-    let is_used = |tip: &usize| plans.quick.on_tip(*tip) + plans.best.as_ref().map_or(0, |best| best.on_tip(*tip)) > 0;
+    for (number, (order, _)) in plans.changes_of(&plans.quick).into_iter().enumerate() {
+        rows += &row(&format!("tip changes in {order}"), &|plan| in_cell(plans.changes_of(plan).swap_remove(number).1));
+    }
+    let is_used = |tip: &usize| plans.quick.on_tip(*tip) + second_plan.map_or(0, |best| best.on_tip(*tip)) > 0;
     for tip in (0..rack).filter(is_used) {
         rows += &row(&format!("placements on tip {tip}"), &|plan| plans.placements_on(plan, tip).to_string());
     }
-    let heads = "<tr><th></th><th class=\"number\">quick</th><th class=\"number\">best</th></tr>";
+    let heads = format!("<tr><th></th><th class=\"number\">quick</th><th class=\"number\">{second}</th></tr>");
     format!("<h2>Tips used and changes</h2>\n<table id=\"summary\">\n<thead>{heads}</thead>\n<tbody>\n{rows}</tbody>\n</table>\n")
 }

@@ -3,7 +3,8 @@
 use job_file::refusal::{FULL, RACKS_DIFFER, TOO_MANY_PLACEMENTS};
 
 use crate::job::{job_of, Job};
-use crate::planning::{common_in_words, no_run_in_words, Named, Plans};
+use crate::list::List;
+use crate::planning::{common_in_words, no_run_in_words, Named, Plans, Wish};
 use crate::{counted, quantity_in_words, tips_in_words, MOST_LINES, MOST_PLACEMENTS};
 
 /// Boards, each planned alone, and merged where they can be.
@@ -117,14 +118,16 @@ impl Boards<'_> {
             file.truncate(bytes as usize);
             merged = file;
         }
-        let panel = Named { file: merged, list: None };
-        let plans = panel.plans(None)?;
+        // The words and rules of its list say in which orders its parts may be placed.
+        let panel = Named { file: merged, list: List::read(self.list().as_bytes()).ok() };
+        let plans = panel.plans(Wish::default())?;
         let (lines, rack) = (plans.job.lines.len(), plans.job.rack);
         let mut text = format!("panel lines {lines} rack {rack}\n{}", common_in_words(plans.common));
         text += &format!("quick {}\n{}", plans.quick.pairs, self.best_in_words(&plans));
+        text += &plans.exact_in_words(None);
         text += &self.lines(&|line| format!(" {}", plans.each(|plan| plan.tips[line])));
         text += &format!("\n{}", plans.summary());
-        Ok(Merged { text, file: panel.file, list: self.list() })
+        Ok(Merged { text, list: self.list(), file: panel.file })
     }
 
     /// The parts list of the panel. Positions in the order are those of one board, and left out.

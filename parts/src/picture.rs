@@ -1,9 +1,9 @@
-//! A drawing of a parts list, parts against tips, with its quick and its best plan, as SVG.
+//! A drawing of a parts list, parts against tips, with its quick and its best plan, else its exact one, as SVG.
 
 use std::ops::Range;
 
 use crate::job::{named_tips, Job};
-use crate::planning::{Named, Plan, Plans};
+use crate::planning::{Named, Plan, Plans, Wish};
 use crate::{counted, quantity_in_words};
 
 /// The side of a cell.
@@ -39,6 +39,8 @@ const ALLOWED: &str = "#dfe6ec";
 enum Kind {
     Quick,
     Best,
+    /// In the place of a best plan that there is not.
+    Exact,
     Kept,
 }
 
@@ -47,6 +49,7 @@ impl Kind {
         match self {
             Kind::Quick => "quick",
             Kind::Best => "best",
+            Kind::Exact => "exact",
             Kind::Kept => "kept",
         }
     }
@@ -54,7 +57,7 @@ impl Kind {
     fn colour(self) -> &'static str {
         match self {
             Kind::Quick => "#1f6fb2",
-            Kind::Best => "#b8480b",
+            Kind::Best | Kind::Exact => "#b8480b",
             Kind::Kept => "#3d6b35",
         }
     }
@@ -67,7 +70,7 @@ impl Kind {
                 let (middle, radius) = (CELL / 2, CELL / 2 - 8);
                 format!(r#"<circle cx="{}" cy="{}" r="{radius}" fill="{colour}"/>"#, x + middle, y + middle)
             }
-            Kind::Best => {
+            Kind::Best | Kind::Exact => {
                 let side = CELL - 16;
                 format!(r#"<rect x="{}" y="{}" width="{side}" height="{side}" fill="{colour}"/>"#, x + 8, y + 8)
             }
@@ -232,7 +235,7 @@ fn beginning_of(comment: &str) -> String {
 impl Named {
     /// The drawing of the list and both plans.
     pub fn picture(&self) -> Result<String, String> {
-        Ok(self.drawing_of(&self.plans(None)?))
+        Ok(self.drawing_of(&self.plans(Wish::default())?))
     }
 
     /// The drawing of the list and these plans.
@@ -257,6 +260,9 @@ impl Named {
     /// its width.
     fn drawing(&self, plans: &Plans, keep: Option<(u16, Option<&Job>)>, rows: Range<usize>) -> (String, usize) {
         let count = plans.job.lines.len();
+        let (name, second_plan) = plans.best_or_exact();
+        let second_kind = if name == "exact" { Kind::Exact } else { Kind::Best };
+        let second_words = format!("its tip in the {name} plan");
         let label = |line: usize| beginning_of(&self.label(line)) + &quantity_in_words(plans.job.lines[line].quantity);
         let labels: Vec<String> = (0..count).map(label).collect();
         let comments: Vec<String> = (0..count).map(|line| beginning_of(self.comment(line))).collect();
@@ -279,7 +285,10 @@ impl Named {
         let mut drawn = vec![
             format!(r#"<svg xmlns="http://www.w3.org/2000/svg" {size}"#),
             r#" font-family="Helvetica, Arial, DejaVu Sans, sans-serif">"#.into(),
-            "<title>Lines of a parts list against tips, with the quick and the best plan</title>".into(),
+            format!(
+                "<title>Lines of a parts list against tips, with the quick and the {} plan</title>",
+                second_kind.name()
+            ),
             format!(r#"<rect width="{width}" height="{height}" fill="white"/>"#),
             Text { anchor: "end", colour: GREY, ..PLAIN }.at(first - 16, TOP - 12, "tip"),
         ];
@@ -300,12 +309,12 @@ impl Named {
             drawn.push(sums.at(first - 16, bottom + 50, "pairs"));
         }
         drawn.extend(panel(Kind::Quick, first, &rows, plans, Some(&plans.quick)));
-        drawn.extend(panel(Kind::Best, second, &rows, plans, plans.best.as_ref().ok()));
+        drawn.extend(panel(second_kind, second, &rows, plans, second_plan));
         let y = height - 46;
         let mut key = vec![
             (MARGIN - 8, allowed(MARGIN - 8, y), "tip that can pick the part"),
             (first + 30, Kind::Quick.mark(first + 30, y), "its tip in the quick plan"),
-            (first + 270, Kind::Best.mark(first + 270, y), "its tip in the best plan"),
+            (first + 270, second_kind.mark(first + 270, y), second_words.as_str()),
         ];
         if let Some((k, kept)) = keep {
             drawn.extend(kept_panel(third, &rows, &plans.job, k, kept));

@@ -32,7 +32,7 @@ fn lies_within(line: &Line, first: usize, last: usize) -> bool {
 }
 
 /// Why a table fails for a list of runs. It has a row and a column for each tip. The whole rack is checked first, then each
-/// stretch, tip by tip.
+/// interval, tip by tip.
 pub fn table_fault(job: &Job, claim: u32, table: &[u32]) -> Option<TableFault> {
     let rack = job.rack;
     let entry_of = |first: usize, last: usize| table[first * rack + last];
@@ -41,8 +41,8 @@ pub fn table_fault(job: &Job, claim: u32, table: &[u32]) -> Option<TableFault> {
         return Some(TableFault::NotTheClaim { entry: whole });
     }
     let named = named_tips(job);
-    let mut stretches = (0..rack).flat_map(|first| (first..rack).map(move |last| (first, last)));
-    stretches.find_map(|(first, last)| {
+    let mut intervals = (0..rack).flat_map(|first| (first..rack).map(move |last| (first, last)));
+    intervals.find_map(|(first, last)| {
         let within: Vec<&Line> = job.lines.iter().filter(|line| lies_within(line, first, last)).collect();
         let entry = entry_of(first, last);
         let needed_with = |tip: usize| {

@@ -56,8 +56,12 @@ fn list_without_a_best_plan_is_checked_without_a_table() {
     let list = "rack 3\nA : 1\nB : 0 2\n";
     let text = "lines 2 rack 3\npairs 0 as claimed, each part on a tip of its own\n\
                 no table: only the tips and the pairs are checked\n\
-                best none, B is no run: it lacks tip 1, which A has (with the tips in the order 0 2 1 every part is a run)\n";
+                best none, B is no run: it lacks tip 1, which A has (with the tips in the order 0 2 1 every part is a run)\n\
+                exact 0, the plan has as many\n";
     assert_eq!(check(list, "pairs 0\nA : 1\nB : 2\n"), Ok(text.into()));
+    // C with A and D with B are two pairs; here C and D are one.
+    let fewer = check("rack 3\nA : 1\nB : 2\nC : 0-1\nD : 0 2\n", "pairs 1\nA : 1\nB : 2\nC : 0\nD : 0\n").unwrap();
+    assert!(fewer.ends_with("\nexact 2, the plan has 1 fewer\n"), "{fewer}");
     let why = "refused 19: B is on tip 1 and has only 0 2; give it a tip of its own";
     assert_eq!(check(list, "pairs 1\nA : 1\nB : 1\n"), of_plan(why));
     let why = "refused 20: the plan has 0 pairs and says 1; write pairs 0";

@@ -281,6 +281,18 @@ fn file_to_be_imported_is_told_from_a_list() {
 }
 
 #[test]
+fn windows_are_printed() {
+    let list = b"rack 3\nC1 tall : 0\nC2 : 1-2\nC3 : 0\n";
+    let text = b"parts 3 rules 0\nC1 tall position 2\nC2 positions 0 to 1\nC3 positions 0 to 1\n";
+    assert_eq!(run(&["windows", "-"], list), given(text));
+    let why = "-: this is a job file and no parts list; `parts show` turns it into one";
+    assert_eq!(run(&["windows", "-"], &EXAMPLE), refused(why));
+    let many = "rack 1\n".to_string() + &": 0\n".repeat(129);
+    let why = "-: refused 12: 129 parts; an order has 128 at most, split the list";
+    assert_eq!(run(&["windows", "-"], many.as_bytes()), refused(why));
+}
+
+#[test]
 fn orders_are_printed() {
     let list = b"rack 3\nC1 tall : 0\nC2 : 1-2\nC3 fine : 0\n";
     let text = b"parts 3 rules 0\nposition 0 C3 fine\nposition 1 C2\nposition 2 C1 tall\n";
@@ -292,9 +304,21 @@ fn orders_are_printed() {
     assert_eq!(run(&["order", "-"], b"rack 3\nC1 : 0\nbefore C1 C4\n"), refused(why));
     let why = "-: this is a job file and no parts list; `parts show` turns it into one";
     assert_eq!(run(&["order", "-"], &EXAMPLE), refused(why));
-    let usage = "usage: parts order LIST\n`parts order --help` says more";
+    let usage = "usage: parts order LIST [--tips PLAN] [--mounted T] [--price P] [--fewest-tips]\n`parts order --help` says more";
     assert_eq!(run(&["order"], b""), wrong_argument(&format!("LIST is missing\n{usage}")));
     assert_eq!(run(&["order", "-", "-"], b""), wrong_argument(&format!("`-` is a word too many\n{usage}")));
+    let text =
+        b"parts 3 rules 0\ntips of the best plan, 3 changes in this order, tip 1 mounted\nposition 0 C3 fine tip 0\n\
+                 position 1 C2 tip 1\nposition 2 C1 tall tip 0\n";
+    let by_tips = run(&["order", "-", "--tips", "best", "--mounted", "1"], list);
+    assert_eq!(by_tips, given(text));
+    let why = "a plan is quick, best or exact, and not 3";
+    assert_eq!(run(&["order", "-", "--tips", "3"], list), wrong_argument(why));
+    let why = "--mounted needs --tips and a plan; without it the tips do not count";
+    assert_eq!(run(&["order", "-", "--mounted", "1"], list), wrong_argument(why));
+    let why = "a price is for the exact plan; add --tips exact";
+    assert_eq!(run(&["order", "-", "--tips", "best", "--price", "1"], list), wrong_argument(why));
+    assert_eq!(run(&["order", "-", "--fewest-tips"], list), wrong_argument(why));
 }
 
 /// The list with a quantity, and its job file, which is of version 2.
@@ -311,10 +335,12 @@ fn quantities_are_made_shown_sorted_and_planned() {
         assert_eq!(run(&["sort", column, "-"], TWICE.as_bytes()), given(sorted), "{column}");
     }
     let plan = "lines 2 rack 3\noff 1 tips 0\nquick 1\nbest 1\nC1 x2 quick 0 best 0\nC2 quick 1 best 1\n\n\
-                parts 2 placements 3\ntips used quick 2 best 2\nparts on tip 0 quick 1 best 1\n\
+                parts 2 placements 3\nparts on tip 0 quick 1 best 1\n\
                 placements on tip 0 quick 2 best 2\nparts on tip 1 quick 1 best 1\n\
-                placements on tip 1 quick 1 best 1\npairs quick 1 best 1\n\
-                tip changes quick 1 best 1, parts placed tip by tip\n";
+                placements on tip 1 quick 1 best 1\n\
+                plan   pairs  tips  changes in the list's order  changes in the order by tips\n\
+                quick      1     2                            1                             1\n\
+                best       1     2                            1                             1\n";
     assert_eq!(run(&["plan", "-"], TWICE.as_bytes()), given(plan.as_bytes()));
 }
 
@@ -348,7 +374,7 @@ fn help_and_version_are_printed() {
     assert_eq!(run(&["--version"], b""), given(version.as_bytes()));
 }
 
-const COMMANDS: [&str; 18] = [
+const COMMANDS: [&str; 19] = [
     "import kicad",
     "import openpnp",
     "import csv",
@@ -364,6 +390,7 @@ const COMMANDS: [&str; 18] = [
     "panel",
     "mend",
     "order",
+    "windows",
     "picture",
     "page",
     "completion bash",
@@ -393,7 +420,7 @@ fn wrong_arguments_print_the_usage_of_their_command() {
         (&["page"], "FILE is missing", "page FILE [--keep K]"),
         (&["page", "a", "--keep"], "--keep needs K behind it", "page FILE [--keep K]"),
         (&["page", "a", "--k", "1"], "parts page has no option --k", "page FILE [--keep K]"),
-        (&["order"], "LIST is missing", "order LIST"),
+        (&["order"], "LIST is missing", "order LIST [--tips PLAN] [--mounted T] [--price P] [--fewest-tips]"),
         (&["junior", "--side", "top"], "parts junior has no option --side", "junior FILE"),
         (&["make"], "LIST is missing", "make LIST"),
         (&["make", "a", "b"], "`b` is a word too many", "make LIST"),
@@ -427,17 +454,25 @@ fn wrong_arguments_print_the_usage_of_their_command() {
         ),
         (&["junior"], "FILE is missing", "junior FILE"),
         (&["junior", "a", "b"], "`b` is a word too many", "junior FILE"),
-        (&["plan"], "FILE is missing", "plan FILE [--mounted T] [--format FORMAT] [--plan PLAN]"),
-        (&["plan", "a", "b"], "`b` is a word too many", "plan FILE [--mounted T] [--format FORMAT] [--plan PLAN]"),
+        (
+            &["plan"],
+            "FILE is missing",
+            "plan FILE [--mounted T] [--price P] [--fewest-tips] [--in-order] [--in-placing-order] [--format FORMAT] [--plan PLAN]",
+        ),
+        (
+            &["plan", "a", "b"],
+            "`b` is a word too many",
+            "plan FILE [--mounted T] [--price P] [--fewest-tips] [--in-order] [--in-placing-order] [--format FORMAT] [--plan PLAN]",
+        ),
         (
             &["plan", "a", "--mounted"],
             "--mounted needs T behind it",
-            "plan FILE [--mounted T] [--format FORMAT] [--plan PLAN]",
+            "plan FILE [--mounted T] [--price P] [--fewest-tips] [--in-order] [--in-placing-order] [--format FORMAT] [--plan PLAN]",
         ),
         (
             &["plan", "a", "--mounted", "1", "--mounted", "2"],
             "--mounted stands twice; name it once",
-            "plan FILE [--mounted T] [--format FORMAT] [--plan PLAN]",
+            "plan FILE [--mounted T] [--price P] [--fewest-tips] [--in-order] [--in-placing-order] [--format FORMAT] [--plan PLAN]",
         ),
         (&["picture", "a", "--mounted", "1"], "parts picture has no option --mounted", "picture FILE"),
         (&["picture"], "FILE is missing", "picture FILE"),
@@ -546,8 +581,10 @@ fn list_that_is_standard_output_too_is_left_alone() {
     assert_eq!(fs::read_to_string(&list).unwrap(), LIST);
 }
 
-const SUMMARY: &str = "\ntips used quick 2 best 2\nparts on tip 0 quick 1 best 1\nparts on tip 1 quick 1 best 1\n\
-                       pairs quick 0 best 0\ntip changes quick 1 best 1, parts placed tip by tip\n";
+const SUMMARY: &str = "\nparts on tip 0 quick 1 best 1\nparts on tip 1 quick 1 best 1\n\
+                       plan   pairs  tips  changes in the list's order  changes in the order by tips\n\
+                       quick      0     2                            1                             1\n\
+                       best       0     2                            1                             1\n";
 
 #[test]
 fn keep_plan_and_picture_take_lists_and_job_files() {
@@ -651,9 +688,10 @@ fn outputs_replace_only_job_files() {
 #[test]
 fn options_take_their_value_behind_a_space_or_a_sign() {
     for words in [&["plan", "-", "--mounted=1"][..], &["plan", "--mounted", "1", "-"]] {
-        assert!(run(words, LIST.as_bytes()).0.ends_with(b"tip 1 mounted\n"), "{words:?}");
+        let plan = String::from_utf8(run(words, LIST.as_bytes()).0).unwrap();
+        assert!(plan.contains("\ntip 1 mounted\n"), "{words:?}: {plan}");
     }
-    let usage = "usage: parts plan FILE [--mounted T] [--format FORMAT] [--plan PLAN]\n`parts plan --help` says more";
+    let usage = "usage: parts plan FILE [--mounted T] [--price P] [--fewest-tips] [--in-order] [--in-placing-order] [--format FORMAT] [--plan PLAN]\n`parts plan --help` says more";
     for (words, what) in [
         (&["plan", "-", "--force=1"][..], "--force takes nothing behind it"),
         (&["plan", "-", "--mounted=1", "--mounted=2"], "--mounted stands twice; name it once"),
@@ -793,10 +831,25 @@ fn pipe_is_written_to_as_it_is() {
 }
 
 #[test]
+fn prices_are_numbers_and_one() {
+    let exact = |words: &[&str]| String::from_utf8(run(&[&["plan", "-"], words].concat(), LIST.as_bytes()).0).unwrap();
+    assert!(exact(&["--price", "7"]).contains("\nbest 0\nexact 0, price 7 a tip\nC1 quick 0 best 0 exact 0\n"));
+    assert_eq!(exact(&["--fewest-tips"]), exact(&["--price", "4294967295"]));
+    for price in ["4294967296", "-1", "x", "", "+1"] {
+        let why = format!("a price is a number from 0 to 4294967295, and not {price}");
+        assert_eq!(run(&["plan", "-", "--price", price], LIST.as_bytes()), wrong_argument(&why));
+    }
+    let why = "--price and --fewest-tips name two prices; take one of them out";
+    assert_eq!(run(&["plan", "-", "--price", "1", "--fewest-tips"], LIST.as_bytes()), wrong_argument(why));
+}
+
+#[test]
 fn mounted_tip_is_named_before_the_file_or_behind_it() {
     let plan = "lines 2 rack 3\noff 1 tips 0 1 2\nquick 0\nbest 0\nC1 quick 0 best 0\nC2 quick 2 best 2\n\n\
-                tips used quick 2 best 2\nparts on tip 0 quick 1 best 1\nparts on tip 2 quick 1 best 1\n\
-                pairs quick 0 best 0\ntip changes quick 1 best 1, parts placed tip by tip, tip 2 mounted\n";
+                parts on tip 0 quick 1 best 1\nparts on tip 2 quick 1 best 1\ntip 2 mounted\n\
+                plan   pairs  tips  changes in the list's order  changes in the order by tips\n\
+                quick      0     2                            2                             1\n\
+                best       0     2                            2                             1\n";
     for arguments in [["plan", "-", "--mounted", "2"], ["plan", "--mounted", "2", "-"]] {
         assert_eq!(run(&arguments, LIST.as_bytes()), given(plan.as_bytes()));
     }
@@ -888,7 +941,7 @@ fn lists_job_files_and_tables_are_compared() {
     let more = "rack 4\nC1 x3 height=3 fine : 0-1\nC2 height=1 : 1-2\n: 1 3\n";
     let text =
         "rack 3, then 4\nC1 tips 0, then 0-1\nC1 quantity 1, then 3\nC1 height 2, then 3\nC1 fine none, then yes\n\
-                only in the second: line 2 tips 1 3, quantity 1\n1 part the same\nquick 0, then 10\nbest 0, then none\n\
+                only in the second: line 2 tips 1 3, quantity 1\n1 part the same\nquick 0, then 10\nbest 0, then exact 10\n\
                 C1 quick on tip 0, then 1\n";
     assert_eq!(compared(LIST, more), text);
     assert_eq!(
@@ -990,7 +1043,20 @@ fn bash_completes_commands_and_options() {
     assert_eq!(completed(&["import", ""]), ["kicad", "openpnp", "csv"]);
     assert_eq!(completed(&["help", "import", "o"]), ["openpnp"]);
     assert_eq!(completed(&["completion", ""]), ["bash"]);
-    assert_eq!(completed(&["plan", "a", "--"]), ["--mounted", "--format", "--plan", "--force", "--help"]);
+    assert_eq!(
+        completed(&["plan", "a", "--"]),
+        [
+            "--mounted",
+            "--price",
+            "--fewest-tips",
+            "--in-order",
+            "--in-placing-order",
+            "--format",
+            "--plan",
+            "--force",
+            "--help"
+        ]
+    );
     assert_eq!(completed(&["plan", "a", "--format", ""]), ["text", "csv", "json"]);
     assert_eq!(completed(&["import", "csv", "a", "--c"]), ["--columns"]);
     assert_eq!(completed(&["import", "csv", "a", "--side", "b"]), ["bottom", "both"]);

@@ -1,9 +1,9 @@
 //! Plans by reference designator, and what `parts check` reads of them.
 
-use parts::exporting::{Format, Which};
+use parts::exporting::Format;
 use parts::handed::Handed;
 use parts::list::List;
-use parts::planning::Named;
+use parts::planning::{Named, Which, Wish};
 
 /// Best: R1, C1 and the part without a name on tip 1, which makes 36 pairs, and D1 on tip 2, which makes 3.
 const LIST: &str = "rack 3\n\
@@ -17,7 +17,7 @@ fn list() -> List {
 }
 
 fn exported(format: Format, which: Which) -> String {
-    Named::of_list(list()).exported(format, which, None).unwrap()
+    Named::of_list(list()).exported(format, which, Wish::default()).unwrap()
 }
 
 #[test]
@@ -27,10 +27,10 @@ fn each_reference_has_a_row() {
     assert_eq!(exported(Format::Csv, Which::Best), csv);
     assert_eq!(exported(Format::Csv, Which::Quick), csv.replace("best", "quick"));
     let text = "# the best plan\npairs 39\nR1 : 1\nR2 : 1\nR3 : 1\nR4 : 1\nC1 : 1\nC2 : 1\n: 1\nD1 : 2\n";
-    assert_eq!(exported(Format::Text, Which::BestElseQuick), text);
+    assert_eq!(exported(Format::Text, Which::First), text);
     let json = exported(Format::Json, Which::Best);
     let begins =
-        "{\n  \"plan\": \"best\",\n  \"pairs\": 39,\n  \"rack\": 3,\n  \"tips used\": 2,\n  \"tip changes\": 1,\n  \
+        "{\n  \"plan\": \"best\",\n  \"pairs\": 39,\n  \"rack\": 3,\n  \"tips used\": 2,\n  \"changes in the list's order\": 1,\n  \"changes in the order by tips\": 1,\n  \
                   \"placements\": [\n    {\"reference\": \"R1\", \"part\": \"R1\", \"placements\": 1, \"tip\": 1},\n";
     assert!(json.starts_with(begins) && json.ends_with("\"placements\": 3, \"tip\": 2}\n  ]\n}\n"), "{json}");
     assert_eq!(json.matches("\"reference\"").count(), 8);
@@ -50,20 +50,39 @@ fn each_form_is_read_again() {
 }
 
 #[test]
-fn list_without_a_best_plan_has_its_quick_plan() {
-    let gap = || Named::of_list(List::read(b"rack 3\nA : 1\nB : 0 2\n").unwrap());
-    let text = gap().exported(Format::Text, Which::BestElseQuick, None).unwrap();
-    assert_eq!(text, "# the quick plan\npairs 0\nA : 1\nB : 0\n");
+fn list_without_a_best_plan_has_its_exact_plan() {
+    // Quick has C and D on tip 0; exact has C with A, and D with B.
+    let gap = || Named::of_list(List::read(b"rack 3\nA : 1\nB : 2\nC : 0-1\nD : 0 2\n").unwrap());
+    let text = gap().exported(Format::Text, Which::First, Wish::default()).unwrap();
+    assert_eq!(text, "# the exact plan\npairs 2\nA : 1\nB : 2\nC : 1\nD : 2\n");
+    assert_eq!(gap().exported(Format::Text, Which::Exact, Wish::default()), Ok(text));
     let why =
-        "refused 25: B is no run: it lacks tip 1, which A has (with the tips in the order 0 2 1 every part is a run); \
-               take --plan quick";
-    assert_eq!(gap().exported(Format::Csv, Which::Best, None), Err(why.into()));
+        "refused 25: D is no run: it lacks tip 1, which A has (with the tips in the order 1 0 2 every part is a run); \
+               take the exact plan";
+    assert_eq!(gap().exported(Format::Csv, Which::Best, Wish::default()), Err(why.into()));
+    // With a price the exact plan is asked for.
+    let priced =
+        |which| Named::of_list(list()).exported(Format::Text, which, Wish { price: Some(1), ..Wish::default() });
+    assert!(priced(Which::First).unwrap().starts_with("# the exact plan\n"));
+    assert!(priced(Which::Best).unwrap().starts_with("# the best plan\n"));
+    // Too many tips: the quick plan.
+    let wide: String = (0..21).map(|tip| format!(": {tip}\n")).collect();
+    let wide = Named::of_list(List::read(format!("rack 21\n{wide}: 0 2\n").as_bytes()).unwrap());
+    assert!(wide.exported(Format::Text, Which::First, Wish::default()).unwrap().starts_with("# the quick plan\n"));
+    let why = wide.exported(Format::Text, Which::Exact, Wish::default()).unwrap_err();
+    assert!(why.starts_with("refused 35: 21 tips are named"), "{why}");
+    let why = wide.exported(Format::Text, Which::Best, Wish::default()).unwrap_err();
+    assert!(why.starts_with("refused 25: ") && why.ends_with("; take the quick plan"), "{why}");
+    let gap = || Named::of_list(List::read(b"rack 3\nA : 1\nB : 0 2\n").unwrap());
     let job = Named { file: gap().file, list: None };
     assert_eq!(
-        job.exported(Format::Csv, Which::Quick, Some(2)).unwrap().lines().nth(2),
+        job.exported(Format::Csv, Which::Quick, Wish::mounted(Some(2))).unwrap().lines().nth(2),
         Some("\"line 1\",\"line 1\",1,quick,2")
     );
-    assert!(job.exported(Format::Json, Which::Quick, Some(2)).unwrap().contains("\n  \"mounted\": 2,\n"));
+    assert!(job
+        .exported(Format::Json, Which::Quick, Wish::mounted(Some(2)))
+        .unwrap()
+        .contains("\n  \"mounted\": 2,\n"));
 }
 
 #[test]

@@ -1,6 +1,7 @@
 //! The placing order: how parts and rules are read, what is printed, and why there is no order.
 
 use parts::list::{Before, Fault, List, What};
+use parts::planning::{Which, Wish, FEWEST_TIPS};
 
 fn list_of(text: &str) -> List {
     List::read(text.as_bytes()).unwrap_or_else(|faults| panic!("{text:?}: {faults:?}"))
@@ -31,6 +32,54 @@ fn order_is_printed_by_name() {
         order("rack 1\nfine tall at=0-0 : 0\n"),
         Ok("parts 1 rules 0\nposition 0 line 0 fine tall at=0\n".into())
     );
+}
+
+/// Without their tips the parts are placed as U1, C1, R1, R2, C2 and J1.
+const MIXED: &str = "rack 3\nJ1 tall : 2\nR1 : 0\nC1 : 1\nR2 : 0\nC2 : 1\nU1 fine : 1\nbefore C1 R1\n";
+
+#[test]
+fn order_by_tips_is_printed_with_them() {
+    let by_tips = |list: &str, which, mounted| list_of(list).order_by_plan(which, Wish::mounted(mounted));
+    let text = "parts 6 rules 1\ntips of the quick plan, 2 changes in this order\nposition 0 U1 fine tip 1\n\
+                position 1 C1 tip 1\nposition 2 C2 tip 1\nposition 3 R1 tip 0\nposition 4 R2 tip 0\n\
+                position 5 J1 tall tip 2\n";
+    assert_eq!(by_tips(MIXED, Which::Quick, None), Ok(text.into()));
+    // U1 is first whatever is mounted.
+    let mounted =
+        text.replace("quick plan, 2 changes in this order", "best plan, 3 changes in this order, tip 0 mounted");
+    assert_eq!(by_tips(MIXED, Which::Best, Some(0)), Ok(mounted));
+    assert_eq!(
+        by_tips("rack 1\n", Which::Best, None),
+        Ok("parts 0 rules 0\ntips of the best plan, 0 changes in this order\n".into())
+    );
+    let why = by_tips("rack 3\nA : 1\nB : 0 2\n", Which::Best, None).unwrap_err();
+    assert!(why.starts_with("refused 25: B is no run") && why.ends_with("; take the exact plan"), "{why}");
+    // Exact has A and B1 on tip 0 with the fewest tips, and B1 on tip 1 without a price.
+    let list = list_of("rack 3\nA : 0\nB1 : 0-1\nB2 : 0-1\nB3 : 0-1\nC1 : 1-2\nC2 : 1-2\nC3 : 1-2\nD : 2\n");
+    let second = |price| list.order_by_plan(Which::Exact, Wish { price: Some(price), ..Wish::default() }).unwrap();
+    assert!(second(FEWEST_TIPS)
+        .contains("\ntips of the exact plan, 1 change in this order\nposition 0 A tip 0\nposition 1 B1 tip 0\n"));
+    assert!(second(0)
+        .contains("\ntips of the exact plan, 2 changes in this order\nposition 0 A tip 0\nposition 1 B1 tip 1\n"));
+    let round = "rack 1\nA : 0\nB : 0\nbefore A B\nbefore B A\n";
+    assert_eq!(by_tips(round, Which::Quick, None), order(round));
+}
+
+#[test]
+fn windows_are_printed_by_name() {
+    // The fine part is first, the tall one last, and R2 before R1.
+    let text = "parts 4 rules 1\nJ1 tall position 3\nR1 position 2\nU1 fine position 0\nR2 position 1\n";
+    assert_eq!(list_of(LIST).windows(), Ok(text.into()));
+    // The only order of parts 0 and 2 beside part 1; and part 2 behind two that share the first positions.
+    let text = "parts 3 rules 0\nline 0 positions 0 to 2\nB at=1 position 1\nC positions 0 to 2\n";
+    assert_eq!(list_of("rack 1\n: 0\nB at=1 : 0\nC : 0\n").windows(), Ok(text.into()));
+    let text = "parts 3 rules 0\nA at=0-1 positions 0 to 1\nB at=0-1 positions 0 to 1\nC position 2\n";
+    assert_eq!(list_of("rack 1\nA at=0-1 : 0\nB at=0-1 : 0\nC : 0\n").windows(), Ok(text.into()));
+    assert_eq!(list_of("rack 1\n").windows(), Ok("parts 0 rules 0\n".into()));
+    for list in ["rack 1\nA : 0\nB : 0\nbefore A B\nbefore B A\n", "rack 1\nA at=0-5 : 0\n"] {
+        let why = list_of(list).windows().unwrap_err();
+        assert_eq!(Err(why), order(list));
+    }
 }
 
 #[test]

@@ -45,7 +45,8 @@ fn page_has_tips_used_and_changes() {
     for (name, number) in [
         ("pairs", 4),
         ("tips used", 2),
-        ("tip changes, parts placed tip by tip", 1),
+        ("tip changes in the list&#x27;s order", 1),
+        ("tip changes in the order by tips", 1),
         ("placements on tip 0", 3),
         ("placements on tip 2", 2),
     ] {
@@ -77,7 +78,14 @@ fn refusals_stand_on_the_page() {
         count(&gap, "<p class=\"refused\">There is no best plan: B is no run: it lacks tip 1, which A has (with the tips in the order 0 2 1 every part is a run).</p>\n"),
         1
     );
-    assert_eq!(count(&gap, "<td>pairs</td><td class=\"number\">0</td><td class=\"number\">-</td>"), 1);
+    // The exact plan stands in its place.
+    assert_eq!(count(&gap, "<td>pairs</td><td class=\"number\">0</td><td class=\"number\">0</td>"), 1);
+    assert_eq!((count(&gap, "<th class=\"number\">exact</th>"), count(&gap, "<th class=\"number\">best</th>")), (1, 0));
+    assert_eq!((count(&gap, ">exact:</tspan> 0 pairs on 2 tips<"), count(&gap, "tabindex=\"0\">exact</span>")), (1, 1));
+    let wide: String = (0..21).map(|tip| format!(": {tip}\n")).collect();
+    let wide = page(&format!("rack 21\n{wide}: 0 2\n"), None);
+    assert_eq!(count(&wide, "<p class=\"refused\">There is no exact plan: refused 35: 21 tips are named"), 1);
+    assert_eq!(count(&wide, "<td>pairs</td><td class=\"number\">1</td><td class=\"number\">-</td>"), 1);
     let bound = page(LIST, Some(1));
     let why = "Nothing is kept: refused 26: margin -1, no plan is within k 1; the least k is 2.";
     assert_eq!((count(&bound, why), count(&bound, "kept:</tspan> none<")), (1, 1));

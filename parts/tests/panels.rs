@@ -35,7 +35,10 @@ fn parts_have_their_tips_alone_and_on_the_panel() {
             "",
         ]
     );
-    assert!(text.ends_with("pairs quick 4 best 4\ntip changes quick 1 best 1, parts placed tip by tip\n"));
+    let table = "\nplan   pairs  tips  changes in the list's order  changes in the order by tips\n\
+                quick      4     2                            1                             1\n\
+                best       4     2                            1                             1\n";
+    assert!(text.ends_with(table), "{text}");
     let job = Job::read(&file).unwrap();
     assert_eq!(list_in_words(&job), "rack 3\n0 : 0\n1 x2 : 0-1\n2 : 1-2\n3 : 2\n");
 }
@@ -45,7 +48,7 @@ fn lines_that_are_no_runs_are_named_with_their_board() {
     // Alone the second board's line is a run; the first board names the tip that it lacks.
     let text = panel_of("rack 3\nA : 1\n", "rack 3\nA : 0 2\n").merged.unwrap().text;
     assert!(text.contains("best none, second A is no run: it lacks tip 1, which first A has (with the tips in the order 0 2 1 every part is a run)\n"), "{text}");
-    assert!(text.contains("\nsecond A alone 0 quick 0 best -\n"), "{text}");
+    assert!(text.contains("\nexact 0\n") && text.contains("\nsecond A alone 0 quick 0 exact 0\n"), "{text}");
 }
 
 #[test]

@@ -67,12 +67,21 @@ fn large_numbers_are_as_wide_as_their_cell() {
 }
 
 #[test]
-fn list_without_a_best_plan_has_the_quick_one_alone() {
-    let picture = picture("rack 3\nA : 1\nB : 0 2\n");
-    assert_eq!(count(&picture, "best:</tspan> none</text>"), 1);
-    // Two parts and the key for quick, the key alone for best.
-    assert_eq!(count(&picture, "<circle "), 3);
-    assert_eq!(count(&picture, "height=\"22\" fill=\"#b8480b\""), 1);
+fn list_without_a_best_plan_has_the_exact_one() {
+    let gap = picture("rack 3\nA : 1\nB : 0 2\n");
+    assert_eq!(
+        (count(&gap, "exact:</tspan> 0 pairs on 2 tips</text>"), count(&gap, "its tip in the exact plan")),
+        (1, 1)
+    );
+    // Two parts and the key, in each plan.
+    assert_eq!(count(&gap, "<circle "), 3);
+    assert_eq!(count(&gap, "height=\"22\" fill=\"#b8480b\""), 3);
+    // With too many tips for it there is the quick plan alone: 22 parts and the key, and the key for best.
+    let wide: String = (0..21).map(|tip| format!(": {tip}\n")).collect();
+    let wide = picture(&format!("rack 21\n{wide}: 0 2\n"));
+    assert_eq!(count(&wide, "best:</tspan> none</text>"), 1);
+    assert_eq!(count(&wide, "<circle "), 23);
+    assert_eq!(count(&wide, "height=\"22\" fill=\"#b8480b\""), 1);
 }
 
 #[test]

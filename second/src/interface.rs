@@ -3,6 +3,7 @@
 use crate::along::Along;
 use crate::board::{Answer, Board};
 use crate::by_tips::{self, ByTips};
+use crate::exact::Exact;
 use crate::file::read as read_file;
 use crate::junior::Junior;
 use crate::placing::{order_parts, Ordered, Part, Placing, Rule};
@@ -99,6 +100,15 @@ pub fn best(file: &[u8], mounted: usize, plan: &mut [u8], table: &mut [u32], ans
     on_board(file, answer, |board, answer| {
         let best = board.best(mounted_tip(mounted), plan, table);
         answered(answer, best.number, [best.place as u64, u64::from(best.value), 0, 0])
+    })
+}
+
+/// Exact sharing: place, pairs, tips, 0.
+pub fn exact(file: &[u8], mounted: usize, price: u32, plan: &mut [u8], table: &mut [u32], answer: &mut [u64]) -> u32 {
+    on_board(file, answer, |board, answer| {
+        let exact = board.exact(mounted_tip(mounted), price, plan, table);
+        let Exact { pairs, tips } = exact.value;
+        answered(answer, exact.number, [exact.place as u64, pairs.into(), tips.into(), 0])
     })
 }
 

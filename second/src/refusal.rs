@@ -11,7 +11,7 @@ pub const EMPTY_LINE: u32 = 2;
 pub const TIP_OUTSIDE: u32 = 3;
 /// The plan is shorter than the number of lines, of both boards where each is planned alone, or of parts.
 pub const SHORT_PLAN: u32 = 4;
-/// The table is shorter than the square of the rack size.
+/// The table is shorter than the square of the rack size, or for exact sharing than twice the number of sets of named tips.
 pub const SHORT_TABLE: u32 = 5;
 /// The file is shorter than its head of 8 bytes.
 pub const SHORT_FILE: u32 = 6;
@@ -68,6 +68,8 @@ pub const NO_TWO_TIPS: u32 = 31;
 pub const TABLE_FAILS: u32 = 33;
 /// A goal of pairs, and no plan has so many.
 pub const GOAL_MISSED: u32 = 34;
+/// Exact sharing, and lines name more than 20 tips.
+pub const MANY_TIPS: u32 = 35;
 
 /// The answer of a call of the C interface has fewer than 4 places.
 pub const SHORT_ANSWER: u32 = 100;

@@ -71,7 +71,7 @@ fn pairs_choosing(taken: &Taken, table: &[u32], rack: usize, a: usize, b: usize,
 }
 
 /// Of tied tips, the lowest first, the mounted one where it is among them, else the lowest.
-fn chosen_of(tied: &[usize], mounted: Option<usize>) -> usize {
+pub(crate) fn chosen_of(tied: &[usize], mounted: Option<usize>) -> usize {
     match mounted {
         Some(tip) if tied.contains(&tip) => tip,
         _ => tied[0],

@@ -18,6 +18,8 @@ pub struct Tried {
     with_two_tips: Option<(u32, (usize, usize))>,
     /// For each tip the fewest changes of the plans whose first line is on it.
     changes_from: BTreeMap<u8, usize>,
+    /// For each number of different tips the most pairs of the plans that use this many.
+    pairs_on: BTreeMap<usize, u32>,
 }
 
 /// The plans with one number of placements off.
@@ -76,6 +78,18 @@ impl Tried {
         self.changes_from.iter().map(with_first).min().unwrap_or(0)
     }
 
+    /// The most pairs of a plan, less the price of each tip that it uses.
+    pub fn most_with_price(&self, price: u32) -> i64 {
+        let worth = |(&tips, &pairs): (&usize, &u32)| i64::from(pairs) - i64::from(price) * tips as i64;
+        self.pairs_on.iter().map(worth).max().expect("a board has a plan")
+    }
+
+    /// The least number of different tips that a plan uses, and the most pairs of the plans with as few.
+    pub fn fewest_tips(&self) -> (usize, u32) {
+        let (tips, pairs) = self.pairs_on.first_key_value().expect("a board has a plan");
+        (*tips, *pairs)
+    }
+
     /// The numbers of pairs that plans have, the lowest first.
     pub fn numbers_of_pairs(&self) -> impl Iterator<Item = u32> + '_ {
         self.by_pairs.keys().copied()
@@ -127,6 +141,7 @@ pub fn try_every_plan(board: &Board) -> Tried {
         by_pairs: BTreeMap::new(),
         with_two_tips: None,
         changes_from: BTreeMap::new(),
+        pairs_on: BTreeMap::new(),
     };
     let mut plan = vec![0; count];
     for line in 0..count {
@@ -150,6 +165,8 @@ pub fn try_every_plan(board: &Board) -> Tried {
             placements_on[usize::from(tip)] += 1;
         }
         let used: Vec<usize> = (0..MOST_TIPS).filter(|&tip| placements_on[tip] > 0).collect();
+        let most = tried.pairs_on.entry(used.len()).or_insert(pairs);
+        *most = pairs.max(*most);
         if let [u] | [u, _] = used[..] {
             let choice = (pairs, (u, used[used.len() - 1]));
             let is_better = |best: (u32, (usize, usize))| pairs > best.0 || pairs == best.0 && choice.1 < best.1;

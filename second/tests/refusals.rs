@@ -1,6 +1,6 @@
 //! Every refusal of every call, with its place, and that nothing else changes.
 
-use second::{interface, read, Along, Answer, Board, Junior, Line, Stage, Version, LONGEST_FILE};
+use second::{interface, read, Along, Answer, Board, Exact, Junior, Line, Stage, Version, LONGEST_FILE};
 
 /// A closed board of rack 3 with the lines {0}, {1,2}.
 fn closed_board() -> Board {
@@ -125,6 +125,7 @@ fn assert_closed_calls_refused(board: &Board, number: u32, place: usize) {
         assert_refused(board.clone().quick(None, &mut plan), board, number, place, 0);
         assert_refused(board.clone().best(None, &mut plan, &mut table), board, number, place, 0);
         assert_refused(board.clone().along(None, &mut plan), board, number, place, Along::default());
+        assert_refused(board.clone().exact(None, 0, &mut plan, &mut table), board, number, place, Exact::default());
         assert_refused(board.clone().check(&plan, 7, &table), board, number, place, ());
         assert_refused(board.clone().write(&mut out), board, number, place, 0);
         assert!(plan.iter().all(|&byte| byte == 7));
@@ -308,8 +309,9 @@ fn assert_not_read(file: &[u8], number: u32, place: usize) {
         let (other, others) = (vec![7; length], vec![7; length]);
         let mut other_out = out.clone();
         let mut junior_plan = plan.clone();
-        let mut along_plan = plan.clone();
-        let calls: [Call; 9] = [
+        let (mut along_plan, mut exact_plan, mut exact_table) = (plan.clone(), plan.clone(), table.clone());
+        let calls: [Call; 10] = [
+            &mut |answer| interface::exact(file, interface::NO_TIP, 1, &mut exact_plan, &mut exact_table, answer),
             &mut |answer| interface::along(file, interface::NO_TIP, &mut along_plan, answer),
             &mut |answer| interface::junior(file, &mut junior_plan, answer),
             &mut |answer| interface::goal(file, u32::MAX, &mut other_out, answer),
@@ -325,7 +327,8 @@ fn assert_not_read(file: &[u8], number: u32, place: usize) {
             assert_eq!(call(&mut answer), number);
             assert_eq!(answer, [place as u64, 0, 0, 0, 9, 9]);
         }
-        for plan in [plan, other_plan, junior_plan, along_plan] {
+        assert_eq!(exact_table, vec![7; length]);
+        for plan in [plan, other_plan, junior_plan, along_plan, exact_plan] {
             assert_eq!(plan, vec![7; length]);
         }
         assert_eq!((out, other_out, table), (vec![7; length], vec![7; length], vec![7; length]));
@@ -505,6 +508,7 @@ fn interface_answers() {
             assert_eq!(interface::quick(input, interface::NO_TIP, &mut plan, &mut answer), 100);
             assert_eq!(interface::best(input, interface::NO_TIP, &mut plan, &mut table, &mut answer), 100);
             assert_eq!(interface::along(input, interface::NO_TIP, &mut plan, &mut answer), 100);
+            assert_eq!(interface::exact(input, interface::NO_TIP, 0, &mut plan, &mut table, &mut answer), 100);
             assert_eq!(interface::check(input, &plan, 0, &table, &mut answer), 100);
         }
         assert_eq!((answer, plan, out, table), (vec![9; places], [7; 2], [7; 24], [7; 9]));

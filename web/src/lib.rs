@@ -6,6 +6,7 @@ use std::cell::RefCell;
 use std::fmt::Display;
 use std::panic;
 
+use parts::changes::in_cell;
 use parts::import::csv::{self, Columns};
 use parts::import::openpnp::{Board, Packages, Parts};
 use parts::import::table::Table;
@@ -14,7 +15,7 @@ use parts::job::{has_mark, job_of, list_in_words};
 use parts::limits::too_large;
 use parts::list::{Fault, List};
 use parts::panel::{Merged, Panel};
-use parts::planning::{Kept, Named, Plan, Plans};
+use parts::planning::{Kept, Named, Plan, Plans, Which, Wish};
 use parts::tips_in_words;
 
 /// What is wrong is told of this many lines.
@@ -95,15 +96,22 @@ fn answer_of(fields: &[&[u8]]) -> Result<Vec<Vec<u8>>, String> {
         [b"list", name, bytes, table, columns, side] => text(list(name, bytes, table, columns, side)?),
         [b"columns", bytes] => text(csv::names_of(bytes).unwrap_or_default().join("\n")),
         [b"openpnp", packages, board, parts, side] => text(openpnp(packages, board, parts, side)?),
-        [b"plan", list, mounted] => planned(&named(list)?, number_of(mounted)),
+        [b"plan", list, mounted, price] => planned(&named(list)?, wish_of(mounted, price)),
         [b"changed", list, rack, line, tip] => changed(read(list)?, number_of(rack), number_of(line), number_of(tip)),
-        [b"text", list] => text(named(list)?.plan(None)?),
+        [b"text", list, price] => text(named(list)?.plan(wish_of(b"", price))?),
         [b"keep", list, k] => kept(named(list)?.keep(number_of(k).ok_or("k is a number from 0 to 65535")?)?),
         [b"goal", list, goal] => kept(named(list)?.goal(number_of(goal).ok_or("a goal is a number of pairs")?)?),
         [b"picture", list] => text(named(list)?.picture()?),
         [b"page", name, list] => text(named(list)?.page(&String::from_utf8_lossy(name), None)?),
         [b"make", list] => Ok(vec![named(list)?.file]),
-        [b"order", list] => text(read(list)?.order()?),
+        [b"order", list, b"", _, _] => text(read(list)?.order()?),
+        [b"order", list, plan, mounted, price] => {
+            let which = Which::of(&String::from_utf8_lossy(plan))?;
+            let wish = wish_of(mounted, price);
+            let price = wish.price.or(Some(0)).filter(|_| which == Which::Exact);
+            text(read(list)?.order_by_plan(which, Wish { price, ..wish })?)
+        }
+        [b"windows", list] => text(read(list)?.windows()?),
         [b"junior", list] => text(named(list)?.junior()?),
         [b"panel", boards @ ..] => panel(&boards.iter().map(|list| named(list)).collect::<Result<Vec<_>, _>>()?),
         _ => Err("an unknown command".into()),
@@ -112,6 +120,11 @@ fn answer_of(fields: &[&[u8]]) -> Result<Vec<Vec<u8>>, String> {
 
 fn number_of<N: std::str::FromStr>(digits: &[u8]) -> Option<N> {
     std::str::from_utf8(digits).ok()?.parse().ok()
+}
+
+/// What is asked for with this mounted tip and this price of a tip, either of which may be left out.
+fn wish_of(mounted: &[u8], price: &[u8]) -> Wish {
+    Wish { mounted: number_of(mounted), price: number_of(price), along: None }
 }
 
 fn faulty<W: Display>(name: &str, faults: &[Fault<W>]) -> String {
@@ -177,43 +190,38 @@ fn named(list: &[u8]) -> Result<Named, String> {
     Ok(Named::of_list(read(list)?))
 }
 
-/// What is told of each plan: pairs, tips in use, changes in the list's order, changes tip by tip; `-` where there is none.
-fn numbers_of(plans: &Plans) -> Vec<Vec<u8>> {
+/// What is told of the quick, the best and the exact plan: pairs, tips in use, changes in the list's order and in the order by
+/// tips; `-` where there is no such plan.
+fn numbers_of(plans: &Plans, exact: Option<&Plan>) -> Vec<Vec<u8>> {
     let of = |plan: Option<&Plan>| {
-        plan.map_or(["-"; 4].map(String::from), |plan| {
-            let tips = plan.tips_used(plans.job.rack);
-            let along = changes_along(plans.mounted, &plan.tips);
-            [plan.pairs.to_string(), tips.to_string(), along.to_string(), plans.changes(plan).to_string()]
+        plan.map_or(vec!["-".to_string(); 4], |plan| {
+            let numbers = [plan.pairs.to_string(), plan.tips_used(plans.job.rack).to_string()];
+            let changes = plans.changes_of(plan).into_iter().map(|(_, changes)| in_cell(changes));
+            numbers.into_iter().chain(changes).collect()
         })
     };
-    let both = [of(Some(&plans.quick)), of(plans.best.as_ref().ok())];
-    both.into_iter().flatten().map(String::into_bytes).collect()
+    let all = [of(Some(&plans.quick)), of(plans.best.as_ref().ok()), of(exact)];
+    all.into_iter().flatten().map(String::into_bytes).collect()
 }
 
-/// How often the head changes its tip along these tips. Without a mounted tip the first is on the head at the start.
-fn changes_along(mounted: Option<usize>, tips: &[u8]) -> usize {
-    let between = tips.windows(2).filter(|pair| pair[0] != pair[1]).count();
-    let first = match (mounted, tips.first()) {
-        (Some(mounted), Some(&first)) => usize::from(mounted != usize::from(first)),
-        _ => 0,
-    };
-    first + between
-}
-
-/// In this order: rack, parts, placements, the least k, the numbers of both plans, why there is no best plan, the drawing, the
-/// job file, the plan as CSV, the plan in words.
-fn planned(named: &Named, mounted: Option<usize>) -> Result<Vec<Vec<u8>>, String> {
-    let plans = named.plans(mounted)?;
+/// In this order: rack, parts, placements, the least k, the numbers of the three plans, why there is no best plan and why no
+/// exact one, the drawing, the job file, the plans as CSV, the plans in words.
+fn planned(named: &Named, wish: Wish) -> Result<Vec<Vec<u8>>, String> {
+    // A price that is refused is told where the exact plan would be.
+    let exact = named.exact(&job_of(&named.file)?, wish.mounted, wish.price.unwrap_or(0));
+    let plans = named.plans(if exact.is_ok() { wish } else { Wish::mounted(wish.mounted) })?;
     let sizes = [plans.job.rack, plans.job.lines.len(), plans.job.placements(), plans.common.off as usize];
     let mut answer: Vec<Vec<u8>> = sizes.iter().map(|size| size.to_string().into_bytes()).collect();
-    answer.extend(numbers_of(&plans));
+    answer.extend(numbers_of(&plans, exact.as_ref().ok()));
     let no_best = plans.best.as_ref().err().map_or(String::new(), |&line| named.no_run(&plans.job, line));
+    let no_exact = exact.as_ref().err().cloned().unwrap_or_default();
     answer.extend([
         no_best.into_bytes(),
+        no_exact.into_bytes(),
         named.drawing_of(&plans).into_bytes(),
         named.file.clone(),
-        table_of(named, &plans).into_bytes(),
-        named.plan(mounted)?.into_bytes(),
+        table_of(named, &plans, exact.as_ref().ok()).into_bytes(),
+        named.in_words(&plans, wish.price).into_bytes(),
     ]);
     Ok(answer)
 }
@@ -226,13 +234,18 @@ fn kept(kept: Kept) -> Result<Vec<Vec<u8>>, String> {
 /// The plans of the list as it is and of another one: with this rack, or with this line allowed on one more tip.
 fn changed(list: List, rack: Option<usize>, line: Option<usize>, tip: Option<usize>) -> Result<Vec<Vec<u8>>, String> {
     let mut job = list.job();
-    let before = Named::of_list(list).plans(None)?;
+    let before = Named::of_list(list);
     job.rack = rack.unwrap_or(job.rack);
     if let (Some(line), Some(tip)) = (line.and_then(|line| job.lines.get_mut(line)), tip) {
         line.set |= u64::try_from(tip).ok().and_then(|_| 1u64.checked_shl(tip as u32)).unwrap_or(0);
     }
-    let after = Named { file: job.write(), list: None }.plans(None)?;
-    Ok([numbers_of(&before), numbers_of(&after)].concat())
+    let after = Named { file: job.write(), list: before.list.clone() };
+    let numbers = |named: &Named| {
+        let plans = named.plans(Wish::default())?;
+        let exact = named.exact(&plans.job, None, 0);
+        Ok::<_, String>(numbers_of(&plans, exact.as_ref().ok()))
+    };
+    Ok([numbers(&before)?, numbers(&after)?].concat())
 }
 
 /// What is said of the boards, the job file of their panel and its list; nothing of either where there is no panel.
@@ -244,17 +257,18 @@ fn panel(boards: &[Named]) -> Result<Vec<Vec<u8>>, String> {
     })
 }
 
-/// The plan as a table, a row a part.
-fn table_of(named: &Named, plans: &Plans) -> String {
-    let best = |line: usize| plans.best.as_ref().map_or("-".into(), |best| best.tips[line].to_string());
-    let mut table = "part,quantity,tips,quick,best,comment\r\n".to_string();
+/// The plans as a table, a row a part.
+fn table_of(named: &Named, plans: &Plans, exact: Option<&Plan>) -> String {
+    let tip = |plan: Option<&Plan>, line: usize| plan.map_or("-".into(), |plan| plan.tips[line].to_string());
+    let mut table = "part,quantity,tips,quick,best,exact,comment\r\n".to_string();
     for (line, of) in plans.job.lines.iter().enumerate() {
         let cells = [
             named.label(line),
             of.quantity.to_string(),
             tips_in_words(of.set),
-            plans.quick.tips[line].to_string(),
-            best(line),
+            tip(Some(&plans.quick), line),
+            tip(plans.best.as_ref().ok(), line),
+            tip(exact, line),
             named.comment(line).to_string(),
         ];
         table += &(cells.map(|cell| quoted(&cell)).join(",") + "\r\n");

@@ -125,6 +125,9 @@ pub(super) fn with_any_mounted(call: &Call, edit: impl FnOnce(usize) -> usize) -
         Call::Quick { mounted, plan, answer } => Call::Quick { mounted: edit(mounted), plan, answer },
         Call::Best { mounted, plan, table, answer } => Call::Best { mounted: edit(mounted), plan, table, answer },
         Call::Along { mounted, plan, answer } => Call::Along { mounted: edit(mounted), plan, answer },
+        Call::Exact { mounted, price, plan, table, answer } => {
+            Call::Exact { mounted: edit(mounted), price, plan, table, answer }
+        }
         other => other,
     }
 }
@@ -137,9 +140,10 @@ pub(super) fn with_mounted(call: &Call, edit: impl FnOnce(usize) -> usize) -> Ca
 /// The mounted tip of a call, where there is one.
 pub(super) fn mounted_tip(call: &Call) -> Option<usize> {
     match *call {
-        Call::Quick { mounted, .. } | Call::Best { mounted, .. } | Call::Along { mounted, .. } => {
-            Some(mounted).filter(|&tip| tip != NO_TIP)
-        }
+        Call::Quick { mounted, .. }
+        | Call::Best { mounted, .. }
+        | Call::Along { mounted, .. }
+        | Call::Exact { mounted, .. } => Some(mounted).filter(|&tip| tip != NO_TIP),
         _ => None,
     }
 }

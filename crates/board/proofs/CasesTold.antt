@@ -15,6 +15,7 @@ use Rattle.placements.specs.Good.{GoodLines}
 use Rattle.job.specs.Job.{read_refusal}
 use Rattle.along.specs.declared.AlongCounts.{AlongCounts}
 use Rattle.common_tip.specs.declared.Common.{Common as Tips}
+use Rattle.exact.specs.declared.Shared.{Shared}
 use Rattle.junior.specs.declared.Found.{Found}
 use Rattle.refusal.specs.Told.{Refusal}
 use Rattle.refusal.specs.Refusal.{none, refuse}
@@ -30,6 +31,7 @@ use Rattle.call_refusals.proofs.Calls.{mounted_none}
 use Rattle.line_calls.specs.Lines
 use Rattle.line_calls.specs.Junior as JuniorLines
 use Rattle.line_calls.specs.Along as AlongLines
+use Rattle.line_calls.specs.Exact as ExactLines
 use Rattle.panel.specs.Panel as Both
 use Rattle.panel.specs.declared.AlonePairs.{AlonePairs}
 use Rattle.call_cases.specs.State.{RackOut}
@@ -41,7 +43,7 @@ use Rattle.call_cases.proofs.Reading
 use Rattle.board.specs.declared.Board.{Board}
 use Rattle.board.specs.Answers.{Answer, Merged}
 use Rattle.board.specs.Told.{answered, given, common_answered, kept_answered, shared_answered, junior_answered}
-use Rattle.board.specs.Told.{along_answered, written_answered, merged_answered, alone_answered}
+use Rattle.board.specs.Told.{along_answered, exact_answered, written_answered, merged_answered, alone_answered}
 use Rattle.board.specs.Board.{lines_of, quantities_of, state_refusal, add_refusal, answer, empty_board, open_of, with_line, add_of, closed, close_of}
 use Rattle.board.specs.Common.{common_of, keep_of}
 use Rattle.board.specs.Goal.{goal_of}
@@ -49,10 +51,11 @@ use Rattle.board.specs.Sharing.{mounted_refusal, quick_of, best_of}
 use Rattle.board.specs.Check.{check_of}
 use Rattle.board.specs.Junior.{junior_of}
 use Rattle.board.specs.Along.{along_of}
+use Rattle.board.specs.Exact.{exact_of}
 use Rattle.board.specs.JobFile.{board_in, read_of, write_of}
 use Rattle.board.specs.Panel.{states_refusal, merge_refusal, panel_of, merged, merge_of, alone_of}
 use Rattle.board.specs.Cases.{open_cases, state_cases, add_cases, close_cases, common_cases, keep_cases, goal_cases, quick_cases, best_cases}
-use Rattle.board.specs.Cases.{along_cases, check_cases, junior_cases, read_cases, write_cases, states_cases, merge_cases, alone_cases}
+use Rattle.board.specs.Cases.{along_cases, exact_cases, check_cases, junior_cases, read_cases, write_cases, states_cases, merge_cases, alone_cases}
 use Rattle.board.proofs.Sets.{Full, ready, same_size}
 
 -- the refusal that an answer tells
@@ -76,6 +79,10 @@ module _ (cs : List Case) where
   of_along : (b : Board) (x : Result AlongCounts Refused) → Tells cs (along_answered b x).number (along_answered b x).place → Told cs (refusal_of x)
   of_along b (Ok c) t = t
   of_along b (Err e) t = t
+
+  of_exact : (b : Board) (x : Result Shared Refused) → Tells cs (exact_answered b x).number (exact_answered b x).place → Told cs (refusal_of x)
+  of_exact b (Ok c) t = t
+  of_exact b (Err e) t = t
 
   of_merged : (a b : Board) (x : Result Board Refused)
       → Tells cs (merged_answered a b x).number (merged_answered a b x).place → Told cs (refusal_of x)
@@ -187,6 +194,14 @@ module _ (b : Board) (full : Full b) where
         of_along (along_cases b mounted room) b x
         (subst (λ r. Tells (along_cases b mounted room) r.number r.place) (sym e)
         (Of.plan_told (mounted_refusal b mounted) _ mounted_told (length (lines_of b)) room))
+
+    pub exact_told : (price room places : ℕ) (x : Result Shared Refused) → exact_answered b x ≡ exact_of b mounted price room places
+        → Told (exact_cases b mounted room places) (refusal_of x)
+    unfolding exact_of ExactLines.exact_of
+    exact_told price room places x e =
+        of_exact (exact_cases b mounted room places) b x
+        (subst (λ r. Tells (exact_cases b mounted room places) r.number r.place) (sym e)
+        (Of.exact_told (mounted_refusal b mounted) _ mounted_told b.rack (lines_of b) room places))
 
     pub best_told : (room places : ℕ) (x : Result ℕ Refused) → shared_answered b x ≡ best_of b mounted room places
         → Told (best_cases b mounted room places) (refusal_of x)

@@ -1,4 +1,4 @@
--- The pairs that a call tells are few. The table that best sharing leaves has the most pairs of each stretch, and the check accepts what it leaves.
+-- The pairs that a call tells are few. The table that best sharing leaves has the most pairs of each interval, and the check accepts what it leaves.
 use Prim.Native.Nat.{ℕ, ◌≤◌}
 use mathlib.Core.Path.{◌≡◌, refl, ap}
 use mathlib.Core.List.{List}
@@ -11,14 +11,16 @@ use Rattle.call_refusals.specs.declared.Stage.TheVariants.{Closed}
 use Rattle.call_refusals.proofs.Calls.{mounted_none}
 use Rattle.line_calls.proofs.Left as Lines
 use Rattle.line_calls.proofs.AlongPlan as AlongLines
+use Rattle.line_calls.proofs.ExactPlan as ExactLines
 use Rattle.panel.proofs.Few as Panel
 use Rattle.board.specs.declared.Board.{Board}
-use Rattle.board.specs.Answers.{Shared, Junior, Along, Alone}
+use Rattle.board.specs.Answers.{Shared, Junior, Along, Exact, Alone}
 use Rattle.board.specs.Board.{lines_of, quantities_of, state_refusal, answer}
 use Rattle.board.specs.Sharing.{mounted_refusal, quick_of, best_of, best_buffer, best_table, TableRule}
 use Rattle.board.specs.Check.{check_of, CheckAccepts}
 use Rattle.board.specs.Junior.{junior_of}
 use Rattle.board.specs.Along.{along_of, along_buffer, AlongRule}
+use Rattle.board.specs.Exact.{exact_of, exact_buffer, ExactRule}
 use Rattle.board.specs.Panel.{states_refusal, alone_of}
 use Rattle.board.proofs.Sets.{Full, given}
 
@@ -49,6 +51,14 @@ module _ (b : Board) (full : Full b) where
         → AlongRule b mounted last r × (r.pairs ≤ most_pairs)
     unfolding along_of along_buffer
     along_holds plan e p = rw (e, p) (AlongLines.along_holds (mounted_refusal b mounted) mounted qs lines plan good_mounted)
+
+    -- and what exact sharing leaves
+    pub exact_holds : (price : ℕ) (plan cells : List ℕ) {r : Exact} {last : List ℕ}
+        → r ≡ exact_of b mounted price (length plan) (length cells) → last ≡ exact_buffer b mounted price plan (length cells)
+        → ExactRule b price last r × (r.pairs ≤ most_pairs)
+    unfolding exact_of exact_buffer
+    exact_holds price plan cells e p =
+        rw (e, p) (ExactLines.exact_holds (mounted_refusal b mounted) b.rack mounted price qs lines plan cells good_mounted)
 
     module _ (plan cells : List ℕ) {r : Shared} (e : r ≡ best_of b mounted (length plan) (length cells)) where
       pub best_few : r.pairs ≤ most_pairs

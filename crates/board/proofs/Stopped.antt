@@ -19,10 +19,12 @@ use Rattle.line_calls.specs.Lines
 use Rattle.line_calls.specs.Goal as Struck
 use Rattle.line_calls.specs.Junior as Holders
 use Rattle.line_calls.specs.Along as AlongLines
+use Rattle.line_calls.specs.Exact as ExactLines
 use Rattle.panel.specs.Panel
 use Rattle.board.specs.declared.Board.{Board}
 use Rattle.board.specs.Board.{state_refusal, answer, add_of, close_of}
-use Rattle.board.specs.Told.{common_answered, kept_answered, shared_answered, junior_answered, along_answered, written_answered}
+use Rattle.board.specs.Told.{common_answered, kept_answered, shared_answered, junior_answered, along_answered, exact_answered}
+use Rattle.board.specs.Told.{written_answered}
 use Rattle.board.specs.Told.{merged_answered, alone_answered}
 use Rattle.board.specs.Common.{common_of, keep_of}
 use Rattle.board.specs.Sharing.{mounted_refusal, quick_of, quick_buffer, best_of, best_buffer, best_table}
@@ -30,6 +32,7 @@ use Rattle.board.specs.Check.{check_of, CheckRule}
 use Rattle.board.specs.Goal.{goal_of}
 use Rattle.board.specs.Junior.{junior_of, junior_buffer, JuniorRule}
 use Rattle.board.specs.Along.{along_of, along_buffer}
+use Rattle.board.specs.Exact.{exact_of, exact_buffer, exact_cells}
 use Rattle.board.specs.JobFile.{write_of, write_buffer}
 use Rattle.board.specs.Panel.{states_refusal, merge_of, alone_of, alone_buffer}
 
@@ -119,6 +122,18 @@ module _ (e : Refused) where
       pub along_same : (plan : List ℕ) → plan ≡ along_buffer b mounted plan
       unfolding along_buffer AlongLines.along_buffer Calls.plan_refusal or_else
       along_same plan = rw (← h) (simp refuses)
+
+      pub exact_stopped : (price room places : ℕ) → exact_answered b (Err e) ≡ exact_of b mounted price room places
+      unfolding exact_of ExactLines.exact_of ExactLines.exact_refusal Calls.plan_refusal or_else
+      exact_stopped price room places = rw (← h) (simp refuses)
+
+      pub exact_same : (price : ℕ) (plan : List ℕ) (places : ℕ) → plan ≡ exact_buffer b mounted price plan places
+      unfolding exact_buffer ExactLines.exact_buffer ExactLines.exact_refusal Calls.plan_refusal or_else
+      exact_same price plan places = rw (← h) (simp refuses)
+
+      pub cells_same : (price room : ℕ) (cells : List ℕ) → cells ≡ exact_cells b mounted price room cells
+      unfolding exact_cells ExactLines.exact_cells ExactLines.exact_refusal Calls.plan_refusal or_else
+      cells_same price room cells = rw (← h) (simp refuses)
 
       pub best_stopped : (room places : ℕ) → shared_answered b (Err e) ≡ best_of b mounted room places
       unfolding best_of Lines.best_of Calls.best_refusal Calls.plan_refusal or_else

@@ -48,6 +48,14 @@ pub record Along : Type 0 where
   pub changes : ℕ
   pub pairs : ℕ
 
+-- the number of pairs of placements on one tip in the plan that is handed out, and how many different tips it uses
+pub record Exact : Type 0 where
+  pub board : Board
+  pub number : ℕ
+  pub place : ℕ
+  pub pairs : ℕ
+  pub tips : ℕ
+
 -- the bytes of the job file that is written
 pub record Written : Type 0 where
   pub board : Board

@@ -53,6 +53,11 @@ abbrev pub best_cases : Board → Mounted → ℕ → ℕ → List Case
 best_cases b mounted room places =
     state_cases Closed b ++ Calls.mounted_cases b.rack mounted ++ Calls.best_cases b.rack (lines_of b) room places
 
+-- 21, 27, 28, 23, 16, 4, 35, 5
+abbrev pub exact_cases : Board → Mounted → ℕ → ℕ → List Case
+exact_cases b mounted room places =
+    state_cases Closed b ++ Calls.mounted_cases b.rack mounted ++ Calls.exact_cases b.rack (lines_of b) room places
+
 -- 21, 27, 28, 23, 4, 5, 25, 19, 20, 33
 abbrev pub check_cases : Board → List ℕ → ℕ → List ℕ → List Case
 check_cases b plan claim tab =

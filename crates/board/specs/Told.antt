@@ -6,16 +6,18 @@ use Rattle.refusal.specs.declared.Unkept.{Unkept}
 use Rattle.refusal.specs.Reasons.{told_of, refusal_of}
 use Rattle.along.specs.declared.AlongCounts.{AlongCounts}
 use Rattle.common_tip.specs.declared.Common.{Common as Tips}
+use Rattle.exact.specs.declared.Shared.{Shared as Priced}
 use Rattle.junior.specs.declared.Found.{Found}
 use Rattle.panel.specs.declared.AlonePairs.{AlonePairs}
 use Rattle.panel.specs.Answers.{alone_told}
 use Rattle.line_calls.specs.Answers as Lines
 use Rattle.board.specs.declared.Board.{Board}
-use Rattle.board.specs.Answers.{Answer, Common, Kept, Shared, Junior, Along, Written, Merged, Alone}
+use Rattle.board.specs.Answers.{Answer, Common, Kept, Shared, Junior, Along, Exact, Written, Merged, Alone}
 use Rattle.board.specs.Board.{answer, empty_board}
 use Rattle.board.specs.Sharing.{shared}
 use Rattle.board.specs.Junior.{planned}
 use Rattle.board.specs.Along.{walked}
+use Rattle.board.specs.Exact.{priced}
 use Rattle.board.specs.Panel.{merged}
 
 -- of a call that leaves this board and gives nothing else
@@ -45,6 +47,9 @@ junior_answered b r = planned b (Lines.junior_told r)
 
 abbrev pub along_answered : Board → Result AlongCounts Refused → Along
 along_answered b r = walked b (Lines.along_told r)
+
+abbrev pub exact_answered : Board → Result Priced Refused → Exact
+exact_answered b r = priced b (Lines.exact_told r)
 
 abbrev pub written_answered : Board → Result ℕ Refused → Written
 written_answered b r =

@@ -15,3 +15,4 @@ pub mod GoalAsBoard
 pub mod PanelAsBoard
 pub mod JuniorAsBoard
 pub mod AlongAsBoard
+pub mod ExactAsBoard

@@ -99,7 +99,7 @@ lent_same d n {new} {new'} old h = by (accepts d) refl
     by true e = ap (λ l. l ++ drop n old) (h (eqb-true d.number 0 e))
     by false e = refl
 
--- and so does what is told
+-- and so does what is returned
 pub told_same : (d : Refusal) {x y : ℕ} → (d.number ≡ 0 → x ≡ y) → told d x ≡ told d y
 told_same d {x} {y} h = by (accepts d) refl
   where

@@ -1,5 +1,5 @@
 -- Boards and files whose lines are all unbroken runs keep every answer of best sharing, whatever their quantities: refusals, pairs, plan and table
--- are by the base's rules for their placements, where a line that is no unbroken run gives 25, and any tip of a stretch may be chosen.
+-- are by the base's rules for their placements, where a line that is no unbroken run gives 25, and any tip of an interval may be chosen.
 use Prim.Native.Nat.{ℕ}
 use mathlib.Core.Path.{◌≡◌, refl, ap}
 use mathlib.Core.List.{List}

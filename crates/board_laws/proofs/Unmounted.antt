@@ -124,7 +124,7 @@ module _ {m : ℕ} {lines : List ℕ} (narrow : m ≤ 64) (ds : All (Domain m) l
   unfolding table named_table C
   named-table = list_of_cong _ _ (m * m) (λ k _. named-C (k / m) (k % m + 1))
 
-  -- the pairs of a stretch split at one of its tips
+  -- the pairs of an interval split at one of its tips
   split_same : (a e i : ℕ) → i < e - a → pairs_by (named_C lines) lines a e (a + i) ≡ split D lines a (e - a) i
   split_same a e i l =
       let w = e - a in
@@ -161,7 +161,7 @@ module _ {m : ℕ} {lines : List ℕ} (narrow : m ≤ 64) (ds : All (Domain m) l
       ))))
 
   module _ {s : ℕ} (line : Line N m s) where
-    -- THE TIP of a line of a stretch
+    -- THE TIP of a line of an interval
     tip_same : (k a e : ℕ) → e - a ≤ k → e ≤ m → T (lies a (e - a) s) → named_tip k lines a e s ≡ tip_by (pick_of bare N lines) k a (e - a) s
     unfolding named_tip tip_by
     tip_same zero a e h b t = refl

@@ -26,7 +26,7 @@ count_found file = found 2 file 6
 unfoldable pub sets_found : List ℕ → List ℕ
 sets_found file = list_of (λ i. found 8 file (8 + 8 * i)) (count_found file)
 
--- a file of so many bytes with this mark, version v, rack m and number n of lines; 0 for none
+-- a file of size bytes with this mark, version v, rack m and n lines; 0 for no refusal
 unfoldable pub header_found : ℕ → ℕ → ℕ → ℕ → ℕ → ℕ
 header_found size mark v m n =
     cond (ltb size 8) 6

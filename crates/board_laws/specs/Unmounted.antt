@@ -35,7 +35,7 @@ quick_unmounted m qs sets =
     let placements = repeated qs sets in
     map (quick_tip_before (length placements) m placements) sets
 
--- the most pairs of the stretch from tip a to the tip before e: the largest over its named tips, 0 where it has none; k bounds its width
+-- the most pairs of the interval from tip a to the tip before e: the largest over its named tips, 0 where it has none; k bounds its width
 unfoldable pub named_most : ℕ → List ℕ → ℕ → ℕ → ℕ
 named_most zero lines a e = 0
 named_most (suc k) lines a e = greatest (λ i. cond (ltb 0 (occ lines (a + i))) (pairs_by (named_most k lines) lines a e (a + i)) 0) (e - a)
@@ -43,12 +43,12 @@ named_most (suc k) lines a e = greatest (λ i. cond (ltb 0 (occ lines (a + i))) 
 unfoldable pub named_C : List ℕ → ℕ → ℕ → ℕ
 named_C lines a e = named_most (e - a) lines a e
 
--- the lowest named tip of the stretch that attains them; e where it has no named tip
+-- the lowest named tip of the interval that attains them; e where it has no named tip
 unfoldable pub named_pick : List ℕ → ℕ → ℕ → ℕ
 named_pick lines a e =
     a + lowest_of (λ i. ltb 0 (occ lines (a + i)) && eqb (pairs_by (named_C lines) lines a e (a + i)) (named_C lines a e)) (e - a)
 
--- the tip of a line s of the stretch: the pick takes all lines that allow it, and the stretches beside it follow; k bounds its width
+-- the tip of a line s of the interval: the pick takes all lines that allow it, and the intervals beside it follow; k bounds its width
 unfoldable pub named_tip : ℕ → List ℕ → ℕ → ℕ → ℕ → ℕ
 named_tip zero lines a e s = 0
 named_tip (suc k) lines a e s =
@@ -59,7 +59,7 @@ named_tip (suc k) lines a e s =
 unfoldable pub best_unmounted : ℕ → List ℕ → List ℕ → List ℕ
 best_unmounted m qs sets = map (named_tip m (repeated qs sets) 0 m) sets
 
--- the table: the most pairs of the stretch from tip a to tip b at place a * m + b; 0 below the diagonal
+-- the table: the most pairs of the interval from tip a to tip b at place a * m + b; 0 below the diagonal
 unfoldable pub named_table : ℕ → List ℕ → List ℕ
 named_table m lines = list_of (λ k. named_C lines (k / m) (k % m + 1)) (m * m)
 

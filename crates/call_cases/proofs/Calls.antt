@@ -24,7 +24,7 @@ use Rattle.refusal.specs.Refusal.{none, refuse, or_else, when}
 use Rattle.refusal.proofs.Laws.{scan-none}
 use Rattle.refusal.specs.declared.Reason.TheVariants.{RackSize, EmptyLine, TipOutside, ShortPlan, ShortTable, ShortOutput, ZeroQuantity}
 use Rattle.refusal.specs.declared.Reason.TheVariants.{MountedOutside, RacksDiffer, ForeignTip, WrongClaim, TooManyLines, NoRun, NoPlan}
-use Rattle.refusal.specs.declared.Reason.TheVariants.{TooManyPlacements, NoTwoTips, WrongTable, GoalMissed}
+use Rattle.refusal.specs.declared.Reason.TheVariants.{TooManyPlacements, NoTwoTips, WrongTable, GoalMissed, TooManyNamed}
 use Rattle.cases.specs.Cases.{Case, Told, plain, placed}
 use Rattle.cases.proofs.Laws.{told_or, told_when, told_scan, or_assoc, or_nothing}
 use Rattle.call_refusals.specs.Calls.{add_refusal, is_negative, keep_refusal, is_outside, mounted_refusal}
@@ -34,13 +34,16 @@ use Rattle.call_refusals.specs.Junior.{junior_lines, junior_tips}
 use Rattle.call_refusals.proofs.Calls.{best_none}
 use Rattle.checking.specs.Checking.{claim_refusal, table_ok, check_refusal}
 use Rattle.striking.specs.Striking.{goal_refusal}
+use Rattle.subsets.specs.Exact.{most_named}
+use Rattle.subsets.specs.Table.{table_places}
 use Rattle.line_calls.specs.Lines.{check_of}
+use Rattle.line_calls.specs.Exact.{count_named, exact_refusal}
 use Rattle.line_calls.specs.Goal.{goal_asked, goal_of}
 use Rattle.line_calls.specs.Junior.{junior_refusal}
 use Rattle.panel.specs.Panel.{merge_refusal}
 use Rattle.call_cases.specs.State.{line_cases}
 use Rattle.call_cases.specs.Calls.{OffRack, Broken, add_cases, keep_cases, goal_cases, mounted_cases, plan_cases, best_cases, check_cases}
-use Rattle.call_cases.specs.Calls.{junior_cases, write_cases, merge_cases}
+use Rattle.call_cases.specs.Calls.{junior_cases, exact_cases, write_cases, merge_cases}
 use Rattle.call_cases.proofs.Tests.{less_iff, unlike_iff, equal_iff, rack_iff, outside_iff, run_iff, foreign_iff, table_iff}
 use Rattle.call_cases.proofs.Tests.{within_iff, served_iff}
 
@@ -82,6 +85,22 @@ module _ (earlier : Refusal) (cs : List Case) (before : Told cs earlier) where
   unfolding plan_refusal
   plan_told n room =
       told_or earlier (when (ltb room n) 4) cs _ before (λ _. told_when ShortPlan (ltb room n) (less_iff room n))
+
+  -- 4, 35 and 5
+  pub exact_told : (m : ℕ) (lines : List ℕ) (room places : ℕ)
+      → Told (cs ++ exact_cases m lines room places) (exact_refusal earlier m lines room places)
+  unfolding exact_refusal plan_refusal
+  exact_told m lines room places =
+      let n = length lines in
+      let r = count_named m lines in
+      let short = when (ltb room n) 4 in
+      let many = when (ltb most_named r) 35 in
+      let few = when (ltb places (table_places r)) 5 in
+      subst (Told (cs ++ exact_cases m lines room places)) (sym (or_assoc earlier short (or_else many few)))
+      (told_or earlier (or_else short (or_else many few)) cs _ before (λ _.
+      told_or short (or_else many few) _ _ (told_when ShortPlan (ltb room n) (less_iff room n)) (λ _.
+      told_or many few _ _ (told_when TooManyNamed (ltb most_named r) (less_iff most_named r)) (λ _.
+      told_when ShortTable (ltb places (table_places r)) (less_iff places (table_places r))))))
 
   -- 11
   pub write_told : (qs lines : List ℕ) (room : ℕ)

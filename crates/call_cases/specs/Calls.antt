@@ -7,13 +7,16 @@ use Rattle.model.specs.Limits.{most_lines, most_placements}
 use Rattle.placements.specs.Repeated.{repeated}
 use Rattle.refusal.specs.declared.Reason.TheVariants.{RackSize, ShortPlan, ShortTable, ShortOutput}
 use Rattle.refusal.specs.declared.Reason.TheVariants.{MountedOutside, RacksDiffer, ForeignTip, WrongClaim, TooManyLines, NoRun, NoPlan}
-use Rattle.refusal.specs.declared.Reason.TheVariants.{TooManyPlacements, NoTwoTips, WrongTable, GoalMissed}
+use Rattle.refusal.specs.declared.Reason.TheVariants.{TooManyPlacements, NoTwoTips, WrongTable, GoalMissed, TooManyNamed}
 use Rattle.goals.specs.Check.{entry}
 use Rattle.holders.specs.Holders.{NoneOnTips}
 use Rattle.job.specs.Job.{file_length, version_for}
 use Rattle.cases.specs.Cases.{Case, plain, placed}
 use Rattle.call_refusals.specs.Junior.{junior_lines, junior_tips}
+use Rattle.subsets.specs.Exact.{most_named}
+use Rattle.subsets.specs.Table.{table_places}
 use Rattle.line_calls.specs.Rules.{NoneWithin}
+use Rattle.line_calls.specs.Exact.{count_named}
 use Rattle.line_calls.specs.Goal.{NoneMeets}
 use Rattle.call_cases.specs.State.{line_cases}
 
@@ -56,10 +59,18 @@ mounted_cases m mounted = plain MountedOutside (OffRack m mounted) ∷ []
 abbrev pub plan_cases : ℕ → ℕ → List Case
 plan_cases n room = plain ShortPlan (room < n) ∷ []
 
--- best sharing, where the table has so many places: 4, 5, 25
+-- best sharing, with a plan buffer of `room` bytes and a table of `places` numbers: 4, 5, 25
 abbrev pub best_cases : ℕ → List ℕ → ℕ → ℕ → List Case
 best_cases m lines room places =
     plain ShortPlan (room < length lines) ∷ plain ShortTable (places < m * m) ∷ placed NoRun (Broken lines) ∷ []
+
+-- exact sharing, where the table has the places: 4, 35, 5
+abbrev pub exact_cases : ℕ → List ℕ → ℕ → ℕ → List Case
+exact_cases m lines room places =
+    plain ShortPlan (room < length lines)
+    ∷ plain TooManyNamed (most_named < count_named m lines)
+    ∷ plain ShortTable (places < table_places (count_named m lines))
+    ∷ []
 
 -- the check of a plan that has a byte for each line, a claim and a table, after 4, 5 and 25: 19, 20, 33
 abbrev pub check_cases : ℕ → List ℕ → List ℕ → List ℕ → ℕ → List ℕ → List Case
@@ -82,7 +93,7 @@ junior_cases m lines room =
 abbrev pub write_cases : List ℕ → List ℕ → ℕ → List Case
 write_cases qs lines room = plain ShortOutput (room < file_length (version_for qs) (length lines)) ∷ []
 
--- merge racks of m and o tips, so many lines and placements together: 17, 24, 30
+-- merge racks of m and o tips, with the lines and placements of both: 17, 24, 30
 abbrev pub merge_cases : ℕ → ℕ → ℕ → ℕ → List Case
 merge_cases m o lines placements =
     plain RacksDiffer (m ≡ o → ⊥)

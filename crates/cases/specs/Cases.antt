@@ -10,7 +10,7 @@ pub record Case : Type 1 where
   pub reason : Reason
   pub holds : ℕ → Type 0
 
--- a case that names no place: place 0 is told
+-- a case that names no place: the refusal has place 0
 abbrev pub plain : Reason → Type 0 → Case
 plain reason P = record { reason = reason; holds = λ i. (i ≡ 0) × P }
 

@@ -16,12 +16,10 @@ use borrow.Author.Tests.{lt-ltb, le-ltb, ne_eqb}
 use Rattle.std.proofs.lemmas.Grind.{common_steps}
 use Rattle.model.specs.Count.{largest, lowest_at}
 use Rattle.model.specs.Plan.{has}
-use Rattle.model.specs.Interval.{low}
 use Rattle.model.specs.CommonTip.{set_of, top, W}
 use Rattle.model.proofs.Tests.{test, le_or_lt, same_test, and_left, and_right, and_in}
-use Rattle.model.proofs.Largest.{largest_cong, largest_ge, lowest_lt, lowest_attains, lowest-first}
+use Rattle.model.proofs.Largest.{largest_cong, largest_ge, lowest_lt, lowest_attains}
 use Rattle.model.proofs.Sets.{has_some, some_tip, set_of_lt, set_of_cong, has-set_of, has_and, covers_or}
-use Rattle.model.proofs.Run.{low_le, low-tip}
 use Rattle.counts.specs.Counts.{plane_count, digit, count_at, Counts, busy_tips}
 use Rattle.counts.proofs.Planes.{count_at_lt}
 use Rattle.counts.proofs.Digits.{digit_le, lacks_digit, has-one-digit, one-digit-has}
@@ -271,26 +269,6 @@ module _ (f : ℕ → ℕ) (m n : ℕ) where
   busy_some s =
       set_of_cong busy (λ t. eqb (f t) n) m (λ t l.
       ⊎_elim (λ h. rw (le-ltb 0 (f t) h, ne_eqb (f t) n (λ q. s (omega arith)))) (λ h. rw (lt-ltb 0 (f t) h)) (le_or_lt (f t) 0))
-
-  -- the lowest of them
-  pub low-busiest : (n ≡ 0 → ⊥) → n ≡ largest f m → m ≤ 64 → low (busy_tips f n m) ≡ lowest_at f m
-  unfolding largest busy
-  low-busiest s e h = by m refl
-    where
-      by : (k : ℕ) → m ≡ k → low (busy_tips f n m) ≡ lowest_at f m
-      by zero z = absurd (s (e ∙ ap (largest f) z))
-      by (suc k) z =
-          let tips = set_of busy m in
-          let u = lowest_at f m in
-          let l : u < m = lowest_lt f m (omega arith) in
-          let is : f u ≡ n = omega (arith, largest_attained f m (omega arith)) in
-          let b : T (busy u) = and_in (ltb 0 (f u)) (eqb (f u) n) (lt→ltb 0 (f u) (rw is (pos_of_ne-zero s))) (eqb_T (f u) n is) in
-          let own : T (has tips u) = rw (has-set_of busy m u) (and_in (ltb u m) (busy u) (lt→ltb u m l) b) in
-          let least = low-tip {m = m} h (record { some = has_some tips u own; below = set_of_lt busy m }) in
-          let t = low tips in
-          let b' : T (busy t) = and_right (ltb t m) (busy t) (rw (has-set_of busy m t) at least) in
-          let is' = eqb→eq (f t) n (and_right (ltb 0 (f t)) (eqb (f t) n) b') in
-          ⊎_elim (λ q. omega (arith, low_le tips u own)) (λ q. absurd (omega (arith, lowest-first f m t q, is', is))) (le_or_lt u t)
 
 lowest_le : (f : ℕ → ℕ) (m : ℕ) → lowest_at f m < suc m
 unfolding lowest_at

@@ -16,6 +16,7 @@ use Rattle.call_refusals.proofs.Calls.{mounted_none}
 use Rattle.line_calls.specs.Lines.{common_of, keep_of, quick_of, best_of, write_of}
 use Rattle.line_calls.specs.Junior.{junior_of}
 use Rattle.line_calls.specs.Along.{along_of}
+use Rattle.line_calls.specs.Exact.{exact_of}
 use Rattle.panel.specs.Panel.{merge_of, alone_of}
 use Rattle.call_cases.specs.Calls.{mounted_cases}
 use Rattle.call_cases.proofs.Calls as Of
@@ -25,9 +26,10 @@ use Rattle.file_calls.specs.Calls.{read_in, common_in, keep_in, mounted_in, quic
 use Rattle.file_calls.specs.Goal.{goal_refusal_in, struck_in, goal_in}
 use Rattle.file_calls.specs.Junior.{junior_in}
 use Rattle.file_calls.specs.Along.{along_in}
+use Rattle.file_calls.specs.Exact.{exact_in}
 use Rattle.file_calls.specs.Panel.{reads_refusal, merge_refusal_in, merge_of_files, alone_in}
 use Rattle.file_calls.specs.Cases.{read_cases, keep_cases, goal_cases, quick_cases, best_cases, check_cases, junior_cases}
-use Rattle.file_calls.specs.Cases.{along_cases, reads_cases, merge_cases, alone_cases}
+use Rattle.file_calls.specs.Cases.{along_cases, exact_cases, reads_cases, merge_cases, alone_cases}
 
 module _ (file : List ℕ) where
   pub header_told : {o : Outcome} → o ≡ read_in file → Told (read_cases file) o.refusal
@@ -68,6 +70,13 @@ module _ (file : List ℕ) where
     along_told room e =
         subst (λ x. Told (along_cases file mounted room) x.refusal) (sym e)
         (Of.plan_told (mounted_in file mounted) _ mounted_told (length (sets_in file)) room)
+
+    pub exact_told : (price room places : ℕ) {o : Outcome} → o ≡ exact_in file mounted price room places
+        → Told (exact_cases file mounted room places) o.refusal
+    unfolding exact_in exact_of
+    exact_told price room places e =
+        subst (λ x. Told (exact_cases file mounted room places) x.refusal) (sym e)
+        (Of.exact_told (mounted_in file mounted) _ mounted_told (rack_in file) (sets_in file) room places)
 
     pub best_told : (room places : ℕ) {o : Outcome} → o ≡ best_in file mounted room places
         → Told (best_cases file mounted room places) o.refusal

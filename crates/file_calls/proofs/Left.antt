@@ -1,4 +1,4 @@
--- Of a call on a file: the pairs that it tells are few. The table that best sharing leaves has the most pairs of each stretch, and the check accepts
+-- Of a call on a file: the pairs that it tells are few. The table that best sharing leaves has the most pairs of each interval, and the check accepts
 -- what it leaves.
 use Prim.Native.Nat.{ℕ, ◌≤◌}
 use mathlib.Core.Path.{◌≡◌, ap}
@@ -13,12 +13,14 @@ use Rattle.job.proofs.Reading.{read_good}
 use Rattle.call_refusals.proofs.Calls.{mounted_none}
 use Rattle.line_calls.proofs.Left as Lines
 use Rattle.line_calls.proofs.AlongPlan as AlongLines
+use Rattle.line_calls.proofs.ExactPlan as ExactLines
 use Rattle.panel.proofs.Few as Panel
 use Rattle.file_calls.specs.Outcomes.{Outcome}
 use Rattle.file_calls.specs.Calls.{mounted_in, quick_in, best_in, best_plan_in, best_table_in, check_outcome, check_in}
 use Rattle.file_calls.specs.Rules.{TableRuleOf, CheckAcceptsOf}
 use Rattle.file_calls.specs.Junior.{junior_in}
 use Rattle.file_calls.specs.Along.{along_in, along_plan_in, AlongRuleOf}
+use Rattle.file_calls.specs.Exact.{exact_in, exact_plan_in, ExactRuleOf}
 use Rattle.file_calls.specs.Panel.{reads_refusal, alone_in}
 
 module _ (file : List ℕ) where
@@ -48,6 +50,14 @@ module _ (file : List ℕ) where
         → last ≡ along_plan_in file mounted plan → AlongRuleOf file mounted last o × (o.second ≤ most_pairs)
     unfolding along_in along_plan_in
     along_holds plan e p = rw (e, p) (AlongLines.along_holds (mounted_in file mounted) mounted qs lines plan good_mounted)
+
+    -- and what exact sharing leaves
+    pub exact_holds : (price : ℕ) (plan cells : List ℕ) {o : Outcome} {last : List ℕ}
+        → o ≡ exact_in file mounted price (length plan) (length cells) → last ≡ exact_plan_in file mounted price plan (length cells)
+        → ExactRuleOf file price last o × (o.first ≤ most_pairs)
+    unfolding exact_in exact_plan_in
+    exact_holds price plan cells e p =
+        rw (e, p) (ExactLines.exact_holds (mounted_in file mounted) m mounted price qs lines plan cells good_mounted)
 
     module _ (plan cells : List ℕ) {o : Outcome} (e : o ≡ best_in file mounted (length plan) (length cells)) where
       pub best_few : o.first ≤ most_pairs

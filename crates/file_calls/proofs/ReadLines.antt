@@ -15,15 +15,19 @@ use Rattle.call_refusals.proofs.Calls.{mounted_none, mounted_same, plan_none, be
 use Rattle.line_calls.specs.Answers.{CommonAnswer}
 use Rattle.line_calls.specs.Answers.{PlanAnswer}
 use Rattle.line_calls.specs.Answers.{AlongAnswer}
+use Rattle.line_calls.specs.Answers.{ExactAnswer}
 use Rattle.line_calls.specs.Lines.{common_of, quick_of, quick_buffer, best_of, best_buffer, best_table, check_of}
 use Rattle.line_calls.specs.Along.{along_of, along_buffer}
+use Rattle.line_calls.specs.Exact.{exact_of, exact_buffer, exact_cells}
 use Rattle.line_calls.specs.Rules.{CommonRule, HalfRule, BestRule}
 use Rattle.line_calls.proofs.Refused.{Same, common_same, quick_same, quick_buffer_same, best_same, best_buffer_same, best-table_same}
 use Rattle.line_calls.proofs.Refused.{common_rule_same, half_rule_same, best-rule_same, check_same, along_same, along_buffer_same}
+use Rattle.line_calls.proofs.Refused.{exact_same, exact_buffer_same, exact-cells_same}
 use Rattle.line_calls.proofs.Checked.{check_rule}
 use Rattle.file_calls.specs.Calls.{common_outcome, plan_outcome, common_in, mounted_in, quick_in, quick_plan_in, best_in, best_plan_in, best_table_in}
 use Rattle.file_calls.specs.Calls.{check_outcome, check_in}
 use Rattle.file_calls.specs.Along.{along_outcome, along_in, along_plan_in}
+use Rattle.file_calls.specs.Exact.{exact_outcome, exact_in, exact_plan_in, exact_cells_in}
 use Rattle.file_calls.specs.Rules.{CommonRuleOf, HalfRuleOf, BestRuleOf, CheckRuleOf}
 
 -- the rack, the quantities and the sets are those of the file
@@ -74,6 +78,24 @@ module _ (file : List ℕ) {d : Refusal} (e : d ≡ read_refusal file) {m : ℕ}
     along-in plan p q = (
       ap along_outcome (p ∙ along_same h mounted_lines plan mounted ∙ of-file file by-file (λ r _ k l. along_of r mounted k l (length plan))),
       q ∙ along_buffer_same h mounted_lines plan mounted ∙ of-file file by-file (λ r _ _ l. along_buffer r mounted l plan),
+    )
+
+    pub exact-in : (price : ℕ) (plan cells : List ℕ) {a : ExactAnswer} {last table : List ℕ}
+        → a ≡ exact_of h m mounted price qs lines (length plan) (length cells)
+        → last ≡ exact_buffer h m mounted price qs lines plan (length cells)
+        → table ≡ exact_cells h m price qs lines (length plan) cells
+        → (exact_outcome a ≡ exact_in file mounted price (length plan) (length cells))
+        × ((last ≡ exact_plan_in file mounted price plan (length cells)) × (table ≡ exact_cells_in file mounted price (length plan) cells))
+    unfolding exact_in exact_plan_in exact_cells_in
+    exact-in price plan cells p q t = (
+      ap exact_outcome (p ∙ exact_same h mounted_lines plan mounted price cells
+          ∙ of-file file by-file (λ r k x l. exact_of r k mounted price x l (length plan) (length cells))),
+      (
+        q ∙ exact_buffer_same h mounted_lines plan mounted price cells
+            ∙ of-file file by-file (λ r k x l. exact_buffer r k mounted price x l plan (length cells)),
+        t ∙ exact-cells_same h mounted_lines plan mounted price cells
+            ∙ of-file file by-file (λ r k x l. exact_cells r k price x l (length plan) cells),
+      ),
     )
 
     module _ (plan : List ℕ) {a : PlanAnswer} {last : List ℕ} where

@@ -22,13 +22,15 @@ use Rattle.line_calls.proofs.JobFile.{write_stopped}
 use Rattle.line_calls.proofs.PairGoal.{asked_earlier, goal-stopped}
 use Rattle.line_calls.proofs.JuniorPlan.{junior_refused}
 use Rattle.line_calls.proofs.AlongPlan.{along_refused}
+use Rattle.line_calls.proofs.ExactPlan.{exact_first, exact_refused}
 use Rattle.file_calls.specs.Outcomes.{twos_complement, refused_outcome}
 use Rattle.file_calls.specs.Calls.{common_in, keep_in, keep_file_in, quick_in, quick_plan_in, best_in, best_plan_in, best_table_in, check_in}
 use Rattle.file_calls.specs.Goal.{goal_in, goal_file_in}
 use Rattle.file_calls.specs.Junior.{junior_in, junior_plan_in, JuniorRuleOf}
 use Rattle.file_calls.specs.Along.{along_in, along_plan_in}
+use Rattle.file_calls.specs.Exact.{exact_in, exact_plan_in, exact_cells_in}
 use Rattle.file_calls.specs.Rules.{CommonRuleOf, HalfRuleOf, BestRuleOf, CheckRuleOf}
-use Rattle.file_calls.proofs.ReadLines.{common-in, check-in, quick-in, along-in, best-in}
+use Rattle.file_calls.proofs.ReadLines.{common-in, check-in, quick-in, along-in, exact-in, best-in}
 use Rattle.file_calls.proofs.KeptFile.{keep-in}
 use Rattle.file_calls.proofs.GoalFile.{goal-in}
 use Rattle.file_calls.proofs.JuniorIn.{junior-in}
@@ -67,6 +69,13 @@ module _ (file : List ℕ) (e : Refused) (r : told_of e ≡ read_refusal file) w
   along_read mounted plan =
       let (p, q) = along_refused d mounted [] [] plan {n = 0} (plan_first d n 0 (length plan)) (λ _. refl) n in
       along-in file r (λ z. absurd (n z)) mounted (mounted_earlier d 0 mounted n) plan p q
+
+  pub exact_read : (mounted : Mounted) (price : ℕ) (plan cells : List ℕ)
+      → (refused_outcome e 0 ≡ exact_in file mounted price (length plan) (length cells))
+      × ((plan ≡ exact_plan_in file mounted price plan (length cells)) × (cells ≡ exact_cells_in file mounted price (length plan) cells))
+  exact_read mounted price plan cells =
+      let (p, (q, t)) = exact_refused d 0 mounted price [] [] plan cells (exact_first d 0 [] (length plan) (length cells) n) n in
+      exact-in file r (λ z. absurd (n z)) mounted (mounted_earlier d 0 mounted n) price plan cells p q t
 
   pub best_read : (mounted : Mounted) (plan cells : List ℕ)
       → (refused_outcome e 0 ≡ best_in file mounted (length plan) (length cells))

@@ -43,7 +43,7 @@ quick_in file mounted room = plan_outcome (quick_of (mounted_in file mounted) (r
 unfoldable pub quick_plan_in : List ℕ → Mounted → List ℕ → List ℕ
 quick_plan_in file mounted plan = quick_buffer (mounted_in file mounted) (rack_in file) mounted (quantities_in file) (sets_in file) plan
 
--- best sharing, with a plan buffer of room bytes and a table of so many places
+-- best sharing, with a plan buffer of `room` bytes and a table of `places` numbers
 unfoldable pub best_in : List ℕ → Mounted → ℕ → ℕ → Outcome
 best_in file mounted room places = plan_outcome (best_of (mounted_in file mounted) (rack_in file) (quantities_in file) (sets_in file) room places)
 

@@ -37,6 +37,11 @@ abbrev pub best_cases : List ℕ → Mounted → ℕ → ℕ → List Case
 best_cases file mounted room places =
     read_cases file ++ Calls.mounted_cases (rack_in file) mounted ++ Calls.best_cases (rack_in file) (sets_in file) room places
 
+-- these, 16, 4, 35, 5
+abbrev pub exact_cases : List ℕ → Mounted → ℕ → ℕ → List Case
+exact_cases file mounted room places =
+    read_cases file ++ Calls.mounted_cases (rack_in file) mounted ++ Calls.exact_cases (rack_in file) (sets_in file) room places
+
 -- these, 4, 5, 25, 19, 20, 33
 abbrev pub check_cases : List ℕ → List ℕ → ℕ → List ℕ → List Case
 check_cases file plan claim tab =

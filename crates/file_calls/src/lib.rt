@@ -16,11 +16,13 @@ use reading::Room;
 use refusal::{Refused, Unkept};
 
 mod along_call;
+mod exact_call;
 mod goal_call;
 mod junior_call;
 mod panel_calls;
 
 pub use along_call::along_outcome;
+pub use exact_call::exact_outcome;
 pub use goal_call::goal_outcome;
 pub use junior_call::junior_outcome;
 pub use panel_calls::{alone_outcome, merge_outcome};

@@ -1,6 +1,5 @@
 pub mod PlanBy
 pub mod Unplanned
-pub mod Chosen
 pub mod Gathered
 pub mod Lists
 pub mod Round

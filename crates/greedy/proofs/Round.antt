@@ -31,9 +31,9 @@ use Rattle.placements.proofs.Good.{good_placements}
 use Rattle.unplanned.specs.Listed.{Unplanned}
 use Rattle.counts.specs.Counts.{count_at, busy_tips, Counts}
 use Rattle.head.specs.OnHead.{chosen}
+use Rattle.head.proofs.Chosen.{chosen-busiest}
 use Rattle.counts.proofs.Read.{largest-top}
 use Rattle.greedy.specs.Rounds.{Sizes, plan_by, cleared, placed, Taken, ListsFit, RoundReady}
-use Rattle.greedy.proofs.Chosen.{chosen-busiest}
 use Rattle.greedy.proofs.PlanBy.{length-plan_by, plan_by_same, plan_by-map, plan_by-twice}
 use Rattle.greedy.proofs.Unplanned.{unplanned, occ-unplanned, unplanned-all, unplanned-cleared, unplanned-none, none-unplanned}
 

@@ -89,7 +89,7 @@ fn put_lines(version: Version, quantities: &[u8], sets: &[u64], out: &mut [u8])
     }
 }
 
-// The version of a file of so many lines and bytes; without lines it is the shorter one.
+// The version of a file, by its lines and bytes; without lines it is the shorter one.
 fn version_by(count: usize, bytes: usize) -> Version
     requires { file_length 1 count ≤ bytes }
     ensures { version_number result ≡ cond (eqb bytes (file_length 1 count)) 1 2 }

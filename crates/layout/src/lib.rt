@@ -83,7 +83,7 @@ impl Counted<'_> {
         }
     }
 
-    // An interval, which RULES calls a stretch, is laid by its tip: it takes its runs, and the two intervals beside it are laid.
+    // An interval is laid by its tip: it takes its runs, and the two intervals beside it are laid.
     fn lay(&self, a: usize, w: usize, owner: &mut [u8])
         requires inside { a + w ≤ self.now.m }
         requires places { self.now.m * self.now.m ≤ length owner.old }

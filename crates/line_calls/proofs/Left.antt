@@ -1,4 +1,4 @@
--- What quick, best and the Junior answer, and what best leaves in its buffers: the pairs are few, the table has the most pairs of each stretch, and
+-- What quick, best and the Junior answer, and what best leaves in its buffers: the pairs are few, the table has the most pairs of each interval, and
 -- the check accepts the plan, its pairs and the table.
 use Prim.Native.Nat.{ℕ, ◌+◌, ◌*◌, ◌-◌, ◌≤◌, zero-le}
 use native.Mathlib.Omega.{arith}
@@ -83,7 +83,7 @@ module _ (earlier : Refusal) (m : ℕ) (qs lines : List ℕ) (given : earlier.nu
       let rule = junior_rule earlier m qs lines plan given in
       omega (arith, accepted (pairs (repeated qs (junior_plan m qs lines))) 0 {d = r} refl z, handed_few (given state) (rule.plan z)))
 
-  -- THE TABLE has the most pairs of the lines within each stretch
+  -- THE TABLE has the most pairs of the lines within each interval
   pub best_entries : (room : ℕ) (cells : List ℕ)
       → TableRule m qs lines (best_table earlier m qs lines room cells) (best_of earlier m qs lines room (length cells)).refusal.number
   unfolding best_of best_table

@@ -7,5 +7,6 @@ pub mod Checked
 pub mod PairGoal
 pub mod JuniorPlan
 pub mod AlongPlan
+pub mod ExactPlan
 pub mod Within
 pub mod Left

@@ -15,6 +15,7 @@ use Rattle.line_calls.specs.Lines.{common_of, keep_of, quick_of, quick_buffer, b
 use Rattle.line_calls.specs.Goal.{goal_of}
 use Rattle.line_calls.specs.Junior.{junior_of, junior_buffer}
 use Rattle.line_calls.specs.Along.{along_of, along_buffer}
+use Rattle.line_calls.specs.Exact.{exact_of, exact_buffer, exact_cells}
 use Rattle.line_calls.specs.Rules.{CommonRule, HalfRule, BestRule}
 use Rattle.line_calls.proofs.CommonTip.{common_refused}
 use Rattle.line_calls.proofs.KeepWithin.{keep-stopped}
@@ -24,6 +25,7 @@ use Rattle.line_calls.proofs.PairGoal.{asked_earlier, goal-stopped}
 use Rattle.line_calls.proofs.JobFile.{write_stopped}
 use Rattle.line_calls.proofs.JuniorPlan.{junior_refused}
 use Rattle.line_calls.proofs.AlongPlan.{along_refused}
+use Rattle.line_calls.proofs.ExactPlan.{exact_first, exact_refused}
 
 module _ (earlier : Refusal) (h : earlier.number ≡ 0 → ⊥) (m : ℕ) (lines : List ℕ) where
   plan_stopped : (room : ℕ) → earlier ≡ plan_refusal earlier (length lines) room
@@ -114,6 +116,24 @@ module _ (earlier : Refusal) {m n : ℕ} {qs rs lines others : List ℕ} (same :
       best-table_same =
           by_earlier (λ k q l. best_table earlier k q l (length plan) cells)
           (λ h k q l. (best-refused earlier k bare q l plan cells (best-stopped earlier h k l (length plan) (length cells)) h).1.1.0)
+
+    module _ (mounted : Mounted) (price : ℕ) (cells : List ℕ) where
+      pub exact_same : exact_of earlier m mounted price qs lines (length plan) (length cells)
+          ≡ exact_of earlier n mounted price rs others (length plan) (length cells)
+      exact_same =
+          by_earlier (λ k q l. exact_of earlier k mounted price q l (length plan) (length cells))
+          (λ h k q l. (exact_refused earlier k mounted price q l plan cells (exact_first earlier k l (length plan) (length cells) h) h).0)
+
+      pub exact_buffer_same : exact_buffer earlier m mounted price qs lines plan (length cells)
+          ≡ exact_buffer earlier n mounted price rs others plan (length cells)
+      exact_buffer_same =
+          by_earlier (λ k q l. exact_buffer earlier k mounted price q l plan (length cells))
+          (λ h k q l. (exact_refused earlier k mounted price q l plan cells (exact_first earlier k l (length plan) (length cells) h) h).1.0)
+
+      pub exact-cells_same : exact_cells earlier m price qs lines (length plan) cells ≡ exact_cells earlier n price rs others (length plan) cells
+      exact-cells_same =
+          by_earlier (λ k q l. exact_cells earlier k price q l (length plan) cells)
+          (λ h k q l. (exact_refused earlier k mounted price q l plan cells (exact_first earlier k l (length plan) (length cells) h) h).1.1)
 
   module _ (out : List ℕ) where
     pub write_same : write_of earlier qs lines (length out) ≡ write_of earlier rs others (length out)

@@ -8,6 +8,7 @@ use Rattle.refusal.specs.Reasons.{told_of, refusal_of, unkept_of, count_in, marg
 use Rattle.along.specs.declared.AlongCounts.{AlongCounts}
 use Rattle.common_tip.specs.declared.Common.{Common}
 use Rattle.junior.specs.declared.Found.{Found}
+use Rattle.exact.specs.declared.Shared.{Shared}
 
 -- the most placements that allow one tip, the least number of placements off the common tip, and the set of the tips that reach top
 pub record CommonAnswer : Type 0 where
@@ -39,6 +40,12 @@ pub record AlongAnswer : Type 0 where
   pub changes : ℕ
   pub pairs : ℕ
 
+-- the plan's pairs, and how many different tips it uses
+pub record ExactAnswer : Type 0 where
+  pub refusal : Refusal
+  pub pairs : ℕ
+  pub tips : ℕ
+
 -- the bytes of the job file that is written
 pub record FileAnswer : Type 0 where
   pub refusal : Refusal
@@ -63,6 +70,10 @@ junior_told (Err e) = record { refusal = told_of e; pairs = 0; u = 0; v = 0 }
 abbrev pub along_told : Result AlongCounts Refused → AlongAnswer
 along_told (Ok x) = record { refusal = none; changes = x.changes; pairs = x.pairs }
 along_told (Err e) = record { refusal = told_of e; changes = 0; pairs = 0 }
+
+abbrev pub exact_told : Result Shared Refused → ExactAnswer
+exact_told (Ok x) = record { refusal = none; pairs = x.pairs; tips = x.tips }
+exact_told (Err e) = record { refusal = told_of e; pairs = 0; tips = 0 }
 
 abbrev pub file_told : Result ℕ Refused → FileAnswer
 file_told r = record { refusal = refusal_of r; bytes = count_in r }

@@ -5,3 +5,4 @@ pub mod Table
 pub mod Goal
 pub mod Junior
 pub mod Along
+pub mod Exact

@@ -47,7 +47,7 @@ unfoldable pub quick_buffer : Refusal → ℕ → Mounted → List ℕ → List 
 quick_buffer earlier m mounted qs lines plan =
     lent_by (plan_refusal earlier (length lines) (length plan)) (length lines) (quick_plan_q mounted m qs lines) plan
 
--- best sharing, with a plan buffer of room bytes and a table of so many places: its pairs and its table are the same for every mounted tip
+-- best sharing, with a plan buffer of `room` bytes and a table of `places` numbers: its pairs and its table are the same for every mounted tip
 unfoldable pub best_of : Refusal → ℕ → List ℕ → List ℕ → ℕ → ℕ → PlanAnswer
 best_of earlier m qs lines room places = plan_answer (best_refusal earlier m lines room places) (C (repeated qs lines) 0 m)
 

@@ -1,4 +1,4 @@
--- What the table of best sharing means: each entry is the most pairs of the lines within its stretch of tips.
+-- What the table of best sharing means: each entry is the most pairs of the lines within its interval of tips.
 use Rattle.std.specs.Prelude.{ℕ, ◌+◌, ◌*◌, ◌-◌, ◌≤◌, ◌<◌, ◌≡◌, cond, List, [], ◌∷◌, get_or}
 use Rattle.model.specs.Count.{select}
 use Rattle.model.specs.Plan.{Valid, pairs}

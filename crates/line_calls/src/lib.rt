@@ -17,10 +17,12 @@ use placements::Lines;
 use refusal::{Refused, Unkept};
 
 mod along_call;
+mod exact_call;
 mod goal_call;
 mod junior_call;
 
 pub use along_call::along;
+pub use exact_call::exact;
 pub use goal_call::goal;
 pub use junior_call::junior;
 

@@ -11,7 +11,7 @@ pub record Mended : Type 0 where
   pub bytes : ℕ
   pub report_bytes : ℕ
 
--- what is told by a result
+-- the answer in a result
 abbrev pub mended_told : Result Sizes Refused → Mended
 mended_told (Ok x) = record { refusal = none; bytes = x.bytes; report_bytes = x.report_bytes }
 mended_told (Err e) = record { refusal = told_of e; bytes = 0; report_bytes = 0 }

@@ -57,7 +57,7 @@ changes_told (a ∷ []) = []
 changes_told (a ∷ b ∷ []) = []
 changes_told (a ∷ b ∷ c ∷ report) = (256 * a + b, c) ∷ changes_told report
 
--- the change with code c of line n is told
+-- the report has the change with code c of line n
 abbrev pub Told : ℕ → ℕ → List (ℕ × ℕ) → Type 0
 Told n c cs = Memᴰ {A = ℕ × ℕ} (n, c) cs
 
@@ -70,7 +70,7 @@ pub data Rising : List ℕ → Type 0 where
 abbrev pub place : ℕ × ℕ → ℕ
 place c = 256 * c.0 + c.1
 
--- the changes told of a file and of so many lines written are those made, and no other, each once, by line and then by code
+-- the changes reported for a file and the lines written of it: those made and no other, each once, by line and then by code
 pub record ExactReport (file : List ℕ) (written : ℕ) (cs : List (ℕ × ℕ)) : Type 0 where
   -- 1: tips are cleared
   pub cleared : (n : ℕ) → Told n 1 cs ↔ (Reached file n × ((new_line file n).tips ≡ (read_line file n).tips → ⊥))

@@ -1,4 +1,4 @@
--- The rules of the base: each line is one placement, no tip is mounted, a run is unbroken, and any tip of a stretch may be chosen. They are written
+-- The rules of the base: each line is one placement, no tip is mounted, a run is unbroken, and any tip of an interval may be chosen. They are written
 -- for themselves, so that a change of today's rules shows: both share the tips of a set, counts, pairs, plans and functions of lists, and no rule.
 -- For laws that say 'as before': no call's contract speaks of these.
 use Rattle.std.specs.Prelude.{ℕ, zero, suc, ◌+◌, ◌*◌, ◌-◌, ◌/◌, ◌%◌, ◌≤◌, ◌<◌, ◌≡◌, ◌↔◌, max, Bool, false, not, cond, ◌&&◌, ◌||◌}
@@ -99,7 +99,7 @@ quick_tip_before (suc k) m (x ∷ left) s =
 unfoldable pub quick_before : ℕ → List ℕ → List ℕ
 quick_before m lines = map (quick_tip_before (length lines) m lines) lines
 
--- ---- best sharing: a stretch has a first tip a, and ends before tip e
+-- ---- best sharing: an interval has a first tip a, and ends before tip e
 
 -- the lowest and the highest tip of a set that is not empty
 unfoldable pub low_before : ℕ → ℕ
@@ -112,28 +112,28 @@ high_before s = highest_of (has s) 64
 unfoldable pub is_run_before : ℕ → Bool
 is_run_before s = eqb (high_before s - low_before s + 1) (count (has s) (numbers 64))
 
--- how many of the lines lying within the stretch allow tip c
+-- how many of the lines lying within the interval allow tip c
 unfoldable pub taken_by : List ℕ → ℕ → ℕ → ℕ → ℕ
 taken_by lines a e c = count (λ s. (leb a (low_before s) && ltb (high_before s) e) && has s c) lines
 
--- the pairs of the stretch if tip c takes its lines: those on it, and by the table D those of the stretches beside it
+-- the pairs of the interval if tip c takes its lines: those on it, and by the table D those of the intervals beside it
 abbrev pub pairs_by : (ℕ → ℕ → ℕ) → List ℕ → ℕ → ℕ → ℕ → ℕ
 pairs_by D lines a e c = choose2 (taken_by lines a e c) + (D a c + D (c + 1) e)
 
--- the largest of these over every tip of the stretch, 0 where it has none; k bounds its width
+-- the largest of these over every tip of the interval, 0 where it has none; k bounds its width
 unfoldable pub most_before : ℕ → List ℕ → ℕ → ℕ → ℕ
 most_before zero lines a e = 0
 most_before (suc k) lines a e = greatest (λ i. pairs_by (most_before k lines) lines a e (a + i)) (e - a)
 
--- C of the stretch
+-- C of the interval
 unfoldable pub C_before : List ℕ → ℕ → ℕ → ℕ
 C_before lines a e = most_before (e - a) lines a e
 
--- the lowest tip of the stretch that attains C
+-- the lowest tip of the interval that attains C
 unfoldable pub pick_before : List ℕ → ℕ → ℕ → ℕ
 pick_before lines a e = a + lowest_of (λ i. eqb (pairs_by (C_before lines) lines a e (a + i)) (C_before lines a e)) (e - a)
 
--- the tip of a line s of the stretch: its pick takes all lines that allow it, and the stretches beside the pick follow; k bounds its width
+-- the tip of a line s of the interval: its pick takes all lines that allow it, and the intervals beside the pick follow; k bounds its width
 unfoldable pub best_tip_before : ℕ → List ℕ → ℕ → ℕ → ℕ → ℕ
 best_tip_before zero lines a e s = 0
 best_tip_before (suc k) lines a e s =
@@ -143,6 +143,6 @@ best_tip_before (suc k) lines a e s =
 unfoldable pub best_before : ℕ → List ℕ → List ℕ
 best_before m lines = map (best_tip_before m lines 0 m) lines
 
--- C of the stretch from tip a to tip b at place a * m + b; 0 below the diagonal
+-- C of the interval from tip a to tip b at place a * m + b; 0 below the diagonal
 unfoldable pub table_before : ℕ → List ℕ → List ℕ
 table_before m lines = list_of (λ k. C_before lines (k / m) (k % m + 1)) (m * m)

@@ -17,8 +17,6 @@ unfoldable pub from : ℕ → Mounted → Mounted
 from a bare = bare
 from a (tip t) = cond (leb a t) (tip (t - a)) bare
 
--- ---- for proofs and leaf contracts: no call's contract speaks of this
-
 -- tip t is on the head
 unfoldable pub is_on : Mounted → ℕ → Bool
 is_on bare t = false

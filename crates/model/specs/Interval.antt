@@ -1,4 +1,4 @@
--- Best sharing on lines that are runs of the named tips. An interval of tips, which RULES calls a stretch, has a first tip a and a width w.
+-- Best sharing on lines that are runs of the named tips. An interval of tips has a first tip a and a width w.
 use Rattle.std.specs.Prelude.{ℕ, zero, suc, ◌+◌, ◌*◌, ◌-◌, ◌/◌, ◌%◌, ◌≤◌, ◌<◌, ◌≡◌, ◌⊎◌}
 use Rattle.std.specs.Prelude.{Bool, true, not, cond, ◌&&◌, ◌||◌, List, map, T, ltb, leb, eqb}
 use Rattle.std.specs.Int.Count.{ones, count_leading_zeros, count_trailing_zeros}
@@ -85,6 +85,10 @@ best_plan mounted m lines = map (best_tip mounted m lines) lines
 unfoldable pub table : ℕ → List ℕ → List ℕ
 table m lines = list_of (λ k. C lines (k / m) (k % m + 1 - k / m)) (m * m)
 
+-- the table D is at least each split of each interval at a tip that is ok
+abbrev pub Dominates : (ℕ → Bool) → ℕ → List ℕ → (ℕ → ℕ → ℕ) → Type 0
+Dominates ok m lines D = (a w i : ℕ) → a + w ≤ m → i < w → T (ok (a + i)) → split D lines a w i ≤ D a w
+
 -- ---- for proofs and leaf contracts: no call's contract speaks of these
 
 -- every tip passes
@@ -108,10 +112,6 @@ plan_for mounted ok m lines sets = map (tip_by (pick_of mounted ok lines) m 0 m)
 -- and so the lines themselves
 abbrev pub plan_of : Mounted → (ℕ → Bool) → ℕ → List ℕ → List ℕ
 plan_of mounted ok m lines = plan_for mounted ok m lines lines
-
--- the table D is at least each split of each interval at a tip that is ok
-abbrev pub Dominates : (ℕ → Bool) → ℕ → List ℕ → (ℕ → ℕ → ℕ) → Type 0
-Dominates ok m lines D = (a w i : ℕ) → a + w ≤ m → i < w → T (ok (a + i)) → split D lines a w i ≤ D a w
 
 -- no tip of the interval is ok
 abbrev pub Idle : (ℕ → Bool) → ℕ → ℕ → Type 0

@@ -1,5 +1,4 @@
 -- A board renumbered: each tip that passes a test, as the named tips do, is replaced by its rank, the number of such tips below it.
--- For proofs and leaf contracts: no call's contract speaks of these.
 use Rattle.std.specs.Prelude.{ℕ, zero, suc, ◌+◌, ◌-◌, Bool, cond, ◌&&◌, List, [], ◌∷◌, map, T, eqb}
 use Rattle.std.specs.Int.Bits.{bit_or}
 use Rattle.model.specs.Plan.{has, Domain}
@@ -15,6 +14,8 @@ names (s ∷ lines) = bit_or s (names lines)
 unfoldable pub rank : (ℕ → Bool) → ℕ → ℕ
 rank ok zero = 0
 rank ok (suc t) = rank ok t + cond (ok t) 1 0
+
+-- ---- for proofs and leaf contracts: no call's contract speaks of these
 
 -- the tip below m that is ok and has rank j; 0 where there is none
 unfoldable pub tip_at : (ℕ → Bool) → ℕ → ℕ → ℕ

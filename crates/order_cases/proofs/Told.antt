@@ -154,8 +154,11 @@ tips_scan n plan l =
     (λ k.
     let i = first_fail tip_ok xs in
     let m : i < n = omega (arith, size) in
-    let bad : T (not (tip_ok (get_or plan i 0))) = rw (at i m) at (fails_at tip_ok 0 xs k) in
-    (m, ⊎_elim (λ h. h) (λ h. absurd (T_not (tip_ok (get_or plan i 0)) bad (lt→ltb (get_or plan i 0) most_tips h))) (le_or_lt most_tips (get_or plan i 0))))
+    let bad : T (not (tip_ok (get_or plan i 0))) = rw (at i m) at (fails_at tip_ok 0 xs k) in (
+      m,
+      ⊎_elim (λ h. h) (λ h. absurd (T_not (tip_ok (get_or plan i 0)) bad (lt→ltb (get_or plan i 0) most_tips h)))
+          (le_or_lt most_tips (get_or plan i 0)),
+    ))
     (λ j (m, p). (
       omega (arith, size),
       ⊎_elim
@@ -211,7 +214,8 @@ module _ (parts : List Part) (rules : List Rule) (room : ℕ) where
         let tips = tips_refusal (length parts) plan mounted in
         let lost = when (Call.absent (placing_by_tips parts rules plan mounted)) 29 in
         rw (or_assoc given tips lost)
-        (told_or given (or_else tips lost) (given_cases parts rules room) (tips_cases (length parts) plan mounted ++ lost_cases parts rules) given_told
+        (told_or given (or_else tips lost) (given_cases parts rules room) (tips_cases (length parts) plan mounted ++ lost_cases parts rules)
+        given_told
         (λ z. told_or tips lost (tips_cases (length parts) plan mounted) (lost_cases parts rules) tips_told
         (λ _. told_when NoOrder (Call.absent (placing_by_tips parts rules plan mounted))
         (absent_best (placing-by-tips plan parts rules mounted (windows_passed parts rules room z))))))

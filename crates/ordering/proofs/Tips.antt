@@ -78,7 +78,8 @@ module _ (tips : List ℕ) where
       ap (head_after tips) (sym (get_or-take (suc p) a p 0 (le_refl _)) ∙ ap (λ r. get_or r p 0) e ∙ get_or-take (suc p) b p 0 (le_refl _))
 
   -- a part that is not on the tip of the head changes it, unless the head is bare
-  change_too : (head : Mounted) (x y : ℕ) → (T (is_ready tips head y) → T (is_ready tips head x)) → T (is_change tips head x) → T (is_change tips head y)
+  change_too : (head : Mounted) (x y : ℕ) → (T (is_ready tips head y) → T (is_ready tips head x))
+      → T (is_change tips head x) → T (is_change tips head y)
   unfolding is_on
   change_too bare x y f u = u
   change_too (tip h) x y f u = not_T (eqb h (tip_at tips y)) (λ v. T_not (eqb h (tip_at tips x)) u (f v))

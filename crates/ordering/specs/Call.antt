@@ -41,7 +41,7 @@ unfoldable pub order_after : List Part → List Rule → List ℕ → List ℕ
 order_after parts rules buffer =
     lent_by (order_refusal parts rules (length buffer)) (length parts) (ordered (placing_order parts rules)) buffer
 
--- 29 is told exactly when no order obeys, past what is refused before a search
+-- 29 is given exactly when no order obeys, past what is refused before a search
 pub record NoneObeys (t : Task) (given r : Refusal) : Type 0 where
   pub means : r.number ≡ 29 → (other : List ℕ) → Obeys t other → ⊥
   pub told : given.number ≡ 0 → ((other : List ℕ) → Obeys t other → ⊥) → r.number ≡ 29

@@ -17,7 +17,7 @@ use Rattle.refusal.specs.declared.Reason.TheVariants.{RackSize, EmptyLine, TipOu
 use Rattle.refusal.specs.declared.Reason.TheVariants.{FileLines, FileLength, ShortOutput, BadWindow, BadRule, ShortOrder, ZeroQuantity}
 use Rattle.refusal.specs.declared.Reason.TheVariants.{MountedOutside, RacksDiffer, ForeignTip, WrongClaim, UnsoundBoard, BoardClosed, BoardOpen}
 use Rattle.refusal.specs.declared.Reason.TheVariants.{TooManyLines, NoRun, NoPlan, UnsoundLine, HeldBehind, NoOrder, TooManyPlacements, NoTwoTips}
-use Rattle.refusal.specs.declared.Reason.TheVariants.{WrongTable, GoalMissed, BrokenRecord}
+use Rattle.refusal.specs.declared.Reason.TheVariants.{WrongTable, GoalMissed, TooManyNamed, BrokenRecord}
 use Rattle.refusal.specs.declared.Refused.{Refused}
 use Rattle.refusal.specs.Reasons.{reason_number, told_of, refusal_of, refused_at}
 use Rattle.refusal.specs.Refusal.{none, refuse, accepts, or_else, when, refuse_at, scan, lent_by, Given}
@@ -157,6 +157,7 @@ reason_not_0 TooManyPlacements h = cc
 reason_not_0 NoTwoTips h = cc
 reason_not_0 WrongTable h = cc
 reason_not_0 GoalMissed h = cc
+reason_not_0 TooManyNamed h = cc
 reason_not_0 BrokenRecord h = cc
 
 -- a result that `?` returns is the error that it was given, and tells it

@@ -7,7 +7,7 @@ use Rattle.refusal.specs.declared.Reason.TheVariants.{RackSize, EmptyLine, TipOu
 use Rattle.refusal.specs.declared.Reason.TheVariants.{FileLines, FileLength, ShortOutput, BadWindow, BadRule, ShortOrder, ZeroQuantity}
 use Rattle.refusal.specs.declared.Reason.TheVariants.{MountedOutside, RacksDiffer, ForeignTip, WrongClaim, UnsoundBoard, BoardClosed, BoardOpen}
 use Rattle.refusal.specs.declared.Reason.TheVariants.{TooManyLines, NoRun, NoPlan, UnsoundLine, HeldBehind, NoOrder, TooManyPlacements, NoTwoTips}
-use Rattle.refusal.specs.declared.Reason.TheVariants.{WrongTable, GoalMissed, BrokenRecord}
+use Rattle.refusal.specs.declared.Reason.TheVariants.{WrongTable, GoalMissed, TooManyNamed, BrokenRecord}
 use Rattle.refusal.specs.declared.Refused.{Refused}
 use Rattle.refusal.specs.declared.Unkept.{Unkept}
 
@@ -45,9 +45,10 @@ reason_number TooManyPlacements = 30
 reason_number NoTwoTips = 31
 reason_number WrongTable = 33
 reason_number GoalMissed = 34
+reason_number TooManyNamed = 35
 reason_number BrokenRecord = 101
 
--- what is told of an error
+-- the refusal of an error
 abbrev pub told_of : Refused → Refusal
 told_of e = record { number = reason_number e.reason; place = e.place }
 

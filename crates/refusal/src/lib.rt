@@ -40,6 +40,7 @@ pub enum Reason {
     NoTwoTips = 31,
     WrongTable = 33,
     GoalMissed = 34,
+    TooManyNamed = 35,
     BrokenRecord = 101,
 }
 

@@ -31,11 +31,16 @@ use Rattle.holders.specs.Holders.{score, is_choice, serves, two_plan, to_first, 
 use Rattle.line_calls.specs.Junior as LinesJunior
 use Rattle.along.specs.Along.{parted, common as shared_tips, fewest_from, final, plan_from, start_set, fewest, plan_along}
 use Rattle.line_calls.specs.Along as LinesAlong
+use Rattle.line_calls.specs.Exact as LinesExact
+use Rattle.model.specs.Renumber.{names, rank}
+use Rattle.subsets.specs.Subsets.{tips_used, lying, gain, score_by, score as exact_score, worth as exact_worth, pick, order, exact_tip, exact_plan_q}
+use Rattle.subsets.specs.Table.{tips_at, exact_table}
 use Rattle.board.specs.Board.{no_sets, no_quantities, add_of, close_of}
 use Rattle.board.specs.Common.{common_of, keep_of}
 use Rattle.board.specs.Sharing.{quick_of, quick_buffer, best_of, best_buffer, best_table}
 use Rattle.board.specs.Junior.{junior_of, junior_buffer}
 use Rattle.board.specs.Along.{along_of, along_buffer}
+use Rattle.board.specs.Exact.{exact_of, exact_buffer, exact_cells}
 use Rattle.board.specs.JobFile.{read_of, write_of, write_buffer}
 use Rattle.board.specs.Check.{check_of}
 use Rattle.board.specs.Goal.{goal_of}
@@ -52,8 +57,9 @@ use Rattle.rows.specs.Rows.{B46_exact, B46_less, B46_huge, B47_huge, B48_open, B
 use Rattle.rows.specs.Rows.{B49_17, B50_18, B50_20, B51_21, B51_most, B51_empty_0, B51_empty_1, B52_goal, B53_all, B53_gap, B53_best, B54_2}
 use Rattle.rows.specs.Rows.{B54_3, B54_4, B55_open, B55_run, B55_most, B56_junior, B57_tied, B57_later, B58_first, B58_second, B58_equal}
 use Rattle.rows.specs.Rows.{B59_junior, B60_junior, B61_junior, B62_most, B62_over, B63_most, B63_over, B63_both, B64_none, B64_rack}
-use Rattle.rows.specs.Rows.{B65_open, B65_short, B120_none, B120_0, B120_2, B121_along, B122_along, B122_quick, B123_all, B123_none}
-use Rattle.rows.specs.Rows.{B124_open, B124_outside, B124_short, B124_line}
+use Rattle.rows.specs.Rows.{B65_open, B65_short, B113_0, B113_4, B114_most, B115_exact, B116_none, B116_4, B117_none, B118_over, B118_most}
+use Rattle.rows.specs.Rows.{B118_short, B118_few, B119_outside, B119_open, B120_none, B120_0, B120_2, B121_along, B122_along, B122_quick}
+use Rattle.rows.specs.Rows.{B123_all, B123_none, B124_open, B124_outside, B124_short, B124_line}
 
 pub starred : All Gives rows
 unfolding run add_of close_of common_of keep_of quick_of quick_buffer best_of best_buffer best_table check_of Lines.check_of check_refusal
@@ -73,6 +79,8 @@ unfolding run add_of close_of common_of keep_of quick_of quick_buffer best_of be
     junior_of junior_buffer LinesJunior.junior_of LinesJunior.junior_buffer LinesJunior.junior_refusal junior_refusal is_served first_tip second_tip
     junior_plan line_plan chosen score is_choice serves two_plan to_first gathered
     along_of along_buffer LinesAlong.along_of LinesAlong.along_buffer fewest plan_along start_set plan_from fewest_from final shared_tips parted
+    exact_of exact_buffer exact_cells LinesExact.exact_of LinesExact.exact_buffer LinesExact.exact_cells LinesExact.exact_refusal
+    rank names tips_used lying gain score_by exact_score exact_worth pick order exact_tip exact_plan_q tips_at exact_table
 starred =
     more {x = B1_common} refl
     (more {x = B1_keep} refl
@@ -202,6 +210,19 @@ starred =
     (more {x = B64_rack} refl
     (more {x = B65_open} refl
     (more {x = B65_short} refl
+    (more {x = B113_0} refl
+    (more {x = B113_4} refl
+    (more {x = B114_most} refl
+    (more {x = B115_exact} refl
+    (more {x = B116_none} refl
+    (more {x = B116_4} refl
+    (more {x = B117_none} refl
+    (more {x = B118_over} refl
+    (more {x = B118_most} refl
+    (more {x = B118_short} refl
+    (more {x = B118_few} refl
+    (more {x = B119_outside} refl
+    (more {x = B119_open} refl
     (more {x = B120_none} refl
     (more {x = B120_0} refl
     (more {x = B120_2} refl
@@ -214,7 +235,8 @@ starred =
     (more {x = B124_outside} refl
     (more {x = B124_short} refl
     (more {x = B124_line} refl none
-    )))))))))))))))))))))))))))))))))))))))))))))))))))))))))))))))))))))))))))))))))))))))))))))))))))))))))))))))))))))))))))))))))))))))))))
+    ))))))))))))))))))))))))))))))))))))))))))))))))))))))))))))))))))))))))))))
+    ))))))))))))))))))))))))))))))))))))))))))))))))))))))))))))))))))))))))))))
 
 pub half_reached : HalfReached
 unfolding has pairs uses count

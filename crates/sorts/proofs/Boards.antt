@@ -1,5 +1,5 @@
 -- THE SORT DOES NOT SHOW: boards with the same lines, each with its quantity, in another order answer the same.
-use Prim.Native.Nat.{ℕ, ◌-◌, ◌*◌, ◌<◌}
+use Prim.Native.Nat.{ℕ, ◌-◌, ◌*◌, ◌≤◌, ◌<◌}
 use native.Mathlib.Omega.{arith}
 use mathlib.Core.Path.{◌≡◌, refl, ap, ap₂, sym, ◌∙◌}
 use mathlib.Core.Bool.{Bool, true, false, cond}
@@ -48,7 +48,7 @@ table-length m lines = length-list_of _ (m * m)
 -- ---- one board
 
 -- the sets of the board's placements
-abbrev placements_of : Board → List ℕ
+abbrev pub placements_of : Board → List ℕ
 placements_of b = repeated (quantities_of b) (lines_of b)
 
 module _ (b : Board) (r : SoundClosed b) where
@@ -64,7 +64,7 @@ module _ (b : Board) (r : SoundClosed b) where
   good : GoodLines b.rack (quantities_of b) (lines_of b)
   good = known.sound.good
 
-  size : length (lines_of b) ≡ b.count
+  pub size : length (lines_of b) ≡ b.count
   size = lines-count Closed b full known
 
   -- the tip of line i in a plan that was handed out is that of its set
@@ -104,21 +104,21 @@ module _ (b : Board) (r : SoundClosed b) where
 -- ---- two boards
 
 module _ (b₁ b₂ : Board) (r : Reordered b₁ b₂) where
-  good₁ : GoodLines b₁.rack (quantities_of b₁) (lines_of b₁)
+  pub good₁ : GoodLines b₁.rack (quantities_of b₁) (lines_of b₁)
   good₁ = good b₁ r.own₁
 
-  good₂ : GoodLines b₂.rack (quantities_of b₂) (lines_of b₂)
+  pub good₂ : GoodLines b₂.rack (quantities_of b₂) (lines_of b₂)
   good₂ = good b₂ r.own₂
 
   -- the counts of the placements are the same, and those of the lines
   placements : SameCounts (placements_of b₁) (placements_of b₂)
   placements = placements-counts (quantities_of b₁) (lines_of b₁) (quantities_of b₂) (lines_of b₂) r.parts
 
-  lines : SameCounts (lines_of b₁) (lines_of b₂)
+  pub lines : SameCounts (lines_of b₁) (lines_of b₂)
   lines = lines-counts (quantities_of b₁) (lines_of b₁) (quantities_of b₂) (lines_of b₂) r.parts good₁.same good₂.same
 
   -- so a rule that hides the order gives the same for both
-  same : {A : Type 0} (rule : ℕ → List ℕ → A) → ((m : ℕ) → Hides (rule m))
+  pub same : {A : Type 0} (rule : ℕ → List ℕ → A) → ((m : ℕ) → Hides (rule m))
       → rule b₁.rack (placements_of b₁) ≡ rule b₂.rack (placements_of b₂)
   same rule h = h b₁.rack (placements_of b₁) (placements_of b₂) placements ∙ ap (λ m. rule m (placements_of b₂)) r.racks
 
@@ -169,11 +169,35 @@ module _ (b₁ b₂ : Board) (r : Reordered b₁ b₂) where
 
   -- ---- the plans
 
-  module _ (mounted : Mounted) (plan₁ plan₂ cells₁ cells₂ : List ℕ) (long₁ : LongEnough b₁ plan₁ cells₁) (long₂ : LongEnough b₂ plan₂ cells₂) where
-    -- the racks are equal, so a mounted tip is outside both or neither
-    same_mounted : mounted_refusal b₁ mounted ≡ mounted_refusal b₂ mounted
-    same_mounted = ap₂ (λ d m. Calls.mounted_refusal d m mounted) same_state r.racks
+  -- the racks are equal, so a mounted tip is outside both or neither
+  pub same_mounted : (mounted : Mounted) → mounted_refusal b₁ mounted ≡ mounted_refusal b₂ mounted
+  same_mounted mounted = ap₂ (λ d m. Calls.mounted_refusal d m mounted) same_state r.racks
 
+  -- a plan buffer that is long enough in both is refused in neither
+  pub same_plan : (mounted : Mounted) (plan₁ plan₂ : List ℕ) → b₁.count ≤ length plan₁ → b₂.count ≤ length plan₂
+      → plan_refusal (mounted_refusal b₁ mounted) (length (lines_of b₁)) (length plan₁)
+      ≡ plan_refusal (mounted_refusal b₂ mounted) (length (lines_of b₂)) (length plan₂)
+  unfolding plan_refusal
+  same_plan mounted plan₁ plan₂ long₁ long₂ =
+      rw (
+        same_mounted mounted,
+        le-ltb (length plan₁) (length (lines_of b₁)) (omega (arith, size b₁ r.own₁, long₁)),
+        le-ltb (length plan₂) (length (lines_of b₂)) (omega (arith, size b₂ r.own₂, long₂)),
+      )
+
+  -- a tip by a rule that hides the order, in the buffers of accepted calls
+  pub same_tips : (plan₁ plan₂ : List ℕ) (tip : ℕ → List ℕ → ℕ → ℕ) → ((m s : ℕ) → Hides (λ l. tip m l s)) → (d₁ d₂ : Refusal)
+      → d₁.number ≡ 0 → d₂.number ≡ 0
+      → AlikeBySet b₁ b₂
+      (lent_by d₁ (length (lines_of b₁)) (map (tip b₁.rack (placements_of b₁)) (lines_of b₁)) plan₁)
+      (lent_by d₂ (length (lines_of b₂)) (map (tip b₂.rack (placements_of b₂)) (lines_of b₂)) plan₂)
+  same_tips plan₁ plan₂ tip hides d₁ d₂ z₁ z₂ i j l h e =
+      tip-at b₁ r.own₁ (tip b₁.rack (placements_of b₁)) d₁ z₁ plan₁ i l
+      ∙ ap (tip b₁.rack (placements_of b₁)) e
+      ∙ same (λ m x. tip m x (get_or b₂.sets j 0)) (λ m. hides m _)
+      ∙ sym (tip-at b₂ r.own₂ (tip b₂.rack (placements_of b₂)) d₂ z₂ plan₂ j h)
+
+  module _ (mounted : Mounted) (plan₁ plan₂ cells₁ cells₂ : List ℕ) (long₁ : LongEnough b₁ plan₁ cells₁) (long₂ : LongEnough b₂ plan₂ cells₂) where
     abbrev quick₁ : Refusal
     quick₁ = plan_refusal (mounted_refusal b₁ mounted) (length (lines_of b₁)) (length plan₁)
 
@@ -187,13 +211,7 @@ module _ (b₁ b₂ : Board) (r : Reordered b₁ b₂) where
     best₂ = best_refusal (mounted_refusal b₂ mounted) b₂.rack (lines_of b₂) (length plan₂) (length cells₂)
 
     same_quick : quick₁ ≡ quick₂
-    unfolding plan_refusal
-    same_quick =
-        rw (
-          same_mounted,
-          le-ltb (length plan₁) (length (lines_of b₁)) (omega (arith, size b₁ r.own₁, long₁.bytes)),
-          le-ltb (length plan₂) (length (lines_of b₂)) (omega (arith, size b₂ r.own₂, long₂.bytes)),
-        )
+    same_quick = same_plan mounted plan₁ plan₂ long₁.bytes long₂.bytes
 
     same_run : (run_refusal (lines_of b₁)).number ≡ (run_refusal (lines_of b₂)).number
     same_run =
@@ -216,17 +234,6 @@ module _ (b₁ b₂ : Board) (r : Reordered b₁ b₂) where
         ap pairs (quick_repeated mounted b₁.rack (quantities_of b₁) (lines_of b₁))
         ∙ same (λ m l. pairs (quick_plan mounted m l)) (λ m. (order_hidden m 0 mounted).quick-pairs)
         ∙ sym (ap pairs (quick_repeated mounted b₂.rack (quantities_of b₂) (lines_of b₂)))
-
-    -- a tip by a rule that hides the order, in the buffers of accepted calls
-    same_tips : (tip : ℕ → List ℕ → ℕ → ℕ) → ((m s : ℕ) → Hides (λ l. tip m l s)) → (d₁ d₂ : Refusal) → d₁.number ≡ 0 → d₂.number ≡ 0
-        → AlikeBySet b₁ b₂
-        (lent_by d₁ (length (lines_of b₁)) (map (tip b₁.rack (placements_of b₁)) (lines_of b₁)) plan₁)
-        (lent_by d₂ (length (lines_of b₂)) (map (tip b₂.rack (placements_of b₂)) (lines_of b₂)) plan₂)
-    same_tips tip hides d₁ d₂ z₁ z₂ i j l h e =
-        tip-at b₁ r.own₁ (tip b₁.rack (placements_of b₁)) d₁ z₁ plan₁ i l
-        ∙ ap (tip b₁.rack (placements_of b₁)) e
-        ∙ same (λ m x. tip m x (get_or b₂.sets j 0)) (λ m. hides m _)
-        ∙ sym (tip-at b₂ r.own₂ (tip b₂.rack (placements_of b₂)) d₂ z₂ plan₂ j h)
 
     same_table : best₁.number ≡ 0
         → take (b₁.rack * b₁.rack) (best_table b₁ mounted (length plan₁) cells₁)
@@ -254,10 +261,11 @@ module _ (b₁ b₂ : Board) (r : Reordered b₁ b₂) where
       kept_sets = same_kept k;
       quick_number = ap (λ d. d.number) same_quick;
       quick-pairs = ap₂ told same_quick same_pairs;
-      quick_tips = λ z. same_tips (quick_tip mounted) (λ m. (order_hidden m 0 mounted).quick_tips) quick₁ quick₂ z (number_of same_quick z);
+      quick_tips = λ z. same_tips plan₁ plan₂ (quick_tip mounted) (λ m. (order_hidden m 0 mounted).quick_tips) quick₁ quick₂ z
+          (number_of same_quick z);
       best_number = same_best;
       best-pairs = ap₂ (λ n x. cond (eqb n 0) x 0) same_best (same (λ m l. C l 0 m) (λ m. (order_hidden m 0 mounted).best-pairs));
-      best_tips = λ z. same_tips (best_tip mounted) (λ m. (order_hidden m 0 mounted).best_tips) best₁ best₂ z (sym same_best ∙ z);
+      best_tips = λ z. same_tips plan₁ plan₂ (best_tip mounted) (λ m. (order_hidden m 0 mounted).best_tips) best₁ best₂ z (sym same_best ∙ z);
       tables = same_table;
     }
 

@@ -42,7 +42,7 @@ module _ (file : List ℕ) (e : read_refusal file ≡ none) where
   free : (read_refusal file).number ≡ 0
   free = ap (λ r. r.number) e
 
-  given : read_of file ≡ answer (board_in file) none
+  pub given : read_of file ≡ answer (board_in file) none
   unfolding read_of
   given = accepted _ _ {d = read_refusal file} refl free
 
@@ -64,7 +64,7 @@ module _ (f₁ f₂ : List ℕ) (r : ReorderedFiles f₁ f₂) where
   abbrev b₂ : Board
   b₂ = board_in f₂
 
-  boards : Reordered b₁ b₂
+  pub boards : Reordered b₁ b₂
   boards = record {
     own₁ = own f₁ r.read₁;
     own₂ = own f₂ r.read₂;
@@ -75,7 +75,7 @@ module _ (f₁ f₂ : List ℕ) (r : ReorderedFiles f₁ f₂) where
   boards-kept : (k : ℕ) → ((keep_of b₁ k).number ≡ (keep_of b₂ k).number) × ((keep_of b₁ k).margin ≡ (keep_of b₂ k).margin)
   boards-kept k = kept_alike b₁ b₂ boards k
 
-  in_files : (us vs : List ℕ) → AlikeBySet b₁ b₂ us vs → AlikeInFiles f₁ f₂ us vs
+  pub in_files : (us vs : List ℕ) → AlikeBySet b₁ b₂ us vs → AlikeInFiles f₁ f₂ us vs
   in_files us vs h i j l k e = h i j l k (set_at f₁ r.read₁ i l ∙ e ∙ sym (set_at f₂ r.read₂ j k))
 
   module _ (mounted : Mounted) (plan₁ plan₂ cells₁ cells₂ : List ℕ) (long₁ : LongEnoughFor f₁ plan₁ cells₁)

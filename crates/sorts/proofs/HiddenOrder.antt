@@ -3,7 +3,7 @@ use Prim.Native.Nat.{ℕ, zero, suc, ◌+◌, ◌-◌, ◌*◌, ◌/◌, ◌%◌
 use native.Mathlib.Omega.{arith}
 use mathlib.Core.Path.{◌≡◌, refl, ap, ap₂, sym, ◌∙◌}
 use mathlib.Core.Bool.{not, ◌&&◌}
-use mathlib.Core.List.{List, [], ◌∷◌}
+use mathlib.Core.List.{List, [], ◌∷◌, map}
 use lib.Dec.{ltb, leb, eqb}
 use lib.ListN.{length}
 use Rattle.model.specs.Count.{each, All, none, more}
@@ -57,13 +57,22 @@ above [] = (0, none)
 above (x ∷ xs) = let (n, ls) = above xs in (x + n + 1, more {x = x} (omega arith) (all_map (λ y l. omega arith) ls))
 
 -- the pairs of a plan are settled by how often it uses each tip
-pairs-by-uses : (p q : List ℕ) → ((t : ℕ) → uses p t ≡ uses q t) → pairs p ≡ pairs q
+pub pairs-by-uses : (p q : List ℕ) → ((t : ℕ) → uses p t ≡ uses q t) → pairs p ≡ pairs q
 pairs-by-uses p q h =
     let (n, ls) = above p in
     let (k, ms) = above q in
     pairs-sum (n + k) (all_map (λ x l. omega arith) ls)
     ∙ sum_cong _ _ (n + k) (λ t _. ap choose2 (h t))
     ∙ sym (pairs-sum (n + k) (all_map (λ x l. omega arith) ms))
+
+-- a plan by a rule for each set uses each tip as often
+pub uses_mapped : (tip : List ℕ → ℕ → ℕ) → ((s : ℕ) → Hides (λ lines. tip lines s)) → (t : ℕ) → Hides (λ lines. uses (map (tip lines) lines) t)
+unfolding uses
+uses_mapped tip hides t xs ys h =
+    count_map (eqb t) (tip xs) xs
+    ∙ h (λ s. eqb t (tip xs s))
+    ∙ count_cong (all (λ s. ap (eqb t) (hides s xs ys h)) ys)
+    ∙ sym (count_map (eqb t) (tip ys) ys)
 
 module _ (mounted : Mounted) (m : ℕ) where
   busiest_hides : Hides (λ lines. busiest mounted lines m)
@@ -88,19 +97,15 @@ module _ (mounted : Mounted) (m : ℕ) where
 
   -- as many placements are on each tip
   uses_hides : (t : ℕ) → Hides (λ lines. uses (quick_plan mounted m lines) t)
-  unfolding uses quick_plan
-  uses_hides t xs ys h =
-      count_map (eqb t) (quick_tip mounted m xs) xs
-      ∙ h (λ s. eqb t (quick_tip mounted m xs s))
-      ∙ count_cong (all (λ s. ap (eqb t) (quick_hides s xs ys h)) ys)
-      ∙ sym (count_map (eqb t) (quick_tip mounted m ys) ys)
+  unfolding quick_plan
+  uses_hides = uses_mapped (quick_tip mounted m) quick_hides
 
   quick_pairs_hides : Hides (λ lines. pairs (quick_plan mounted m lines))
   quick_pairs_hides xs ys h = pairs-by-uses (quick_plan mounted m xs) (quick_plan mounted m ys) (λ t. uses_hides t xs ys h)
 
 -- ---- best sharing
 
-named_hides : (t : ℕ) → Hides (λ lines. named lines t)
+pub named_hides : (t : ℕ) → Hides (λ lines. named lines t)
 unfolding named
 named_hides t xs ys h = ap (ltb 0) (occ_hides t xs ys h)
 

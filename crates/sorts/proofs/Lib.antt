@@ -4,3 +4,6 @@ pub mod Refusals
 pub mod Boards
 pub mod Example
 pub mod Files
+pub mod ExactOrder
+pub mod ExactBoards
+pub mod ExactFiles

@@ -1,3 +1,4 @@
 pub mod Order
 pub mod Boards
 pub mod Files
+pub mod Exact

@@ -6,7 +6,10 @@ use Rattle.model.specs.Choice.{Mounted}
 use Rattle.model.specs.CommonTip.{top, W, margin}
 use Rattle.model.specs.Greedy.{quick_tip, quick_plan}
 use Rattle.model.specs.Interval.{named, is_run_of, C, best_tip, table}
+use Rattle.model.specs.Renumber.{rank}
 use Rattle.placements.specs.Keep.{kept_q}
+use Rattle.subsets.specs.Subsets.{tips_used, exact_tip, exact_plan}
+use Rattle.subsets.specs.Table.{exact_table}
 
 -- as many elements of one list pass a test as of the other, whatever the test is
 abbrev pub SameCounts : List ℕ → List ℕ → Type 0
@@ -29,3 +32,11 @@ pub record OrderHidden (m k : ℕ) (mounted : Mounted) : Type 0 where
   pub best-pairs : Hides (λ lines. C lines 0 m)
   pub tables : Hides (table m)
   pub runs : Hides (λ lines. each (is_run_of (named lines)) lines)
+
+-- and so does exact sharing at a price for each tip
+pub record ExactHidden (m : ℕ) (mounted : Mounted) (price : ℕ) : Type 0 where
+  pub names : Hides (λ lines. rank (named lines) m)
+  pub tips : (s : ℕ) → Hides (λ lines. exact_tip mounted price m lines s)
+  pub plan_pairs : Hides (λ lines. pairs (exact_plan mounted price m lines))
+  pub used : Hides (λ lines. tips_used m (exact_plan mounted price m lines))
+  pub tables : Hides (exact_table price m)

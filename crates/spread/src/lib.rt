@@ -8,7 +8,7 @@ ghost use Rattle.model.specs.Plan.{has};
 ghost use Rattle.model.specs.Renumber.{rank};
 ghost use Rattle.spread.specs.Spread.{cell_at, spread, RowDone, RowCopied, RowsDone};
 
-// The tips of a set that are below m, and how many they are: a table by their ranks has so many columns.
+// The tips of a set that are below m, and their number, which is that of the columns of a table by their ranks.
 #[derive(Clone, Copy)]
 pub struct Ranking {
     pub set: u64,

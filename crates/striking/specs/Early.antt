@@ -37,7 +37,7 @@ before_most m xs f a c = cond (ltb f c) (meeting_by m xs f (c - 1) a (c - a)) 0
 unfoldable pub behind_most : ℕ → List ℕ → ℕ → ℕ → ℕ → ℕ → ℕ
 behind_most m xs g a w c = cond (ltb c g) (meeting_by m xs (c + 1) g (c + 1) (a + w - (c + 1))) 0
 
--- the pairs of the interval if tip c takes its lines but for q of them, and these have so many more
+-- the pairs of the interval if tip c takes its lines but for q of them, and these add `more`
 unfoldable pub parted_by : ℕ → List ℕ → List ℕ → ℕ → ℕ → ℕ → ℕ → ℕ → ℕ
 parted_by m xs inner q a w c more =
     choose2 (inside_by m xs a w c - q) + (entry m inner a (c - a) + entry m inner (c + 1) (a + w - (c + 1))) + (more + choose2 q)

@@ -106,7 +106,7 @@ limit_by m xs inner upper q s a w = entry m upper a w + (entry m inner a w + (q 
 unfoldable pub open_by : ℕ → List ℕ → List ℕ → List ℕ → ℕ → ℕ → ℕ → ℕ → ℕ → Bool
 open_by m xs inner upper q s K a w = leb a (high s) && (ltb (low s) (a + w) && leb K (limit_by m xs inner upper q s a w))
 
--- the tip t of the interval is in the set s, and takes its lines and q placements more for K pairs, where there are so many outside
+-- the tip t of the interval is in the set s, and takes its lines and q placements more for K pairs, with `outside` pairs outside the interval
 unfoldable pub ends_by : ℕ → List ℕ → List ℕ → ℕ → ℕ → ℕ → ℕ → ℕ → ℕ → ℕ → Bool
 ends_by m xs inner q s K outside a w t = leb a t && (has s t && leb K (outside + split_by m xs inner q a w (t - a)))
 

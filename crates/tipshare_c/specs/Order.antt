@@ -1,4 +1,4 @@
--- What a caller in C is told of a placing order, and of the windows of its parts.
+-- What a caller in C gets of a placing order, and of the windows of its parts.
 use Rattle.std.specs.Prelude.{ℕ, ◌/◌, List, length}
 use Rattle.refusal.specs.Told.{Refusal}
 use Rattle.refusal.specs.Refusal.{told}

@@ -9,7 +9,7 @@ use Rattle.tipshare_run.specs.declared.wish.Wish.TheVariants.{Plan, Help, Versio
 use Rattle.tipshare_run.specs.declared.wording.TheConstants.{HELP_WORD, VERSION_WORD, HELP, VERSION, USAGE}
 use Rattle.tipshare_run.specs.declared.wording.TheConstants.{CANNOT_READ, CANNOT_WRITE, READ_ADVICE, WRITE_ADVICE}
 
--- what is asked for by so many arguments behind the program's name, of which this is the first
+-- what the arguments behind the program's name ask for, by their number and the first of them
 abbrev pub wish_of : ℕ → List ℕ → Wish
 wish_of count word =
     cond (count == 0) Plan

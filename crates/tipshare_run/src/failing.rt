@@ -1,4 +1,4 @@
-// A read or a write that failed, and how it is told.
+// A read or a write that failed, and its message.
 ghost use Rattle.std.specs.Prelude.{◌++◌, ℕ, List, ◌≤◌};
 ghost use Rattle.tipshare_run.specs.Run.{Begun, sentence};
 

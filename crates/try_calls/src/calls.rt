@@ -54,6 +54,12 @@ pub(crate) enum Call {
         room: Option<usize>,
         mounted: Option<usize>,
     },
+    Exact {
+        price: u32,
+        room: Option<usize>,
+        places: Option<usize>,
+        mounted: Option<usize>,
+    },
     // Merge and alone take the board and then the held one.
     Merge,
     Alone {
@@ -184,6 +190,15 @@ const EVERY_CALL: &[(&str, Call)] = &[
             mounted: None,
         },
     ),
+    (
+        "exact",
+        Call::Exact {
+            price: 1,
+            room: None,
+            places: None,
+            mounted: None,
+        },
+    ),
     ("merge", Call::Merge),
     ("alone", Call::Alone { room: None }),
 ];
@@ -238,6 +253,12 @@ impl State {
             } => self.check(out, claim, room, places),
             Call::Junior { room } => self.junior(out, room),
             Call::Along { room, mounted } => self.along(out, room, mounted),
+            Call::Exact {
+                price,
+                room,
+                places,
+                mounted,
+            } => self.exact(out, price, room, places, mounted),
             Call::Merge => self.merge(out),
             Call::Alone { room } => self.alone(out, room),
         }

@@ -2,7 +2,7 @@
 use crate::lent::{lent, read, written};
 use crate::record::State;
 use crate::shown::{Back, Told, Values, show_told};
-use board::{AlonePairs, AlongCounts, Board, Found};
+use board::{AlonePairs, AlongCounts, Board, Found, Shared};
 use std::io;
 use std::io::Write;
 use try_lib::{PLAN_ROOM, TABLE_ROOM};
@@ -88,6 +88,35 @@ impl State {
         write!(out, "{} changes {changes} pairs {pairs}", Told::new(&told))?;
         self.show_plan(out, told.is_ok())?;
         writeln!(out, "{}", Back::new(&given, &self.board))
+    }
+
+    pub(crate) fn exact<W: Write>(
+        &mut self,
+        out: &mut W,
+        price: u32,
+        room: Option<usize>,
+        places: Option<usize>,
+        mounted: Option<usize>,
+    ) -> io::Result<()> {
+        let given = self.board;
+        let blank = place_of(self.junk);
+        self.plan = [self.junk; PLAN_ROOM];
+        self.table = [blank; TABLE_ROOM];
+        let plan = lent(&mut self.plan, room);
+        let told = self
+            .board
+            .exact(mounted, price, plan, lent(&mut self.table, places));
+        let Shared { pairs, tips } = told.unwrap_or(Shared { pairs: 0, tips: 0 });
+        write!(out, "{} pairs {pairs} tips {tips}", Told::new(&told))?;
+        self.show_plan(out, told.is_ok())?;
+        let named = given
+            .sets
+            .iter()
+            .fold(0, |named: u64, set| named | *set)
+            .count_ones();
+        let table_places = 2_usize.checked_shl(named).unwrap_or(usize::MAX);
+        let table = Values::new(&self.table, blank, written(&told, table_places));
+        writeln!(out, " table{table}{}", Back::new(&given, &self.board))
     }
 
     // Of the plan and the table as they are.

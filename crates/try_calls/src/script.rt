@@ -188,7 +188,7 @@ impl Call {
         }
     }
 
-    // The call of a goal, a check, the Junior, a plan along the list or two boards that a word stands for, if any does.
+    // The call of a goal, a check, the Junior, a plan along the list, exact sharing or two boards that a word stands for, if any does.
     fn of_plans(word: &str, numbers: &[u64]) -> Option<Call> {
         match (word, numbers) {
             ("goal", [goal]) => Some(Call::Goal {
@@ -205,6 +205,12 @@ impl Call {
             ("along", _) => Some(Call::Along {
                 room: given(numbers, 0),
                 mounted: given(numbers, 1),
+            }),
+            ("exact", [price, rest @ ..]) => Some(Call::Exact {
+                price: pairs(*price),
+                room: given(rest, 0),
+                places: given(rest, 1),
+                mounted: given(rest, 2),
             }),
             ("merge", []) => Some(Call::Merge),
             ("alone", _) => Some(Call::Alone {

@@ -1,7 +1,7 @@
 // Each call on the board of a small job, compared with what trying every plan gives.
 use crate::small::Small;
 use crate::tally::Calls;
-use board::{AlongCounts, Board};
+use board::{AlongCounts, Board, Shared};
 use refusal::{Reason, Unkept};
 use std::alloc::{AllocError, Global};
 use try_lib::{
@@ -129,6 +129,37 @@ pub fn try_along(small: &Small<'_>, board: &Board) -> Calls {
     let mut calls = try_along_from(small, board, None);
     for tip in 0..small.rack {
         calls += try_along_from(small, board, Some(tip));
+    }
+    calls
+}
+
+// The prices at which exact sharing is tried.
+const PRICES: [u32; 4] = [0, 1, 4, u32::MAX];
+
+// Exact sharing at a price, and the places behind its table.
+fn try_exact_at(small: &Small<'_>, board: &Board, price: u32) -> Calls {
+    let mut plan = [JUNK; PLAN_ROOM];
+    let mut table = [JUNK_PLACE; TABLE_ROOM];
+    let wrong = match board.exact(None, price, &mut plan, &mut table) {
+        Ok(Shared { pairs, tips }) => {
+            let pairs = pairs as usize;
+            let best = small.none_better(price as usize, pairs, tips);
+            let behind = &table[small.exact_places().min(TABLE_ROOM)..];
+            wrong_plan(small, &plan, pairs)
+                .saturating_add(usize::from(tips != small.tips_used(&plan)))
+                .saturating_add(usize::from(!best))
+                .saturating_add(changed(behind, &JUNK_PLACE))
+        }
+        Err(_) => 1,
+    };
+    Calls::one(false, wrong)
+}
+
+// Exact sharing at each price.
+pub fn try_exact(small: &Small<'_>, board: &Board) -> Calls {
+    let mut calls = Calls::default();
+    for price in PRICES {
+        calls += try_exact_at(small, board, price);
     }
     calls
 }

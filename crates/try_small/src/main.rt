@@ -1,12 +1,12 @@
-// Small boards solved by trying every plan by lines, counted in placements, compared with what common tip, keep, quick and best sharing
-// and the plan along the list answer.
+// Small boards solved by trying every plan by lines, counted in placements, compared with what common tip, keep, quick, best and exact
+// sharing and the plan along the list answer.
 #![tactic(auto)]
 
 mod calls;
 mod small;
 mod tally;
 
-use crate::calls::{try_along, try_best, try_common_tip, try_keeps, try_quick};
+use crate::calls::{try_along, try_best, try_common_tip, try_exact, try_keeps, try_quick};
 use crate::small::Small;
 use crate::tally::{Calls, Tally};
 use board::Board;
@@ -94,6 +94,7 @@ fn try_board(alloc: Global, small: &Small<'_>) -> Result<Tally, AllocError> {
         quick: try_quick(small, &board),
         best: try_best(alloc, small, &board)?,
         along: try_along(small, &board),
+        exact: try_exact(small, &board),
     })
 }
 

@@ -92,6 +92,30 @@ impl<'a> Small<'a> {
             .unwrap_or(0)
     }
 
+    // The places of exact sharing's table: two for each set of the tips that some line has.
+    pub fn exact_places(&self) -> usize {
+        let named = self.lines.iter().fold(0, |named, line| named | line.tips);
+        2_usize
+            .checked_shl(named.count_ones())
+            .unwrap_or(usize::MAX)
+    }
+
+    // How many different tips the plan uses.
+    pub fn tips_used(&self, plan: &[u8]) -> usize {
+        (0..self.rack)
+            .filter(|tip| uses(&self.lines, plan, *tip) != 0)
+            .count()
+    }
+
+    // Whether no valid plan is better than one of these pairs and tips, where each tip costs the price.
+    pub fn none_better(&self, price: usize, pairs: usize, tips: usize) -> bool {
+        let paid = price.saturating_mul(tips);
+        self.plans.iter().all(|plan| {
+            let other_paid = price.saturating_mul(self.tips_used(plan));
+            self.pairs(plan).saturating_add(paid) <= pairs.saturating_add(other_paid)
+        })
+    }
+
     // The tip changes of the plan.
     pub fn tip_changes(&self, mounted: Option<u8>, plan: &[u8]) -> usize {
         tip_changes(mounted, &plan[..self.lines.len().min(plan.len())])

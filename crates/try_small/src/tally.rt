@@ -37,6 +37,7 @@ pub struct Tally {
     pub quick: Calls,
     pub best: Calls,
     pub along: Calls,
+    pub exact: Calls,
 }
 
 impl AddAssign for Tally {
@@ -47,6 +48,7 @@ impl AddAssign for Tally {
         self.quick += more.quick;
         self.best += more.best;
         self.along += more.along;
+        self.exact += more.exact;
     }
 }
 
@@ -59,6 +61,7 @@ impl fmt::Display for Tally {
             quick,
             best,
             along,
+            exact,
         } = self;
         write!(f, "boards {} wrong {}; ", boards.tried, boards.wrong)?;
         write!(
@@ -77,6 +80,7 @@ impl fmt::Display for Tally {
             "best {} refused 25: {} wrong {}; ",
             best.tried, best.refused, best.wrong
         )?;
-        write!(f, "along {} wrong {}", along.tried, along.wrong)
+        write!(f, "along {} wrong {}; ", along.tried, along.wrong)?;
+        write!(f, "exact {} wrong {}", exact.tried, exact.wrong)
     }
 }

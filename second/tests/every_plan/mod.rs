@@ -1,6 +1,6 @@
 //! Small boards, and every call on them held to every plan.
 
-use second::{pairs_in, try_every_plan, Answer, Board, Junior, Line, Tried};
+use second::{pairs_in, try_every_plan, Answer, Board, Exact, Junior, Line, Tried};
 
 /// Runs the check on every board of this many lines, each line being one of those given.
 pub fn every_board(rack: usize, choices: &[Line], lines: usize, check: &mut dyn FnMut(&Board)) -> usize {
@@ -57,6 +57,7 @@ pub fn check(board: &Board) {
     check_best(board, &tried);
     check_junior(board);
     check_along(board, &tried);
+    check_exact(board, &tried);
     check_files(board);
 }
 
@@ -178,6 +179,79 @@ fn check_junior(board: &Board) {
     let [on_u, on_v] = [u, v].map(with_both_on);
     let more_on_v = pairs_in(&board.placed(&on_v)) > pairs_in(&board.placed(&on_u));
     assert_eq!(&plan[..board.count], if more_on_v { on_v } else { on_u });
+}
+
+/// No plan is worth more than the exact one, whatever the price; each score of the table is the most that the lines within its
+/// set are worth, and the plan is the one that the table gives.
+fn check_exact(board: &Board, tried: &Tried) {
+    let named: Vec<usize> = tips_in(board.named_tips()).collect();
+    let sets = 1 << named.len();
+    // The lines within each set of named tips, solved alone.
+    let within = |set: usize| -> Board {
+        let tips = (0..named.len()).filter(|rank| set >> rank & 1 == 1).fold(0, |tips, rank| tips | 1 << named[rank]);
+        let lines: Vec<Line> = board.lines().filter(|line| line.set & !tips == 0).collect();
+        Board::of_lines(board.rack, &lines)
+    };
+    let alone: Vec<(usize, Tried)> =
+        (0..sets).map(within).map(|board| (board.placements().len(), try_every_plan(&board))).collect();
+    let size = |set: usize| i64::from(set.count_ones());
+    for price in [0, 1, 3, 2_096_128, u32::MAX] {
+        let counted = price.min(2_096_129);
+        let scores: Vec<i64> =
+            (0..sets).map(|set| alone[set].1.most_with_price(counted) + size(set) * i64::from(counted)).collect();
+        for mounted in [None].into_iter().chain((0..board.rack).map(Some)) {
+            let (mut plan, mut table) = (junk_plan(board), vec![JUNK_PAIRS; 2 * sets + 3]);
+            let answer = board.clone().exact(mounted, price, &mut plan, &mut table);
+            assert_answer(&answer, board, 0, 0);
+            check_plan(board, &plan, answer.value.pairs);
+            let laid = &plan[..board.count];
+            let used = (0..board.rack).filter(|&tip| laid.contains(&(tip as u8))).count();
+            let Exact { pairs, tips } = answer.value;
+            assert_eq!(tips as usize, used);
+            assert_eq!(i64::from(pairs) - i64::from(counted) * i64::from(tips), tried.most_with_price(counted));
+            if price == 0 {
+                assert_eq!(pairs, tried.most_pairs);
+                // Of runs best sharing lays the same plan.
+                let mut best = junk_plan(board);
+                if board.clone().best(mounted, &mut best, &mut vec![0; board.rack * board.rack]).number == 0 {
+                    assert_eq!(plan, best);
+                }
+            }
+            if price > 2_096_128 {
+                assert_eq!((used, pairs), tried.fewest_tips());
+            }
+            for set in 0..sets {
+                let expected = (alone[set].0 as i64, scores[set]);
+                assert_eq!((i64::from(table[set]), i64::from(table[sets + set])), expected);
+            }
+            assert!(table[2 * sets..].iter().all(|&place| place == JUNK_PAIRS));
+            assert_eq!(laid, by_the_rule_exact(board, &named, &table[..2 * sets], counted, mounted));
+        }
+    }
+}
+
+/// The plan in the rule's words, given the placements and the score of each set of named tips.
+fn by_the_rule_exact(board: &Board, named: &[usize], table: &[u32], price: u32, mounted: Option<usize>) -> Vec<u8> {
+    let sets = table.len() / 2;
+    let mut plan = vec![JUNK_BYTE; board.count];
+    let mut left = sets - 1;
+    while left != 0 {
+        let attains = |rank: usize| {
+            let without = left & !(1 << rank);
+            let placements = table[left] - table[without];
+            let gain = if placements == 0 { price } else { placements * (placements - 1) / 2 };
+            left >> rank & 1 == 1 && gain + table[sets + without] == table[sets + left]
+        };
+        let tied: Vec<usize> = (0..named.len()).filter(|&rank| attains(rank)).collect();
+        let rank = tied.iter().copied().find(|&rank| Some(named[rank]) == mounted).unwrap_or(tied[0]);
+        for (tip, line) in plan.iter_mut().zip(board.lines()) {
+            if *tip == JUNK_BYTE && line.set >> named[rank] & 1 == 1 {
+                *tip = named[rank] as u8;
+            }
+        }
+        left &= !(1 << rank);
+    }
+    plan
 }
 
 /// A plan of the fewest changes, which is the one that the rule says, whichever tip is mounted.

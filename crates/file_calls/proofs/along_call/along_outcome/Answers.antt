@@ -1,7 +1,6 @@
 use mathlib.Core.Path.{◌≡◌, refl}
-use Rattle.std.proofs.Common.{List, rules, Err}
+use Rattle.std.proofs.Common.{rules, Err}
 use lib.ListN.{length}
-use Rattle.model.specs.Choice.{Mounted}
 use Rattle.refusal.proofs.Laws.{reason_not_0}
 use Rattle.head.specs.OnHead.{on_head}
 use Rattle.refusal.specs.Reasons.{told_of}

@@ -138,7 +138,8 @@ loop-p-preserved c =
     let h = i.placing.inside x t in
     let less = c.sub-left.ensures ∙ ap (removed l.left) c.single.ensures in
     record {
-      placing = rw less (placing_more a.firsts.now a.lasts.now a.rows.now a.start a.after.now l.order l.left l.ready l.p c.loop-p-test.true i.placing x is_pick h t);
+      placing = rw less (placing_more a.firsts.now a.lasts.now a.rows.now a.start a.after.now l.order l.left l.ready l.p c.loop-p-test.true
+          i.placing x is_pick h t);
       levels = rw less (levels_next l.left a.lasts.now l.levels l.p i.levels x h t _ _ c.raise-reached.ensures);
       low = omega arith;
       high = omega arith;

@@ -11,7 +11,8 @@ loop-from-preserved-then-passes g c =
       start = λ h. omega arith;
       end = omega (arith, l.invariant.end, c.loop-from-test.true);
       between = λ bound low high test.
-          let e : leb bound middle ≡ true = sym (test middle _ (omega (arith, l.invariant.end, c.loop-from-test.true)) c.passes.ensures) ∙ c.if-passes.true in
+          let e : leb bound middle ≡ true =
+          sym (test middle _ (omega (arith, l.invariant.end, c.loop-from-test.true)) c.passes.ensures) ∙ c.if-passes.true in
           ((l.invariant.between bound low high test).0, leb-true bound middle e);
     }
 
@@ -23,6 +24,7 @@ loop-from-preserved g c =
       start = λ h. omega (arith, c.loop-from-test.true);
       end = l.invariant.end;
       between = λ bound low high test.
-          let e : leb bound middle ≡ false = sym (test middle _ (omega (arith, l.invariant.end, c.loop-from-test.true)) c.passes.ensures) ∙ c.if-passes.false in
+          let e : leb bound middle ≡ false =
+          sym (test middle _ (omega (arith, l.invariant.end, c.loop-from-test.true)) c.passes.ensures) ∙ c.if-passes.false in
           (omega (arith, leb-false bound middle e), (l.invariant.between bound low high test).1);
     }

@@ -1,0 +1,10 @@
+pub mod Drop
+pub mod Lying
+pub mod Dominate
+pub mod Attain
+pub mod Score
+pub mod Exact
+pub mod Placements
+pub mod Renumbered
+pub mod Ranked
+pub mod Table

@@ -1,0 +1,5 @@
+pub mod Subsets
+pub mod Exact
+pub mod Table
+pub mod Chains
+pub mod Examples
