@@ -18,7 +18,7 @@
 
 #include "job.h"
 
-/* A goal is slow, and tried on fewer boards; so are single calls, each of which starts a process. */
+/* A goal and an exact plan are slow, and tried on fewer boards; so are single calls, each of which starts a process. */
 enum { DEEP = 262144, BOARDS = 4000, SLOW = 50, SINGLE = 100, PAINT = 0xA5 };
 
 /* All that a call is made with, so that it is read at once in another process. */
@@ -43,6 +43,11 @@ static struct {
     size_t parts_length;
     uint32_t rules[TIPSHARE_RULE_PLACES * 1000];
     size_t rules_length;
+    uint8_t tips_of_parts[TIPSHARE_MOST_PARTS];
+    /* A board that names 20 tips at most. */
+    uint8_t narrow[job::kLongestFile];
+    size_t narrow_length;
+    uint32_t price;
 } board;
 
 static uint64_t answer[TIPSHARE_ANSWER_PLACES];
@@ -51,6 +56,8 @@ static uint8_t out[job::kLongestFile];
 static uint32_t table[TIPSHARE_MOST_PLACES];
 static uint8_t changes[TIPSHARE_LONGEST_CHANGES];
 static uint8_t order[TIPSHARE_MOST_PARTS];
+static uint8_t last_positions[TIPSHARE_MOST_PARTS];
+static uint32_t sets_of_tips[2u << 20];
 static uint8_t text[TIPSHARE_REPORT_SPACE];
 
 static void read_it() { tipshare_read(board.file, board.length, answer, TIPSHARE_ANSWER_PLACES); }
@@ -71,6 +78,15 @@ static void best_it()
 {
     tipshare_best(board.file, board.length, board.mounted, plan, sizeof plan, table, TIPSHARE_MOST_PLACES, answer,
                   TIPSHARE_ANSWER_PLACES);
+}
+static void exact_it()
+{
+    tipshare_exact(board.narrow, board.narrow_length, board.mounted, board.price, plan, sizeof plan, sets_of_tips,
+                   sizeof sets_of_tips / sizeof sets_of_tips[0], answer, TIPSHARE_ANSWER_PLACES);
+}
+static void along_it()
+{
+    tipshare_along(board.file, board.length, board.mounted, plan, sizeof plan, answer, TIPSHARE_ANSWER_PLACES);
 }
 static void check_it()
 {
@@ -101,15 +117,38 @@ static void order_it()
     tipshare_order(board.parts, board.parts_length, board.rules, board.rules_length, order, sizeof order, answer,
                    TIPSHARE_ANSWER_PLACES);
 }
+static void windows_it()
+{
+    tipshare_windows(board.parts, board.parts_length, board.rules, board.rules_length, order, sizeof order,
+                     last_positions, sizeof last_positions, answer, TIPSHARE_ANSWER_PLACES);
+}
+static void order_by_tips_it()
+{
+    tipshare_order_by_tips(board.parts, board.parts_length, board.rules, board.rules_length, board.tips_of_parts,
+                           sizeof board.tips_of_parts, board.mounted, order, sizeof order, answer,
+                           TIPSHARE_ANSWER_PLACES);
+}
 static void report_it() { tipshare_report(board.file, board.length, text, sizeof text); }
 
 static const struct {
     const char *name;
     void (*make)();
-} calls[] = {{"tipshare_read", read_it},   {"tipshare_common", common_it}, {"tipshare_keep", keep_it},
-             {"tipshare_goal", goal_it},   {"tipshare_quick", quick_it},   {"tipshare_best", best_it},
-             {"tipshare_check", check_it}, {"tipshare_junior", junior_it}, {"tipshare_merge", merge_it},
-             {"tipshare_alone", alone_it}, {"tipshare_mend", mend_it},     {"tipshare_order", order_it},
+} calls[] = {{"tipshare_read", read_it},
+             {"tipshare_common", common_it},
+             {"tipshare_keep", keep_it},
+             {"tipshare_goal", goal_it},
+             {"tipshare_quick", quick_it},
+             {"tipshare_best", best_it},
+             {"tipshare_exact", exact_it},
+             {"tipshare_along", along_it},
+             {"tipshare_check", check_it},
+             {"tipshare_junior", junior_it},
+             {"tipshare_merge", merge_it},
+             {"tipshare_alone", alone_it},
+             {"tipshare_mend", mend_it},
+             {"tipshare_order", order_it},
+             {"tipshare_windows", windows_it},
+             {"tipshare_order_by_tips", order_by_tips_it},
              {"tipshare_report", report_it}};
 enum { CALLS = sizeof calls / sizeof calls[0] };
 
@@ -217,6 +256,9 @@ static void make_parts()
         board.rules[TIPSHARE_RULE_PLACES * rule] = (uint32_t)rand() % later;
         board.rules[TIPSHARE_RULE_PLACES * rule + 1] = later;
     }
+    for (uint8_t &tip : board.tips_of_parts) {
+        tip = (uint8_t)(rand() % 64);
+    }
     board.parts_length = TIPSHARE_PART_PLACES * count;
     board.rules_length = TIPSHARE_RULE_PLACES * rule_count;
 }
@@ -242,6 +284,11 @@ static void make_board(int number)
     };
     board.length = written(board.file, lines);
     board.half_length = written(board.half, lines / 2);
+    board.price = number % 2 == 0 ? 0 : (uint32_t)rand();
+    for (int line = 0; line < lines; line++) {
+        sets[line] = any_set(tips < 20 ? tips : 1 + number % 20);
+    }
+    board.narrow_length = written(board.narrow, lines);
     // Every other board is mended as it is.
     memcpy(board.damaged, board.file, board.length);
     board.damaged_length = board.length - (size_t)(number % 2);
@@ -316,7 +363,8 @@ int main(int count, char **words)
     for (int number = 0; number < BOARDS; number++) {
         make_board(number);
         for (int call = 0; call < CALLS + 2; call++) {
-            if (call < CALLS && calls[call].make == goal_it && number % SLOW > 1) {
+            const bool slow = call < CALLS && (calls[call].make == goal_it || calls[call].make == exact_it);
+            if (slow && number % SLOW > 1) {
                 continue;
             }
             const size_t bytes = used_by(call);

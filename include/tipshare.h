@@ -47,8 +47,9 @@
  * The stack that a call needs on Linux, in KB of 1,024 bytes, measured on three
  * processors, 1 KB or more added, rounded up (docs/PERFORMANCE.md):
  *
- *   read 5, common 10, keep 10, goal 95, quick 20, best 33, check 26, junior 9,
- *   merge 18, alone 25, mend 5, order 20, report 49
+ *   read 5, common 10, keep 10, goal 95, quick 20, best 33, along 10, check 26,
+ *   junior 9, merge 18, alone 25, mend 5, order 28, windows 30,
+ *   order_by_tips 31, report 49
  *
  * These are for a program that looks functions up at their first calls (-z lazy):
  * the call itself in the shared library, memset and memcpy in the static one. The
@@ -161,8 +162,8 @@
 extern "C" {
 #endif
 
-#define TIPSHARE_VERSION "2.0.0" /* of this header; tipshare_version() is that of the library linked */
-#define TIPSHARE_VERSION_MAJOR 2
+#define TIPSHARE_VERSION "3.0.0" /* of this header; tipshare_version() is that of the library linked */
+#define TIPSHARE_VERSION_MAJOR 3
 #define TIPSHARE_VERSION_MINOR 0
 #define TIPSHARE_VERSION_PATCH 0
 
@@ -587,7 +588,7 @@ size_t tipshare_report(const uint8_t *file, size_t file_len,
 const char *tipshare_words(uint32_t number);
 
 /*
- * The version of the library, as "2.0.0". A program built with this header takes
+ * The version of the library, as "3.0.0". A program built with this header takes
  * any library of the same first number that is not older. Not proved.
  */
 const char *tipshare_version(void);

@@ -18,7 +18,7 @@ import operator
 import os
 import pathlib
 
-__version__ = "2.0.0"
+__version__ = "3.0.0"
 __all__ = [
     "Refused", "Plan", "Part", "plan", "job", "read", "common", "keep", "goal", "quick", "best", "along", "exact",
     "check", "junior", "merge", "alone", "mend", "order", "windows", "order_by_tips",
@@ -34,7 +34,7 @@ MOST_PARTS = 128
 EXACT_TIPS = 20
 _REPORT_SPACE = 16384
 _NO_TIP = ctypes.c_size_t(-1).value
-_NAME = "libtipshare.so.2"
+_NAME = "libtipshare.so.3"
 
 
 class Refused(Exception):

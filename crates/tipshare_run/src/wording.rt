@@ -16,7 +16,7 @@ pub const WRITE_ADVICE: [u8; 60] =
 pub const USAGE: [u8; 70] =
     *b"usage: tipshare < JOB-FILE, or tipshare --help, or tipshare --version\n";
 
-pub const VERSION: [u8; 15] = *b"tipshare 2.0.0\n";
+pub const VERSION: [u8; 15] = *b"tipshare 3.0.0\n";
 
 pub const HELP: [u8; 983] =
     *b"tipshare < JOB-FILE     plan which tip of the rack picks each line of a job file\n\

@@ -14,7 +14,7 @@ use crate::orders::Orders;
 const NOT_GIVEN: u64 = u64::MAX;
 
 /// The calls that `every` makes on a record, and with which numbers.
-const EVERY_CALL: [(&str, &[u64]); 13] = [
+const EVERY_CALL: [(&str, &[u64]); 14] = [
     ("add", &[1, 1]),
     ("close", &[]),
     ("common", &[]),
@@ -26,6 +26,7 @@ const EVERY_CALL: [(&str, &[u64]); 13] = [
     ("check", &[0]),
     ("junior", &[]),
     ("along", &[]),
+    ("exact", &[1]),
     ("merge", &[]),
     ("alone", &[]),
 ];
@@ -202,6 +203,21 @@ impl State {
         format!(" {} changes {} pairs {} plan{plan}{board}", show_number(&answer), found.changes, found.pairs)
     }
 
+    fn exact(&mut self, price: u64, plan_room: u64, places: u64, tip: u64) -> String {
+        let empty = junk::place(self.junk);
+        self.plan.fill(self.junk);
+        self.table.fill(empty);
+        let price = price.try_into().expect("a price");
+        let (room, places) = (room(plan_room, junk::PLAN), room(places, junk::TABLE));
+        let answer = self.board.clone().exact(mounted(tip), price, &mut self.plan[..room], &mut self.table[..places]);
+        let written_places = if answer.number == 0 { 2 << self.board.named_tips().count_ones() } else { 0 };
+        let plan = show_list(&self.plan, self.junk, written(&answer, self.board.count));
+        let table = show_list(&self.table, empty, written_places);
+        let board = show_board(&self.board, &answer.board);
+        let found = answer.value;
+        format!(" {} pairs {} tips {} plan{plan} table{table}{board}", show_number(&answer), found.pairs, found.tips)
+    }
+
     fn check(&self, claim: u64, plan_room: u64, places: u64) -> String {
         let (room, places) = (room(plan_room, junk::PLAN), room(places, junk::TABLE));
         let claim = claim.try_into().expect("a claim");
@@ -298,6 +314,10 @@ impl State {
             ("along", []) => self.along(NOT_GIVEN, NOT_GIVEN),
             ("along", &[room]) => self.along(room, NOT_GIVEN),
             ("along", &[room, tip]) => self.along(room, tip),
+            ("exact", &[price]) => self.exact(price, NOT_GIVEN, NOT_GIVEN, NOT_GIVEN),
+            ("exact", &[price, room]) => self.exact(price, room, NOT_GIVEN, NOT_GIVEN),
+            ("exact", &[price, room, places]) => self.exact(price, room, places, NOT_GIVEN),
+            ("exact", &[price, room, places, tip]) => self.exact(price, room, places, tip),
             ("merge", []) => self.merge(),
             ("alone", []) => self.alone(NOT_GIVEN),
             ("alone", &[room]) => self.alone(room),

@@ -8,8 +8,11 @@ use crate::boards::placed_board;
 use crate::every_plan::{all_sets, check, counted, every_board};
 use crate::junk;
 
-/// Of some boards, the calls of keep and those that it and best sharing refuse, and the plans along the list, one without a
-/// mounted tip and one from each tip; every other call is made once on each board.
+/// At how many prices exact sharing is tried on each board.
+const PRICES: usize = 4;
+
+/// Of some boards, the calls of keep and those that it and best sharing refuse, the plans along the list, one without a
+/// mounted tip and one from each tip, and exact sharing at each price; every other call is made once on each board.
 #[derive(Clone, Copy, Default)]
 struct Tally {
     boards: usize,
@@ -17,6 +20,7 @@ struct Tally {
     keeps_refused: usize,
     bests_refused: usize,
     alongs: usize,
+    exacts: usize,
 }
 
 impl Tally {
@@ -27,16 +31,17 @@ impl Tally {
             keeps_refused: self.keeps_refused + other.keeps_refused,
             bests_refused: self.bests_refused + other.bests_refused,
             alongs: self.alongs + other.alongs,
+            exacts: self.exacts + other.exacts,
         }
     }
 
     /// Every board is held to every plan before it is counted, so that nothing is wrong.
     fn show(self, words: &str) -> String {
-        let Tally { boards, keeps, keeps_refused, bests_refused, alongs } = self;
+        let Tally { boards, keeps, keeps_refused, bests_refused, alongs, exacts } = self;
         format!(
             "{words} boards {boards} wrong 0; common tip {boards} wrong 0; \
              keep {keeps} refused 26: {keeps_refused} wrong 0; quick {boards} wrong 0; \
-             best {boards} refused 25: {bests_refused} wrong 0; along {alongs} wrong 0"
+             best {boards} refused 25: {bests_refused} wrong 0; along {alongs} wrong 0; exact {exacts} wrong 0"
         )
     }
 }
@@ -57,6 +62,7 @@ fn tally(board: &Board) -> Tally {
         keeps_refused: bounds.filter(is_keep_refused).count(),
         bests_refused: usize::from(is_best_refused(board)),
         alongs: board.rack + 1,
+        exacts: PRICES,
     }
 }
 
