@@ -22,6 +22,8 @@ constexpr size_t kFilesCounted = 8;
 /* Where a call takes longer than a batch, each batch goes through so many files, in fewer rounds: about so many nanoseconds. */
 constexpr size_t kFilesOfSlow = 3;
 constexpr double kSlowRounds = 5e8;
+/* The price of a tip in exact sharing. */
+constexpr uint32_t kPrice = 10;
 
 /* One implementation of include/tipshare.h. */
 struct Library {
@@ -33,39 +35,67 @@ struct Library {
     decltype(&tipshare_goal) goal;
     decltype(&tipshare_quick) quick;
     decltype(&tipshare_best) best;
+    decltype(&tipshare_along) along;
+    decltype(&tipshare_exact) exact;
     decltype(&tipshare_check) check;
     decltype(&tipshare_junior) junior;
     decltype(&tipshare_merge) merge;
     decltype(&tipshare_alone) alone;
     decltype(&tipshare_mend) mend;
     decltype(&tipshare_order) order;
+    decltype(&tipshare_windows) windows;
+    decltype(&tipshare_order_by_tips) order_by_tips;
     decltype(&tipshare_report) report;
 };
 
 const Library kLibraries[] = {
     {"tipshare", "proved", tipshare_read, tipshare_common, tipshare_keep, tipshare_goal, tipshare_quick,
-     tipshare_best, tipshare_check, tipshare_junior, tipshare_merge, tipshare_alone,
-     tipshare_mend, tipshare_order, tipshare_report},
+     tipshare_best, tipshare_along, tipshare_exact, tipshare_check, tipshare_junior, tipshare_merge, tipshare_alone,
+     tipshare_mend, tipshare_order, tipshare_windows, tipshare_order_by_tips, tipshare_report},
     {"baseline", "same steps", baseline_read, baseline_common, baseline_keep, baseline_goal, baseline_quick,
-     baseline_best, baseline_check, baseline_junior, baseline_merge, baseline_alone,
-     baseline_mend, baseline_order, baseline_report},
-    {"tuned", "tuned", tuned_read, tuned_common, tuned_keep, tuned_goal, tuned_quick, tuned_best, tuned_check,
-     tuned_junior, tuned_merge, tuned_alone, tuned_mend, tuned_order, tuned_report},
+     baseline_best, baseline_along, baseline_exact, baseline_check, baseline_junior, baseline_merge, baseline_alone,
+     baseline_mend, baseline_order, baseline_windows, baseline_order_by_tips, baseline_report},
+    {"tuned", "tuned", tuned_read, tuned_common, tuned_keep, tuned_goal, tuned_quick, tuned_best, tuned_along,
+     tuned_exact, tuned_check, tuned_junior, tuned_merge, tuned_alone, tuned_mend, tuned_order, tuned_windows,
+     tuned_order_by_tips, tuned_report},
 };
 constexpr size_t kNumber = std::size(kLibraries);
 
-enum class Call { read, common, keep, goal, quick, best, check, junior, merge, alone, mend, order, report };
+enum class Call {
+    read,
+    common,
+    keep,
+    goal,
+    quick,
+    best,
+    along,
+    exact,
+    check,
+    junior,
+    merge,
+    alone,
+    mend,
+    order,
+    windows,
+    order_by_tips,
+    report
+};
 
 struct NamedCall {
     Call call;
     const char *name;
 };
 
-const NamedCall kCalls[] = {{Call::read, "read"},   {Call::common, "common"}, {Call::keep, "keep"},
-                            {Call::goal, "goal"},   {Call::quick, "quick"},   {Call::best, "best"},
-                            {Call::check, "check"}, {Call::junior, "junior"}, {Call::merge, "merge"},
-                            {Call::alone, "alone"}, {Call::mend, "mend"},     {Call::order, "order"},
-                            {Call::report, "report"}};
+const NamedCall kCalls[] = {{Call::read, "read"}, {Call::common, "common"}, {Call::keep, "keep"},
+                            {Call::goal, "goal"}, {Call::quick, "quick"}, {Call::best, "best"},
+                            {Call::along, "along"}, {Call::exact, "exact"}, {Call::check, "check"},
+                            {Call::junior, "junior"}, {Call::merge, "merge"}, {Call::alone, "alone"},
+                            {Call::mend, "mend"}, {Call::order, "order"}, {Call::windows, "windows"},
+                            {Call::order_by_tips, "order_by_tips"}, {Call::report, "report"}};
+
+/* The most named tips of exact sharing, and the most places of its table. */
+constexpr size_t kExactTips = 20;
+constexpr size_t kExactPlaces = size_t{2} << kExactTips;
 
 /* What a call can write to, lent at the lengths that always do. */
 struct Buffers {
@@ -74,6 +104,8 @@ struct Buffers {
     alignas(64) uint8_t out[TIPSHARE_REPORT_SPACE];
     alignas(64) uint8_t changes[TIPSHARE_LONGEST_CHANGES];
     alignas(64) uint8_t order[TIPSHARE_MOST_PARTS];
+    alignas(64) uint8_t first[TIPSHARE_MOST_PARTS];
+    alignas(64) uint8_t last[TIPSHARE_MOST_PARTS];
     alignas(64) uint64_t answer[TIPSHARE_ANSWER_PLACES];
 
     void fill_with_junk()
@@ -90,9 +122,13 @@ struct Buffers {
     {
         return memcmp(plan, other.plan, sizeof plan) == 0 && memcmp(table, other.table, sizeof table) == 0 &&
                memcmp(out, other.out, sizeof out) == 0 && memcmp(changes, other.changes, sizeof changes) == 0 &&
-               memcmp(order, other.order, sizeof order) == 0 && memcmp(answer, other.answer, sizeof answer) == 0;
+               memcmp(order, other.order, sizeof order) == 0 && memcmp(first, other.first, sizeof first) == 0 &&
+               memcmp(last, other.last, sizeof last) == 0 && memcmp(answer, other.answer, sizeof answer) == 0;
     }
 };
+
+/* The placements within each set of tips, and its score: the table of exact sharing alone. */
+alignas(64) uint32_t of_sets[kExactPlaces];
 
 uint64_t make_call(const Library &library, Call call, const File &file, Buffers &lent)
 {
@@ -111,6 +147,11 @@ uint64_t make_call(const Library &library, Call call, const File &file, Buffers 
     case Call::best:
         return library.best(bytes, length, file.mounted, lent.plan, sizeof lent.plan, lent.table, TIPSHARE_MOST_PLACES,
                             lent.answer, places);
+    case Call::along:
+        return library.along(bytes, length, file.mounted, lent.plan, sizeof lent.plan, lent.answer, places);
+    case Call::exact:
+        return library.exact(bytes, length, file.mounted, kPrice, lent.plan, sizeof lent.plan, of_sets, kExactPlaces,
+                             lent.answer, places);
     case Call::check:
         return library.check(bytes, length, file.plan.data(), file.plan.size(), file.claim, file.table.data(),
                              file.table.size(), lent.answer, places);
@@ -127,6 +168,13 @@ uint64_t make_call(const Library &library, Call call, const File &file, Buffers 
     case Call::order:
         return library.order(file.parts.data(), file.parts.size(), file.rules.data(), file.rules.size(), lent.order,
                              sizeof lent.order, lent.answer, places);
+    case Call::windows:
+        return library.windows(file.parts.data(), file.parts.size(), file.rules.data(), file.rules.size(), lent.first,
+                               sizeof lent.first, lent.last, sizeof lent.last, lent.answer, places);
+    case Call::order_by_tips:
+        return library.order_by_tips(file.parts.data(), file.parts.size(), file.rules.data(), file.rules.size(),
+                                     file.plan.data(), file.plan.size(), file.mounted, lent.order, sizeof lent.order,
+                                     lent.answer, places);
     case Call::report: return library.report(bytes, length, lent.out, sizeof lent.out);
     }
     return 0;
@@ -136,14 +184,21 @@ uint64_t make_call(const Library &library, Call call, const File &file, Buffers 
 bool all_agree(Call call, const char *call_name, const Boards &boards)
 {
     static Buffers expected, other;
-    const size_t files = call == Call::goal ? std::min(kFilesOfSlow, boards.files.size()) : boards.files.size();
+    static uint32_t expected_sets[kExactPlaces];
+    const bool slow = call == Call::goal || call == Call::exact || call == Call::windows;
+    const size_t files = slow ? std::min(kFilesOfSlow, boards.files.size()) : boards.files.size();
+    const size_t bytes_of_sets = call == Call::exact ? sizeof of_sets : 0;
     for (size_t number = 0; number < files; number++) {
         const File &file = boards.files[number];
         expected.fill_with_junk();
+        memset(of_sets, 0xA5, bytes_of_sets);
         const uint64_t returned = make_call(kLibraries[0], call, file, expected);
+        memcpy(expected_sets, of_sets, bytes_of_sets);
         for (size_t i = 1; i < kNumber; i++) {
             other.fill_with_junk();
-            if (make_call(kLibraries[i], call, file, other) != returned || !other.equals(expected)) {
+            memset(of_sets, 0xA5, bytes_of_sets);
+            if (make_call(kLibraries[i], call, file, other) != returned || !other.equals(expected) ||
+                memcmp(of_sets, expected_sets, bytes_of_sets) != 0) {
                 fprintf(stderr, "%s and %s differ: %s on file %zu of %s\n", kLibraries[0].title, kLibraries[i].title,
                         call_name, number, boards.name.c_str());
                 return false;
@@ -316,12 +371,16 @@ std::string shown(double nanoseconds)
 }
 
 /*
- * A goal, best sharing and the check refuse a board with a line that is no run, and the Junior what it has no two tips
- * for, so there is nothing to time; an order is no board.
+ * A goal, best sharing and the check refuse a board with a line that is no run, the Junior what it has no two tips for, and
+ * exact sharing what names more than 20 tips, so there is nothing to time; parts and rules are no board. Boards for exact
+ * sharing are measured with that call alone.
  */
 bool is_measured(const NamedCall &named, const Boards &boards, const Settings &settings)
 {
-    if (boards.is_order() != (named.call == Call::order)) {
+    const bool on_parts =
+        named.call == Call::order || named.call == Call::windows || named.call == Call::order_by_tips;
+    if (boards.is_order() != on_parts || (boards.exact_tips != 0 && named.call != Call::exact) ||
+        (named.call == Call::exact && boards.exact_tips == 0 && boards.rack > kExactTips)) {
         return false;
     }
     const bool needs_runs = named.call == Call::goal || named.call == Call::best || named.call == Call::check;
@@ -436,9 +495,15 @@ bool growth(const Settings &settings, Output &output)
 /* Boards of one size: the largest with quantities 1 and with others, and small ones. */
 enum Size { kFull, kCounted, kSmall, kSizes };
 
-/* The size of a board for a call, or kSizes: the largest are 64 lines and 8 tips for the Junior, 128 parts for the order. */
+/*
+ * The size of a board for a call, or kSizes: the largest are 64 lines and 8 tips for the Junior, 128 parts for an order, and 20
+ * named tips for exact sharing, whose other sizes are told apart by their names.
+ */
 Size size_of(Call call, const Boards &boards)
 {
+    if (boards.exact_tips != 0) {
+        return boards.exact_tips == kExactTips ? (boards.counted ? kCounted : kFull) : kSmall;
+    }
     const bool junior = call == Call::junior;
     const size_t lines = junior ? TIPSHARE_JUNIOR_LINES : TIPSHARE_MOST_LINES;
     const size_t rack = junior ? TIPSHARE_JUNIOR_TIPS : TIPSHARE_MOST_TIPS;
@@ -454,7 +519,8 @@ Size size_of(Call call, const Boards &boards)
 /* The ratio to the tuned C++ that is wanted. */
 double wanted(Call call, Size size)
 {
-    return call == Call::goal || (size == kSmall && call != Call::order) ? 1.5 : 1.2;
+    const bool on_parts = call == Call::order || call == Call::windows || call == Call::order_by_tips;
+    return call == Call::goal || (size == kSmall && !on_parts) ? 1.5 : 1.2;
 }
 
 /* Two times in the unit of the larger. */
@@ -614,7 +680,8 @@ const char kUsage[] =
     "bench --callgrind CALL BOARD LIBRARY [TIMES]                make one call only, and print how often it was made\n"
     "bench --list                                                the calls and boards, a pair a line\n"
     "bench --boards                                              the boards, described\n"
-    "CALL: read, common, keep, goal, quick, best, check, junior, merge, alone, mend, order, report.\n"
+    "CALL: read, common, keep, goal, quick, best, along, exact, check, junior, merge, alone, mend, order, windows,\n"
+    "order_by_tips, report.\n"
     "LIBRARY: tipshare, baseline, tuned.\n";
 
 int usage()

@@ -245,6 +245,13 @@ Boards with_mounted(Boards boards, size_t tip)
     return boards;
 }
 
+/* The boards, for exact sharing alone. */
+Boards for_exact(Boards boards)
+{
+    boards.exact_tips = boards.rack;
+    return boards;
+}
+
 }  // namespace
 
 std::vector<Boards> main_boards(const std::string &only)
@@ -284,6 +291,16 @@ std::vector<Boards> main_boards(const std::string &only)
     add("runs-of-1", "any-runs in a file of version 2, every quantity 1", 512, 64, any_run, all_1);
     if (is_wanted("runs-mounted")) {
         all.push_back(with_mounted(boards_of("runs-mounted", "any-runs with the last tip mounted", 512, 64, any_run), 63));
+    }
+    for (const size_t tips : {8, 12, 16, 20}) {
+        const std::string name = "exact-" + std::to_string(tips);
+        if (is_wanted(name)) {
+            all.push_back(for_exact(boards_of(name, "exact alone: 1 to 3 tips a line", 512, tips, few_tips)));
+        }
+    }
+    if (is_wanted("exact-counted")) {
+        all.push_back(for_exact(boards_of("exact-counted", "exact-20 with quantities 1 to 7, together 2,048 at most", 512,
+                                          20, few_tips, from_1_to_7)));
     }
     for (Boards &boards : order_boards()) {
         if (is_wanted(boards.name)) {

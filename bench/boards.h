@@ -10,7 +10,7 @@
  * A job file, with the bound that keep is called with, the least that is accepted, so that it strikes tips, the tip that
  * is mounted for the plans, the best plan with its pairs, which are the goal too, and its table, which is checked, the
  * lines in two files, the first half of them and the second, for two boards on one panel, and the file with some lines
- * damaged, to be mended.
+ * damaged, to be mended. Of parts and rules the plan has the tip of each part.
  */
 struct File {
     std::vector<uint8_t> bytes;
@@ -40,6 +40,8 @@ struct Boards {
     bool counted = false;
     // Of parts and rules alone, without a job file, how many parts; else 0.
     size_t parts = 0;
+    // Of a board for exact sharing alone, how many tips are named; else 0.
+    size_t exact_tips = 0;
 
     bool is_order() const { return parts != 0; }
 };

@@ -25,7 +25,7 @@ struct Shared {
     uint32_t tips;
 };
 
-/* What it brings to take a tip that so many placements of a set allow. */
+/* The gain of a tip that this many placements of a set allow: their pairs, or the price for none. */
 inline uint32_t gain_of(uint32_t placements, uint32_t price) { return placements == 0 ? price : pairs_on(placements); }
 
 /* The set of a line by the ranks of the named tips. */

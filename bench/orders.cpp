@@ -11,9 +11,12 @@ namespace {
 /* A number from 0 to most, the same on every machine. */
 uint32_t up_to(std::mt19937 &random, uint32_t most) { return static_cast<uint32_t>(random() % (uint64_t{most} + 1)); }
 
+/* The tips that the parts of an order by tips are on. */
+constexpr uint32_t kTips = 8;
+
 /*
  * Each part has a position of its own, and a window that reaches so far to both sides; a quarter of the positions is for
- * fine parts, a quarter for tall ones; every rule is kept by these positions.
+ * fine parts, a quarter for tall ones; every rule is kept by these positions. Each part is on any of a few tips.
  */
 File file_of(uint32_t seed, uint32_t count, uint32_t rules, uint32_t reach)
 {
@@ -31,6 +34,10 @@ File file_of(uint32_t seed, uint32_t count, uint32_t rules, uint32_t reach)
         const uint32_t fine = at < count / 4, tall = at >= count - count / 4;
         file.parts.insert(file.parts.end(), {first, last, fine, tall});
     }
+    for (uint32_t part = 0; part < count; part++) {
+        file.plan.push_back(static_cast<uint8_t>(up_to(random, kTips - 1)));
+    }
+    file.mounted = 0;
     while (file.rules.size() < TIPSHARE_RULE_PLACES * rules) {
         const uint32_t one = up_to(random, count - 1), other = up_to(random, count - 1);
         if (position[one] < position[other]) {
@@ -55,10 +62,10 @@ Boards boards_of(const char *name, const char *description, uint32_t count, uint
 std::vector<Boards> order_boards()
 {
     return {
-        boards_of("parts-wide", "order alone: 128 parts, each at up to 128 positions, and 1,000 rules", 128, 1000, 128),
-        boards_of("parts-narrow", "order alone: 128 parts, each at up to 17 positions, and 1,000 rules", 128, 1000, 8),
-        boards_of("parts-no-rules", "order alone: 128 parts, each at up to 65 positions, no rule", 128, 0, 32),
-        boards_of("parts-20", "order alone: 20 parts, each at up to 17 positions, and 10 rules", 20, 10, 8),
+        boards_of("parts-wide", "parts alone: 128, each at up to 128 positions, and 1,000 rules", 128, 1000, 128),
+        boards_of("parts-narrow", "parts alone: 128, each at up to 17 positions, and 1,000 rules", 128, 1000, 8),
+        boards_of("parts-no-rules", "parts alone: 128, each at up to 65 positions, no rule", 128, 0, 32),
+        boards_of("parts-20", "parts alone: 20, each at up to 17 positions, and 10 rules", 20, 10, 8),
     };
 }
 

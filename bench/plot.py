@@ -24,15 +24,18 @@ BOUNDS = {
     "alone": ("n · rounds, of each board", lambda at: at["half_rounds"]),
     "best": TABLE,
     "check": TABLE,
+    "along": LINES,
     "goal": ("(1 + d) · m³/2", lambda at: (1 + at["distinct"]) * at["tips"] ** 3 / 2),
     "junior": ("n · m²/2", lambda at: at["lines"] * at["tips"] ** 2 / 2),
     "report": ("n · rounds + r³/6", lambda at: at["line_rounds"] + at["named"] ** 3 / 6),
     "order": ("parts²", lambda at: at["parts"] ** 2),
+    "order_by_tips": ("parts²", lambda at: at["parts"] ** 2),
+    "windows": ("parts³ · log parts", lambda at: at["parts"] ** 3 * math.log2(at["parts"])),
 }
 TITLES = {
     "lines": "Time a call against lines, 64 tips (the Junior: 8 tips)",
     "tips": "Time a call against tips, 512 lines (the Junior: 64 lines)",
-    "parts": "Time of the placing order against parts, each anywhere, eight rules a part",
+    "parts": "Time of the calls on parts and rules against parts, each anywhere, eight rules a part",
     "rack": "The same 20 lines on 8 named tips, in a rack of 8 and of 64",
 }
 LIBRARIES = {"tipshare": "proved", "baseline": "C++, same steps", "tuned": "C++, tuned"}

@@ -1266,7 +1266,7 @@ struct Scores {
     uint32_t *score;
     uint32_t price;
 
-    /* The gains of four tips with so many placements: half of p * (p - 1), or the price for none. */
+    /* The gains of four tips with p placements each: half of p * (p - 1), or the price for none. */
     static __m128i gains(__m128i placements, __m128i price)
     {
         const __m128i others = _mm_add_epi32(placements, _mm_set1_epi32(-1));

@@ -47,8 +47,8 @@
  * The stack that a call needs on Linux, in KB of 1,024 bytes, measured on three
  * processors, 1 KB or more added, rounded up (docs/PERFORMANCE.md):
  *
- *   read 5, common 10, keep 10, goal 95, quick 20, best 33, along 10, check 26,
- *   junior 9, merge 18, alone 25, mend 5, order 28, windows 30,
+ *   read 5, common 10, keep 10, goal 95, quick 20, best 33, exact 14, along 10,
+ *   check 26, junior 9, merge 18, alone 25, mend 5, order 28, windows 30,
  *   order_by_tips 31, report 49
  *
  * These are for a program that looks functions up at their first calls (-z lazy):
@@ -124,9 +124,9 @@
  *    24  the Junior, and the file has more     split the parts list; for
  *        than 64 lines; tipshare_merge, and    tipshare_merge make two panels
  *        both have more than 512 together
- *    25  line answer[0], the first such, is    use tipshare_quick, which takes
- *        no run: it lacks a tip between its    any lines
- *        lowest and its highest that another
+ *    25  line answer[0], the first such, is    use tipshare_exact, for up to 20
+ *        no run: it lacks a tip between its    different tips, or
+ *        lowest and its highest that another   tipshare_quick
  *        line has
  *    26  no plan has at most k placements off  raise k by at least -margin, the
  *        its most used tip; answer[1] is the   margin being (int64_t)answer[1]

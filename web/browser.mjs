@@ -129,6 +129,11 @@ async function drive() {
   await holds("the table is remembered", "localStorage.getItem('tipshare-table') === at('tips').value");
   await set("tips", "rack 1\nskip Fiducial*\n", "input");
   await holds("packages without a row can be added", "[...document.querySelectorAll('#faults button')].some(one => one.textContent === 'Add a row')");
+  await value("[...document.querySelectorAll('#faults button')].find(one => one.textContent === 'Add a row').click()");
+  await holds("an added row has no tip, and is refused", "/ : \\n$/.test(at('tips').value) && at('faults').textContent.includes('no tip after the colon')");
+  await holds("its tips are typed behind the colon", "at('tips').selectionStart === at('tips').value.length - 1 && document.activeElement === at('tips')");
+  await set("tips", "", "input");
+  await holds("an empty table of tips is named", "at('faults').textContent.startsWith('The table of tips is empty.')");
   await value("at('forget').click()");
 
   // A job file, and a second board.

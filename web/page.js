@@ -193,16 +193,18 @@ function rows_of(csv) {
 
 // ---- faults, each at its line, with what can be clicked
 
+const EMPTY_TABLE = "The table of tips is empty. Write `rack 4` there if your rack has 4 tips, then a row for each package.";
+
 function refuse(why) {
   at("shown").hidden = true;
   const found = why.split("\n").map(line => {
     const told = document.createElement("p");
-    told.append(line + " ");
     const [, file, number] = line.match(/^([^:]+):(\d+):/) ?? [];
+    told.append((file === "tips" && !at("tips").value.trim() ? EMPTY_TABLE : line) + " ");
     if (number) told.append(button("Go to the line", () => go_to(file === "tips" ? "tips" : "list", Number(number))));
     const [, pattern] = line.match(/add `([^`]+) : TIPS`/) ?? [];
     if (pattern) {
-      told.append(button("Add a row", () => add_row(pattern + " : 0")), button("Leave it out", () => add_row("skip " + pattern)));
+      told.append(button("Add a row", () => add_row(pattern + " : ")), button("Leave it out", () => add_row("skip " + pattern)));
     }
     return told;
   });
@@ -226,7 +228,10 @@ function add_row(text) {
   const before = at("tips").value.trimEnd();
   at("tips").value = (before || "rack 1") + "\n" + text + "\n";
   table_changed();
-  go_to("tips", at("tips").value.split("\n").length - 1);
+  // A row without its tips is a fault: the cursor is where they are to be typed.
+  const end = at("tips").value.length - 1;
+  at("tips").focus();
+  at("tips").setSelectionRange(end, end);
 }
 
 // ---- the table of tips is kept in the browser, where that is allowed

@@ -272,6 +272,62 @@ static void print_order(const uint32_t *parts, size_t count, const uint32_t *rul
 }
 
 /* Calls each function on one file. */
+/* Prints the plan with the fewest tip changes along the list, and the plan of exact sharing at a price for each tip. */
+static void print_changes(const uint8_t *file, size_t file_len, size_t lines, uint32_t price)
+{
+    uint8_t plan[TIPSHARE_MOST_LINES];
+    static uint32_t table[TIPSHARE_EXACT_PLACES];
+    uint64_t answer[TIPSHARE_ANSWER_PLACES];
+    uint32_t number =
+        tipshare_along(file, file_len, TIPSHARE_NO_TIP, plan, sizeof plan, answer, TIPSHARE_ANSWER_PLACES);
+    if (number == TIPSHARE_ACCEPTED) {
+        printf("along: tip changes %" PRIu64 ", pairs %" PRIu64 ", plan", answer[1], answer[2]);
+        print_plan(plan, lines);
+        printf("\n");
+    } else {
+        print_refusal("along", number, answer[0]);
+    }
+
+    number = tipshare_exact(file, file_len, TIPSHARE_NO_TIP, price, plan, sizeof plan, table, TIPSHARE_EXACT_PLACES,
+                            answer, TIPSHARE_ANSWER_PLACES);
+    if (number == TIPSHARE_ACCEPTED) {
+        printf("exact at price %" PRIu32 ": pairs %" PRIu64 ", tips %" PRIu64 ", plan", price, answer[1], answer[2]);
+        print_plan(plan, lines);
+        printf("\n");
+    } else {
+        print_refusal("exact", number, answer[0]);
+    }
+}
+
+/* Prints the first and the last position that each part can have, and the order by the tips of the parts. */
+static void print_positions(const uint32_t *parts, size_t count, const uint32_t *rules, size_t rule_count,
+                            const uint8_t *plan, size_t mounted)
+{
+    uint8_t first[TIPSHARE_MOST_PARTS], last[TIPSHARE_MOST_PARTS], order[TIPSHARE_MOST_PARTS];
+    uint64_t answer[TIPSHARE_ANSWER_PLACES];
+    uint32_t number = tipshare_windows(parts, TIPSHARE_PART_PLACES * count, rules, TIPSHARE_RULE_PLACES * rule_count,
+                                       first, sizeof first, last, sizeof last, answer, TIPSHARE_ANSWER_PLACES);
+    if (number == TIPSHARE_ACCEPTED) {
+        printf("windows:");
+        for (size_t part = 0; part < count; part++) {
+            printf(" %u-%u", (unsigned)first[part], (unsigned)last[part]);
+        }
+        printf("\n");
+    } else {
+        print_refusal("windows", number, answer[0]);
+    }
+
+    number = tipshare_order_by_tips(parts, TIPSHARE_PART_PLACES * count, rules, TIPSHARE_RULE_PLACES * rule_count, plan,
+                                    count, mounted, order, sizeof order, answer, TIPSHARE_ANSWER_PLACES);
+    if (number == TIPSHARE_ACCEPTED) {
+        printf("order by tips:");
+        print_plan(order, count);
+        printf(", tip changes %" PRIu64 "\n", answer[2]);
+    } else {
+        print_refusal("order by tips", number, answer[0]);
+    }
+}
+
 static void print_all(const uint8_t *file, size_t file_len)
 {
     static uint8_t text[TIPSHARE_REPORT_SPACE];
@@ -369,5 +425,12 @@ int main(void)
     print_order(parts, 4, rules, 2);
     print_order(parts, 4, rules, 3);
     print_order(parts, 3, rules, 0);
+
+    printf("\nThe positions of these parts by the one rule, and their order by tips 1, 2, 1 and 1 with tip 1 on the head\n");
+    const uint8_t tips[4] = {1, 2, 1, 1};
+    print_positions(parts, 4, rules, 1, tips, 1);
+
+    printf("\nThe four lines above, with the fewest tip changes along the list, and exactly\n");
+    print_changes(file, job_file(file, 9, 4, four_lines, NULL), 4, 0);
     return 0;
 }

@@ -137,7 +137,7 @@ fn price_of_a_tip_decides_exact_sharing() {
         assert_eq!(exact(&many, Some(mounted), 0, &mut [], &mut []), Err(refused(16, 0, 0)));
     }
     assert_eq!(exact(&many[..7], Some(21), 0, &mut [], &mut []), Err(refused(6, 0, 0)));
-    assert_eq!(refused(35, 0, 0).to_string(), "refused 35: the lines name more than 20 tips");
+    assert_eq!(refused(35, 0, 0).to_string(), "refused 35: the lines have more than 20 different tips");
 }
 
 #[test]

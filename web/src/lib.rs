@@ -207,9 +207,16 @@ fn numbers_of(plans: &Plans, exact: Option<&Plan>) -> Vec<Vec<u8>> {
 /// In this order: rack, parts, placements, the least k, the numbers of the three plans, why there is no best plan and why no
 /// exact one, the drawing, the job file, the plans as CSV, the plans in words.
 fn planned(named: &Named, wish: Wish) -> Result<Vec<Vec<u8>>, String> {
-    // A price that is refused is told where the exact plan would be.
-    let exact = named.exact(&job_of(&named.file)?, wish.mounted, wish.price.unwrap_or(0));
-    let plans = named.plans(if exact.is_ok() { wish } else { Wish::mounted(wish.mounted) })?;
+    // If the price is refused, the page says so in the place of the exact plan.
+    let plans = named.plans(wish).or_else(|_| named.plans(Wish::mounted(wish.mounted)))?;
+    let beside_best;
+    let exact = match &plans.exact {
+        Some(exact) => exact,
+        None => {
+            beside_best = named.exact(&plans.job, wish.mounted, wish.price.unwrap_or(0));
+            &beside_best
+        }
+    };
     let sizes = [plans.job.rack, plans.job.lines.len(), plans.job.placements(), plans.common.off as usize];
     let mut answer: Vec<Vec<u8>> = sizes.iter().map(|size| size.to_string().into_bytes()).collect();
     answer.extend(numbers_of(&plans, exact.as_ref().ok()));

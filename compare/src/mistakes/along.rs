@@ -129,7 +129,7 @@ pub(super) const OF_ALONG: &[Mistake] = &[
             lent.answer.inside()[2] = segments.map(|segment| u64::from(pairs_in(segment))).sum();
         })
     }),
-    ("changes and pairs are told in the other order", |call, lent| {
+    ("changes and pairs are returned in the other order", |call, lent| {
         on_along(call, lent, |_, lent| lent.answer.inside().swap(1, 2))
     }),
     ("the last place of the answer has the number of lines along the list", |call, lent| {

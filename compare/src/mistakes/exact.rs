@@ -34,11 +34,13 @@ pub(super) const OF_EXACT: &[Mistake] = &[
             lent.answer.inside()[2] = board.named_tips().count_ones().into();
         })
     }),
-    ("the tips of the plan are not told", |call, lent| on_exact(call, lent, |_, _, lent| lent.answer.inside()[2] = 0)),
-    ("pairs and tips are told in the other order", |call, lent| {
+    ("the tips of the plan are not returned", |call, lent| {
+        on_exact(call, lent, |_, _, lent| lent.answer.inside()[2] = 0)
+    }),
+    ("pairs and tips are returned in the other order", |call, lent| {
         on_exact(call, lent, |_, _, lent| lent.answer.inside().swap(1, 2))
     }),
-    ("the score of all tips is told as the pairs", |call, lent| {
+    ("the score of all tips is returned as the pairs", |call, lent| {
         on_exact(call, lent, |_, _, lent| {
             let (_, scores) = halves(lent);
             lent.answer.inside()[1] = scores[scores.len() - 1].into();
@@ -123,7 +125,7 @@ pub(super) const OF_EXACT: &[Mistake] = &[
     ("the table is looked at before the plan in exact sharing", |call, lent| {
         instead_of(call, lent, 4, |board, table| table < places_of(board), 5)
     }),
-    ("refusal 35 tells the number of named tips", |call, lent| {
+    ("refusal 35 returns the number of named tips", |call, lent| {
         let named = board_of(lent).map_or(0, |board| board.named_tips().count_ones());
         at_refusal(call, lent, &[35], |lent| lent.answer.inside()[0] = named.into())
     }),

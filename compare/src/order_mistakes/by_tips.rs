@@ -98,8 +98,8 @@ pub(super) const OF_ORDERS_BY_TIPS: &[OrderMistake] = &[
         }
         returned
     }),
-    ("the changes are told in the place of the parts", |lent| at_refusal(lent, 0, |answer| answer.swap(1, 2))),
-    ("the changes are not told", |lent| at_refusal(lent, 0, |answer| answer[2] = 0)),
+    ("the changes are returned in the place of the parts", |lent| at_refusal(lent, 0, |answer| answer.swap(1, 2))),
+    ("the changes are not returned", |lent| at_refusal(lent, 0, |answer| answer[2] = 0)),
 ];
 
 pub(super) const OF_BUFFERS: &[OrderMistake] = &[
@@ -113,7 +113,7 @@ pub(super) const OF_BUFFERS: &[OrderMistake] = &[
         }
         returned
     }),
-    ("the last part whose tip is none is told", |lent| {
+    ("the last part whose tip is none is returned", |lent| {
         let count = lent.parts.length / PART_PLACES;
         let tips = lent.plan.inside().to_vec();
         let returned = call_library(lent);
@@ -258,7 +258,7 @@ fn on_order(lent: &mut Buffers, change: impl FnOnce(&[u32], &[u32], &[u8], Optio
     returned
 }
 
-/// Changes the number of changes that was told, given the tips as they are placed, the mounted tip and the number.
+/// Changes the number of changes that was returned, given the tips as they are placed, the mounted tip and the number.
 fn on_changes(lent: &mut Buffers, change: impl FnOnce(&[u8], Option<usize>, u64) -> u64) -> u32 {
     let mounted = mounted_tip(lent);
     let returned = call_library(lent);
@@ -266,8 +266,8 @@ fn on_changes(lent: &mut Buffers, change: impl FnOnce(&[u8], Option<usize>, u64)
         let count = lent.answer.inside()[1] as usize;
         let tips = lent.plan.inside()[..count].to_vec();
         let placed: Vec<u8> = lent.order.inside()[..count].iter().map(|&part| tips[usize::from(part)]).collect();
-        let told = lent.answer.inside()[2];
-        lent.answer.inside()[2] = change(&placed, mounted, told);
+        let returned_changes = lent.answer.inside()[2];
+        lent.answer.inside()[2] = change(&placed, mounted, returned_changes);
     }
     returned
 }

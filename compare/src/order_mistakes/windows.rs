@@ -57,7 +57,7 @@ pub(super) const OF_WINDOWS: &[OrderMistake] = &[
             }
         })
     }),
-    ("a part of one position is told one further", |lent| {
+    ("a part of one position gets one more", |lent| {
         on_windows(lent, |_, first, last| {
             let count = first.len() as u8;
             if let Some(part) = (0..first.len()).find(|&part| first[part] == last[part] && last[part] + 1 < count) {
@@ -74,7 +74,7 @@ pub(super) const OF_WINDOWS: &[OrderMistake] = &[
     ("the first and the last positions are in each other's buffer", |lent| {
         on_windows(lent, |_, first, last| first.swap_with_slice(last))
     }),
-    ("for each position the part is told that may be there first", |lent| {
+    ("the parts by their first positions are written", |lent| {
         on_windows(lent, |_, first, _| {
             let by_part = first.to_vec();
             let mut parts: Vec<usize> = (0..by_part.len()).collect();
@@ -82,7 +82,7 @@ pub(super) const OF_WINDOWS: &[OrderMistake] = &[
             put(first, parts.into_iter().map(|part| part as u32));
         })
     }),
-    ("the positions given are told where no order obeys", |lent| {
+    ("the positions given are written where no order obeys", |lent| {
         let returned = call_library(lent);
         if returned != 29 {
             return returned;
@@ -231,7 +231,7 @@ fn is_short(lent: &mut Buffers) -> bool {
     lent.first.length.min(lent.last.length) < lent.parts.length / PART_PLACES
 }
 
-/// The call accepted all the same where the buffer that is too short is the one so told by the lengths.
+/// The call accepted all the same where only one buffer is too short, and the lengths are as given.
 fn on_short(lent: &mut Buffers, may_be: fn(usize, usize) -> bool) -> u32 {
     let count = lent.parts.length / PART_PLACES;
     let (first, last) = (lent.first.length, lent.last.length);

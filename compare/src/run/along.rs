@@ -14,7 +14,7 @@ pub fn changes_in(plan: &[u8], mounted: Option<usize>) -> usize {
 }
 
 impl Run {
-    /// Plans without and with a mounted tip in buffers that do, and one in others, given the quick plan.
+    /// Plans without and with a mounted tip in buffers that are long enough, and one in others, given the quick plan.
     pub(super) fn alongs(&mut self, board: &Board, file: &[u8], quick: &Outcome) -> Result<(), Difference> {
         let (plan, answer) = (board.count, ANSWER_PLACES);
         let bare = self.case(file, Call::Along { mounted: NO_TIP, plan, answer })?;
@@ -50,7 +50,7 @@ impl Run {
     }
 
     /// Every length of the answer and of the plan, of a long file around the needed one, every tip of a small rack mounted,
-    /// and numbers outside the rack, in buffers that do and that do not.
+    /// and numbers outside the rack, in buffers that are long enough and that are not.
     pub(super) fn each_along(&mut self, board: &Board, file: &[u8]) -> Result<(), Difference> {
         let (count, rack) = (board.count, board.rack);
         for answer in 0..=5 {

@@ -63,7 +63,8 @@ impl Run {
         ])
     }
 
-    /// Plans without and with a price and a mounted tip in buffers that do, and one in others, given quick and best.
+    /// Plans without and with a price and a mounted tip in buffers that are long enough, and one in others,
+    /// given quick and best.
     pub(super) fn exacts(
         &mut self,
         board: &Board,

@@ -199,7 +199,9 @@ fn check_exact(board: &Board, tried: &Tried) {
         let counted = price.min(2_096_129);
         let scores: Vec<i64> =
             (0..sets).map(|set| alone[set].1.most_with_price(counted) + size(set) * i64::from(counted)).collect();
-        for mounted in [None].into_iter().chain((0..board.rack).map(Some)) {
+        // Every mounted tip at the prices where ties are frequent.
+        let tips = if price <= 1 { 0..board.rack } else { 0..0 };
+        for mounted in [None].into_iter().chain(tips.map(Some)) {
             let (mut plan, mut table) = (junk_plan(board), vec![JUNK_PAIRS; 2 * sets + 3]);
             let answer = board.clone().exact(mounted, price, &mut plan, &mut table);
             assert_answer(&answer, board, 0, 0);
