@@ -47,7 +47,7 @@
  * The stack that a call needs on Linux, in KB of 1,024 bytes, measured on three
  * processors, 1 KB or more added, rounded up (docs/PERFORMANCE.md):
  *
- *   read 5, common 10, keep 10, goal 95, quick 20, best 33, exact 14, along 10,
+ *   read 5, common 10, keep 10, goal 96, quick 20, best 33, exact 14, along 10,
  *   check 26, junior 9, merge 18, alone 25, mend 5, order 28, windows 30,
  *   order_by_tips 31, report 49
  *
