@@ -403,6 +403,8 @@ fn rotated(set: u64, rack: usize, by: usize) -> u64 {
 
 #[cfg(test)]
 mod tests {
+    use second::refusal;
+
     use super::*;
     use crate::files::board_in;
 
@@ -426,7 +428,7 @@ mod tests {
             let board = seeded_board(&mut Random::new(seed), Size::Middle);
             let number = board.clone().best(None, &mut [0; 512], &mut [0; 4096]).number;
             taken += usize::from(number == 0 && !board.lines().all(|line| is_unbroken(line.set)));
-            refused += usize::from(number == 25);
+            refused += usize::from(number == refusal::NO_RUN);
         }
         assert!(taken > 100 && refused > 200, "{taken} {refused}");
     }

@@ -219,10 +219,11 @@ mod tests {
     use std::collections::BTreeSet;
 
     use job_file::{Job, Refusal};
-    use second::Board;
+    use second::{refusal, Board};
 
     use super::*;
     use crate::files::{file_in, number_of};
+    use crate::tally::OF_READING;
 
     #[test]
     fn every_refusal_of_reading_is_reached() {
@@ -236,8 +237,8 @@ mod tests {
             }
         }
         let [first, second] = seen.map(Vec::from_iter);
-        assert_eq!(first[..9], [0, 1, 2, 3, 6, 7, 8, 9, 10]);
-        assert_eq!(second, [0, 1, 2, 3, 6, 7, 8, 9, 10, 15, 30]);
+        assert_eq!(first[..9], [&[refusal::ACCEPTED], &OF_READING[..8]].concat());
+        assert_eq!(second, [&[refusal::ACCEPTED], &OF_READING[..]].concat());
     }
 
     #[test]
@@ -250,7 +251,10 @@ mod tests {
             assert_eq!(quantities.iter().map(|&quantity| usize::from(quantity)).sum::<usize>(), placements);
             let passed = first_to_pass(&quantities);
             assert_eq!(passed.is_some(), placements > MOST_PLACEMENTS);
-            assert_eq!(Job::read(&file).err(), passed.map(|line| Refusal { number: 30, line }));
+            assert_eq!(
+                Job::read(&file).err(),
+                passed.map(|line| Refusal { number: refusal::TOO_MANY_PLACEMENTS, line })
+            );
         }
     }
 }

@@ -10,6 +10,7 @@ pub mod order_mistakes;
 pub mod orders;
 pub mod random;
 pub mod record;
+pub mod refusal;
 pub mod run;
 pub mod sought;
 pub mod tally;

@@ -4,6 +4,7 @@
 //! wrote. What each call does with parts, rules and its answer is tried on every call.
 
 use second::interface::{ANSWER_PLACES, PART_PLACES, RULE_PLACES};
+use second::refusal;
 use second::MOST_PARTS;
 
 use crate::check::Lent;
@@ -28,14 +29,14 @@ pub fn order_mistakes() -> [Vec<&'static OrderMistake>; CALL_NAMES.len()] {
 }
 
 const OF_PARTS: &[OrderMistake] = &[
-    ("128 parts are refused", |lent| refused_where(lent, |parts, _| parts == MOST_PARTS, 12)),
+    ("128 parts are refused", |lent| refused_where(lent, |parts, _| parts == MOST_PARTS, refusal::BAD_WINDOW)),
     ("of more than 128 parts the first 128 are ordered", |lent| {
         on_parts(lent, |parts| parts.truncate(PART_PLACES * MOST_PARTS))
     }),
     ("the number of parts has 8 bits", |lent| {
         on_parts(lent, |parts| parts.truncate(parts.len() / PART_PLACES % 256 * PART_PLACES))
     }),
-    ("an order without parts is refused", |lent| refused_where(lent, |parts, _| parts == 0, 29)),
+    ("an order without parts is refused", |lent| refused_where(lent, |parts, _| parts == 0, refusal::NO_ORDER)),
     ("first positions are not looked at", |lent| on_good(lent, |_, part| part[0] = 0)),
     ("last positions are not looked at", |lent| on_good(lent, |count, part| part[1] = count - 1)),
     ("a first position after the last is taken for the last", |lent| {
@@ -125,12 +126,12 @@ const OF_RULES: &[OrderMistake] = &[
         on_rules(lent, |_, rules| rules.truncate(rules.len() / RULE_PLACES % 65_536 * RULE_PLACES))
     }),
     ("only 1,024 rules are looked at", |lent| on_rules(lent, |_, rules| rules.truncate(1024 * RULE_PLACES))),
-    ("more than 8,128 rules are refused", |lent| refused_where(lent, |_, rules| rules > 8128, 13)),
+    ("more than 8,128 rules are refused", |lent| refused_where(lent, |_, rules| rules > 8128, refusal::BAD_RULE)),
     ("a rule that stands twice is refused", |lent| {
         let mut rules: Vec<Vec<u32>> = lent.rules.inside().chunks_exact(RULE_PLACES).map(<[u32]>::to_vec).collect();
         rules.sort_unstable();
         if rules.windows(2).any(|pair| pair[0] == pair[1]) {
-            return refused_where(lent, |_, _| true, 13);
+            return refused_where(lent, |_, _| true, refusal::BAD_RULE);
         }
         call_library(lent)
     }),
@@ -168,7 +169,7 @@ const OF_RECORDS: &[OrderMistake] = &[
         let count = parts.len() / PART_PLACES;
         let is_bad = |part: &[u32]| part[0] > part[1] || part[1] as usize >= count;
         let last = parts.chunks_exact(PART_PLACES).rposition(|part| part.len() == PART_PLACES && is_bad(part));
-        if let (12, true, Some(part)) = (returned, count <= MOST_PARTS, last) {
+        if let (refusal::BAD_WINDOW, true, Some(part)) = (returned, count <= MOST_PARTS, last) {
             lent.answer.inside()[0] = part as u64;
         }
         returned
@@ -176,7 +177,7 @@ const OF_RECORDS: &[OrderMistake] = &[
     ("the number of parts is told where there are over 128", |lent| {
         let returned = call_library(lent);
         let count = lent.parts.inside().len() / PART_PLACES;
-        if returned == 12 && count > MOST_PARTS {
+        if returned == refusal::BAD_WINDOW && count > MOST_PARTS {
             lent.answer.inside()[0] = count as u64;
         }
         returned
@@ -186,23 +187,25 @@ const OF_RECORDS: &[OrderMistake] = &[
         let parts = lent.parts.inside();
         let count = parts.len() / PART_PLACES;
         let is_bad = |part: &[u32]| part[0] > part[1] || part[1] as usize >= count;
-        if returned == 12 && count > MOST_PARTS {
+        if returned == refusal::BAD_WINDOW && count > MOST_PARTS {
             let bad = parts.chunks_exact(PART_PLACES).position(is_bad);
             lent.answer.inside()[0] = bad.unwrap_or(0) as u64;
         }
         returned
     }),
-    ("the place of 12 is always 0", |lent| at_refusal(lent, 12, |answer| answer[0] = 0)),
-    ("the place of 13 is always 0", |lent| at_refusal(lent, 13, |answer| answer[0] = 0)),
-    ("the place of 13 is the number", |lent| at_refusal(lent, 13, |answer| answer[0] *= RULE_PLACES as u64)),
+    ("the place of 12 is always 0", |lent| at_refusal(lent, refusal::BAD_WINDOW, |answer| answer[0] = 0)),
+    ("the place of 13 is always 0", |lent| at_refusal(lent, refusal::BAD_RULE, |answer| answer[0] = 0)),
+    ("the place of 13 is the number", |lent| {
+        at_refusal(lent, refusal::BAD_RULE, |answer| answer[0] *= RULE_PLACES as u64)
+    }),
     ("rules are looked at before positions", |lent| {
         let returned = call_library(lent);
         let count = (lent.parts.inside().len() / PART_PLACES) as u32;
         let is_bad = |rule: &[u32]| rule[0].max(rule[1]) >= count || rule[0] == rule[1];
         match (returned, lent.rules.inside().chunks_exact(RULE_PLACES).position(is_bad)) {
-            (12, Some(rule)) => {
+            (refusal::BAD_WINDOW, Some(rule)) => {
                 lent.answer.inside()[0] = rule as u64;
-                13
+                refusal::BAD_RULE
             }
             _ => returned,
         }
@@ -215,26 +218,26 @@ const OF_RECORDS: &[OrderMistake] = &[
     }),
     ("too many parts are looked at before broken records", |lent| {
         let returned = call_library(lent);
-        if returned == 101 && lent.parts.inside().len() / PART_PLACES > MOST_PARTS {
-            return 12;
+        if returned == refusal::BROKEN_RECORD && lent.parts.inside().len() / PART_PLACES > MOST_PARTS {
+            return refusal::BAD_WINDOW;
         }
         returned
     }),
     ("broken records are looked at before a short answer", |lent| {
         let broken = !is_whole(lent);
         match call_library(lent) {
-            100 if broken => 101,
+            refusal::SHORT_ANSWER if broken => refusal::BROKEN_RECORD,
             returned => returned,
         }
     }),
 ];
 
 const OF_ANSWERS: &[OrderMistake] = &[
-    ("the number of parts is not told", |lent| at_refusal(lent, 0, |answer| answer[1] = 0)),
+    ("the number of parts is not told", |lent| at_refusal(lent, refusal::ACCEPTED, |answer| answer[1] = 0)),
     ("the number of parts is told with 29", |lent| {
         let count = lent.parts.inside().len() / PART_PLACES;
         let returned = call_library(lent);
-        if returned == 29 {
+        if returned == refusal::NO_ORDER {
             lent.answer.inside()[1] = count as u64;
         }
         returned
@@ -266,7 +269,7 @@ const OF_ANSWERS: &[OrderMistake] = &[
     }),
     ("the rules lent are sorted", |lent| {
         let returned = call_library(lent);
-        if returned == 0 || returned == 29 {
+        if returned == refusal::ACCEPTED || returned == refusal::NO_ORDER {
             lent.rules.inside().sort_unstable();
         }
         returned

@@ -5,7 +5,9 @@ use std::fmt;
 
 use library::on_slices;
 use second::interface::{self, ANSWER_PLACES, NO_TIP, PART_PLACES, RULE_PLACES};
-use second::{try_every_order, try_every_order_by_tips, try_every_order_for_windows, Part, Placing, Rule, MOST_PARTS};
+use second::{
+    refusal, try_every_order, try_every_order_by_tips, try_every_order_for_windows, Part, Placing, Rule, MOST_PARTS,
+};
 
 use crate::check::{first_difference, Lent};
 use crate::random::Random;
@@ -22,8 +24,16 @@ const MOST_RULES_OF_EACH_LENGTH: usize = 10_000;
 /// With more parts than these not every length is tried where the positions are found.
 const MOST_PARTS_OF_EACH_LENGTH: usize = 16;
 /// The numbers that each call must give, and those that orders by tips must give too.
-const NEEDED: [u32; 7] = [0, 12, 13, 14, 29, 100, 101];
-const NEEDED_BY_TIPS: [u32; 3] = [3, 4, 16];
+const NEEDED: [u32; 7] = [
+    refusal::ACCEPTED,
+    refusal::BAD_WINDOW,
+    refusal::BAD_RULE,
+    refusal::SHORT_ORDER,
+    refusal::NO_ORDER,
+    refusal::SHORT_ANSWER,
+    refusal::BROKEN_RECORD,
+];
+const NEEDED_BY_TIPS: [u32; 3] = [refusal::TIP_OUTSIDE, refusal::SHORT_PLAN, refusal::MOUNTED_OUTSIDE];
 
 /// A call on parts and rules, with the lengths of the buffers that it is lent.
 #[derive(Clone, Copy, PartialEq, Eq, Debug)]
@@ -462,19 +472,24 @@ impl Orders {
         });
         let count = handed.parts.len() / PART_PLACES;
         match (call, second) {
-            (Call::Order { .. }, 0 | 29) => self.count_decided(handed, second == 0),
+            (Call::Order { .. }, refusal::ACCEPTED | refusal::NO_ORDER) => self.count_decided(handed, second == 0),
             (Call::Windows { .. }, 0) => self.count_windows(handed, &mut of_second),
             (Call::ByTips { mounted, .. }, 0) => self.count_by_tips(handed, mounted, &mut of_second),
-            (Call::ByTips { mounted, plan, .. }, 3 | 4 | 16) => {
+            (
+                Call::ByTips { mounted, plan, .. },
+                refusal::TIP_OUTSIDE | refusal::SHORT_PLAN | refusal::MOUNTED_OUTSIDE,
+            ) => {
                 let no_order = order_of(handed).is_none();
                 let bad_tip = handed.tips.iter().take(plan.min(count)).any(|&tip| tip > 63);
                 self.tally.count_events(&[
                     (second == 4 && bad_tip, Event::ShortPlanAndTip),
                     (second == 3 && mounted > 63 && mounted != NO_TIP, Event::TipAndMounted),
-                    (second == 16 && no_order, Event::MountedAndNoOrder),
+                    (second == refusal::MOUNTED_OUTSIDE && no_order, Event::MountedAndNoOrder),
                 ]);
             }
-            (_, 12..=14) => self.count_refused(handed, count, call, second),
+            (_, refusal::BAD_WINDOW | refusal::BAD_RULE | refusal::SHORT_ORDER) => {
+                self.count_refused(handed, count, call, second)
+            }
             _ => {}
         }
         Ok(())
@@ -597,11 +612,11 @@ impl Orders {
         let (parts, rules) = records_of(handed);
         let bad_rule = rules.iter().any(|&(one, other)| one.max(other) as usize >= count || one == other);
         let several = match number {
-            12 => bad_rule && call.is_short(count),
-            13 => call.is_short(count),
+            refusal::BAD_WINDOW => bad_rule && call.is_short(count),
+            refusal::BAD_RULE => call.is_short(count),
             _ => Placing { parts: &parts, rules: &rules }.least_order().is_none(),
         };
-        let short_alone = |one: usize, other: usize| number == 14 && one < count && other >= count;
+        let short_alone = |one: usize, other: usize| number == refusal::SHORT_ORDER && one < count && other >= count;
         let (first, last) = match call {
             Call::Windows { first, last, .. } => (first, last),
             _ => (count, count),
@@ -612,7 +627,7 @@ impl Orders {
             (count > MOST_PARTS, Event::TooManyParts),
             (short_alone(first, last), Event::ShortFirstAlone),
             (short_alone(last, first), Event::ShortLastAlone),
-            (number == 14 && short_plan, Event::ShortOrderAndPlan),
+            (number == refusal::SHORT_ORDER && short_plan, Event::ShortOrderAndPlan),
         ]);
     }
 

@@ -7,7 +7,7 @@ use std::{fs, io, thread};
 
 use job_file::{Job, Version, MOST_PLACEMENTS};
 use second::interface::{ANSWER_PLACES, NO_TIP, REPORT_SPACE};
-use second::{number_of_plans, pairs_in, try_every_plan, Board, JUNIOR_LINES, JUNIOR_TIPS};
+use second::{number_of_plans, pairs_in, refusal, try_every_plan, Board, JUNIOR_LINES, JUNIOR_TIPS};
 
 use crate::boards::{every_board, fixed_boards, is_counted, is_unbroken, seeded_board, seeded_file, single, Size};
 use crate::check::{Call, Caller, Difference, Expected, Given, Outcome};
@@ -508,7 +508,7 @@ impl Run {
         if mounted == NO_TIP || mounted < board.rack || answer < ANSWER_PLACES {
             return;
         }
-        let no_run = board.clone().best(None, &mut [0; 512], &mut [0; 4096]).number == 25;
+        let no_run = board.clone().best(None, &mut [0; 512], &mut [0; 4096]).number == refusal::NO_RUN;
         self.count_events(&[
             (plan < board.count, Event::MountedOutsideAndShortPlan),
             (table < board.rack * board.rack, Event::MountedOutsideAndShortTable),
@@ -588,7 +588,7 @@ impl Run {
         // Best sharing of the second implementation takes long on large boards.
         let is_small = board.count <= 48;
         let first_broken = board.lines().position(|line| !is_unbroken(line.set));
-        let before_no_run = |line| best.returned == 25 && (line as u64) < best.answer[0];
+        let before_no_run = |line| best.returned == crate::refusal::NO_RUN && (line as u64) < best.answer[0];
         self.count_events(&[
             (quick_pairs > 65_535, Event::PairsAbove16Bits),
             (quick_pairs > 130_816, Event::PairsAboveThoseOfLines),
@@ -603,7 +603,15 @@ impl Run {
     /// What was checked; the table that our best plan comes with is worked out for small boards alone.
     fn count_check(&mut self, board: &Board, handed: &Handed, number: u64) {
         // On small boards alone, for it takes long.
-        if board.count > 48 || !matches!(number, 0 | 19 | 20 | 33) {
+        if board.count > 48
+            || !matches!(
+                number,
+                crate::refusal::ACCEPTED
+                    | crate::refusal::FOREIGN_TIP
+                    | crate::refusal::WRONG_CLAIM
+                    | crate::refusal::WRONG_TABLE
+            )
+        {
             return;
         }
         let (rack, named) = (board.rack, board.named_tips());
@@ -613,16 +621,19 @@ impl Run {
             let mut places = (0..rack * rack).filter(|place| (place / rack > place % rack) == below);
             places.any(|place| table[place] != handed.table[place])
         };
-        let (accepted, refused) = (number == 0, number == 33);
+        let (accepted, refused) = (number == 0, number == crate::refusal::WRONG_TABLE);
         let is_own = |line: usize, tip: u8| tip < 64 && board.sets[line] >> tip & 1 == 1;
         let own_but_for_bits = || (0..board.count).all(|line| is_own(line, handed.plan[line] % 64));
         self.count_events(&[
             (accepted && plan != handed.plan, Event::CheckedOtherPlan),
             (accepted && differs(false), Event::CheckedOtherTable),
             (accepted && differs(true), Event::CheckedJunkBelow),
-            (number == 19 && handed.pairs(board) != handed.claim, Event::ForeignTipAndClaim),
-            (number == 19 && own_but_for_bits(), Event::ForeignTipByHighBits),
-            (number == 20 && !board.table_shows(handed.claim, &handed.table), Event::ClaimAndTable),
+            (number == crate::refusal::FOREIGN_TIP && handed.pairs(board) != handed.claim, Event::ForeignTipAndClaim),
+            (number == crate::refusal::FOREIGN_TIP && own_but_for_bits(), Event::ForeignTipByHighBits),
+            (
+                number == crate::refusal::WRONG_CLAIM && !board.table_shows(handed.claim, &handed.table),
+                Event::ClaimAndTable,
+            ),
             (refused && keeps(board, handed, named, wrapping), Event::TableByWrapping),
             (refused && keeps(board, handed, named, stopping), Event::TableByStopping),
         ]);
@@ -633,8 +644,15 @@ impl Run {
         let quantities = quantities_in(file);
         if let (Some(line), Err(refusal)) = (first_to_pass(&quantities), Job::read(file)) {
             self.count_events(&[
-                (refusal.number == 30 && line + 1 < quantities.len(), Event::PassedBeforeLastLine),
-                (matches!(refusal.number, 2 | 3 | 15) && refusal.line > line, Event::BadLineAfterPassing),
+                (
+                    refusal.number == refusal::TOO_MANY_PLACEMENTS && line + 1 < quantities.len(),
+                    Event::PassedBeforeLastLine,
+                ),
+                (
+                    matches!(refusal.number, refusal::EMPTY_LINE | refusal::TIP_OUTSIDE | refusal::ZERO_QUANTITY)
+                        && refusal.line > line,
+                    Event::BadLineAfterPassing,
+                ),
             ]);
         }
     }
@@ -686,7 +704,7 @@ fn against_every_plan(board: &Board) -> Result<(), String> {
     for k in [0].into_iter().chain(least_off.saturating_sub(2)..=most + 1).chain([placements]) {
         let kept = board.clone().keep_within(k as u16);
         let right = match tried.used_within(k) {
-            None => kept.number == 26 && kept.board == *board,
+            None => kept.number == refusal::NO_PLAN && kept.board == *board,
             Some(used) => {
                 let mut expected = board.clone();
                 expected.sets[..count].copy_from_slice(&used);
@@ -700,8 +718,10 @@ fn against_every_plan(board: &Board) -> Result<(), String> {
     for goal in tried.numbers_of_pairs().flat_map(|pairs| [pairs, pairs + 1]) {
         let kept = board.clone().goal(goal);
         let right = match (kept.number, tried.used_with(goal)) {
-            (25, _) => board.clone().best(None, &mut vec![0; count], &mut [0; 4096]).number == 25,
-            (34, None) => kept.board == *board,
+            (refusal::NO_RUN, _) => {
+                board.clone().best(None, &mut vec![0; count], &mut [0; 4096]).number == refusal::NO_RUN
+            }
+            (refusal::GOAL_MISSED, None) => kept.board == *board,
             (0, Some(used)) => kept.board.sets[..count] == used && kept.board.quantities == board.quantities,
             _ => false,
         };
@@ -721,7 +741,7 @@ fn against_every_plan(board: &Board) -> Result<(), String> {
                 && pairs_in(&board.placed(&plan)) == pairs
                 && (on_one(tips.0) || on_one(tips.1))
         }
-        None => matches!((junior.number, count), (31, _) | (0, 0)),
+        None => matches!((junior.number, count), (refusal::NO_TWO_TIPS, _) | (refusal::ACCEPTED, 0)),
     };
     if board.rack <= JUNIOR_TIPS && count <= JUNIOR_LINES && !right {
         return Err(format!("junior {plan:?} with {pairs} pairs on {tips:?}, every plan {tried:?}"));

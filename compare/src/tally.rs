@@ -1,5 +1,6 @@
 //! What was compared, counted by call and refusal number, and what must have occurred.
 
+use second::refusal;
 use std::collections::BTreeMap;
 use std::fmt;
 
@@ -8,8 +9,19 @@ use crate::check::CALL_NAMES;
 /// The row of a report whose output was too short.
 pub const SHORT_REPORT: u32 = u32::MAX;
 
-/// The refusals of reading a file.
-const OF_READING: [u32; 10] = [1, 2, 3, 6, 7, 8, 9, 10, 15, 30];
+/// The refusals of reading a file; the last two are of the second version alone.
+pub const OF_READING: [u32; 10] = [
+    refusal::RACK_SIZE,
+    refusal::EMPTY_LINE,
+    refusal::TIP_OUTSIDE,
+    refusal::SHORT_FILE,
+    refusal::WRONG_MARK,
+    refusal::WRONG_VERSION,
+    refusal::FILE_LINES,
+    refusal::FILE_LENGTH,
+    refusal::ZERO_QUANTITY,
+    refusal::TOO_MANY_PLACEMENTS,
+];
 
 /// Things that must occur beside the refusals.
 #[derive(Clone, Copy, PartialEq, Eq, PartialOrd, Ord, Debug)]
@@ -331,19 +343,46 @@ fn needed(column: usize) -> Vec<u32> {
         numbers.extend(OF_READING);
     }
     let own: &[u32] = match CALL_NAMES[column] {
-        "keep" => &[11, 26, 100],
-        "goal" => &[11, 25, 34, 100],
-        "quick" => &[4, 16, 100],
-        "best" => &[4, 5, 16, 25, 100],
-        "along" => &[4, 16, 100],
-        "exact" => &[4, 5, 16, 35, 100],
-        "check" => &[4, 5, 19, 20, 25, 33, 100],
-        "junior" => &[4, 24, 31, 100],
-        "merge" => &[11, 17, 24, 100],
-        "alone" => &[4, 100],
-        "mend" => &[1, 6, 7, 8, 11, 100],
+        "keep" => &[refusal::SHORT_OUTPUT, refusal::NO_PLAN, refusal::SHORT_ANSWER],
+        "goal" => &[refusal::SHORT_OUTPUT, refusal::NO_RUN, refusal::GOAL_MISSED, refusal::SHORT_ANSWER],
+        "quick" => &[refusal::SHORT_PLAN, refusal::MOUNTED_OUTSIDE, refusal::SHORT_ANSWER],
+        "best" => &[
+            refusal::SHORT_PLAN,
+            refusal::SHORT_TABLE,
+            refusal::MOUNTED_OUTSIDE,
+            refusal::NO_RUN,
+            refusal::SHORT_ANSWER,
+        ],
+        "along" => &[refusal::SHORT_PLAN, refusal::MOUNTED_OUTSIDE, refusal::SHORT_ANSWER],
+        "exact" => &[
+            refusal::SHORT_PLAN,
+            refusal::SHORT_TABLE,
+            refusal::MOUNTED_OUTSIDE,
+            refusal::TOO_MANY_NAMED,
+            refusal::SHORT_ANSWER,
+        ],
+        "check" => &[
+            refusal::SHORT_PLAN,
+            refusal::SHORT_TABLE,
+            refusal::FOREIGN_TIP,
+            refusal::WRONG_CLAIM,
+            refusal::NO_RUN,
+            refusal::WRONG_TABLE,
+            refusal::SHORT_ANSWER,
+        ],
+        "junior" => &[refusal::SHORT_PLAN, refusal::TOO_MANY_LINES, refusal::NO_TWO_TIPS, refusal::SHORT_ANSWER],
+        "merge" => &[refusal::SHORT_OUTPUT, refusal::RACKS_DIFFER, refusal::TOO_MANY_LINES, refusal::SHORT_ANSWER],
+        "alone" => &[refusal::SHORT_PLAN, refusal::SHORT_ANSWER],
+        "mend" => &[
+            refusal::RACK_SIZE,
+            refusal::SHORT_FILE,
+            refusal::WRONG_MARK,
+            refusal::WRONG_VERSION,
+            refusal::SHORT_OUTPUT,
+            refusal::SHORT_ANSWER,
+        ],
         "report" => &[SHORT_REPORT],
-        _ => &[100],
+        _ => &[refusal::SHORT_ANSWER],
     };
     numbers.extend(own);
     numbers

@@ -4,7 +4,7 @@
 //! writer, because `compare` holds the proved library against it.
 //!
 //! ```
-//! use job_file::{Job, Line, Refusal};
+//! use job_file::{refusal, Job, Line, Refusal};
 //!
 //! // Ten placements with tip 0, and one with tip 1 or 2.
 //! let job = Job { rack: 3, lines: vec![Line { set: 0b001, quantity: 10 }, Line { set: 0b110, quantity: 1 }] };
@@ -13,7 +13,7 @@
 //!
 //! // The second line without its placement.
 //! file[25] = 0;
-//! assert_eq!(Job::read(&file), Err(Refusal { number: 15, line: 1 }));
+//! assert_eq!(Job::read(&file), Err(Refusal { number: refusal::ZERO_QUANTITY, line: 1 }));
 //! ```
 
 use std::ops::Range;

@@ -21,6 +21,10 @@ pub const ZERO_QUANTITY: u32 = 15;
 /// The lines, or those of both boards of a panel, have more than 2,048 placements.
 pub const TOO_MANY_PLACEMENTS: u32 = 30;
 
+/// The placing order: there are over 128 parts, or a part has no position.
+pub const BAD_WINDOW: u32 = 12;
+/// The mounted tip is outside the rack.
+pub const MOUNTED_OUTSIDE: u32 = 16;
 /// Merge: the two racks differ.
 pub const RACKS_DIFFER: u32 = 17;
 /// Check: a line is on a tip that it does not have.
@@ -28,12 +32,18 @@ pub const FOREIGN_TIP: u32 = 19;
 /// Check: the plan does not have as many pairs as it claims.
 pub const WRONG_CLAIM: u32 = 20;
 /// The Junior: there are more than 64 lines. Merge: there are more than 512 together.
-pub const FULL: u32 = 24;
+pub const TOO_MANY_LINES: u32 = 24;
 /// Best sharing, a goal or a check: a line is no run.
 pub const NO_RUN: u32 = 25;
+/// Keep: no plan is within the bound.
+pub const NO_PLAN: u32 = 26;
+/// The placing order: no order obeys.
+pub const NO_ORDER: u32 = 29;
 /// The Junior: no two tips serve every line.
 pub const NO_TWO_TIPS: u32 = 31;
 /// Check: the table does not show that no plan has more pairs.
-pub const TABLE_FAILS: u32 = 33;
+pub const WRONG_TABLE: u32 = 33;
 /// A goal: no plan has as many pairs.
 pub const GOAL_MISSED: u32 = 34;
+/// Exact sharing: more than 20 tips are named.
+pub const TOO_MANY_NAMED: u32 = 35;

@@ -1,5 +1,5 @@
 //! Every sort of a list of eight lines through the linked library: the common tip's answer stays, each line keeps its tip
-//! in both plans and its set in keep. The law for all boards is `sort_hidden` (crates/sorts); these are three of them.
+//! in both plans and its set in keep. The law for all boards is `sort_hidden` (crates/any_order_rules); these are three of them.
 
 use std::collections::HashSet;
 

@@ -67,7 +67,7 @@ impl Board {
     /// Plans the lines in the order of the list, with the fewest tip changes.
     pub fn along(self, mounted: Option<usize>, plan: &mut [u8]) -> Answer<Along> {
         let (number, place) = self.refusal_of_plan(mounted, plan);
-        if number != refusal::NONE {
+        if number != refusal::ACCEPTED {
             return Answer::refused_at(self, number, place);
         }
         let tips = self.tips_along(mounted);

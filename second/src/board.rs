@@ -52,7 +52,7 @@ pub struct Answer<T> {
 
 impl<T: Default> Answer<T> {
     pub(crate) fn accepted(board: Board, value: T) -> Answer<T> {
-        Answer { board, number: refusal::NONE, place: 0, value }
+        Answer { board, number: refusal::ACCEPTED, place: 0, value }
     }
 
     pub(crate) fn refused(board: Board, number: u32) -> Answer<T> {
@@ -85,7 +85,7 @@ pub(crate) fn refusal_of_line(line: Line, rack: usize) -> u32 {
     if line.quantity == 0 {
         return refusal::ZERO_QUANTITY;
     }
-    refusal::NONE
+    refusal::ACCEPTED
 }
 
 /// The first line with which there are more placements than a board may have.
@@ -138,37 +138,37 @@ impl Board {
     /// The refusal of a board that is not sound, and its place; 0 for a sound one.
     fn unsound(&self) -> (u32, usize) {
         if self.rack == 0 || self.rack > MOST_TIPS || self.count > MOST_LINES {
-            return (refusal::OUT_OF_RANGE, 0);
+            return (refusal::UNSOUND_BOARD, 0);
         }
         let to_pass = first_to_pass(&self.quantities[..self.count]);
         for line in 0..self.count {
-            if refusal_of_line(self.held(line), self.rack) != refusal::NONE || to_pass == Some(line) {
-                return (refusal::BAD_LINE, line);
+            if refusal_of_line(self.held(line), self.rack) != refusal::ACCEPTED || to_pass == Some(line) {
+                return (refusal::UNSOUND_LINE, line);
             }
         }
         for place in self.count..MOST_LINES {
             if self.held(place) != (Line { set: 0, quantity: 0 }) {
-                return (refusal::LEFT_OVER, place);
+                return (refusal::HELD_BEHIND, place);
             }
         }
-        (refusal::NONE, 0)
+        (refusal::ACCEPTED, 0)
     }
 
     /// Whether rack size, number of lines, every set and every quantity keep the rules of a board.
     pub fn is_sound(&self) -> bool {
-        self.unsound() == (refusal::NONE, 0)
+        self.unsound() == (refusal::ACCEPTED, 0)
     }
 
     /// The refusal of a call that needs a sound board in the given stage, 0 for none, and its place.
     pub(crate) fn refusal_in(&self, needed: Stage) -> (u32, usize) {
         let (number, place) = self.unsound();
-        if number != refusal::NONE {
+        if number != refusal::ACCEPTED {
             return (number, place);
         }
         match (needed, self.stage) {
-            (Stage::Open, Stage::Closed) => (refusal::CLOSED, 0),
-            (Stage::Closed, Stage::Open) => (refusal::OPEN, 0),
-            _ => (refusal::NONE, 0),
+            (Stage::Open, Stage::Closed) => (refusal::BOARD_CLOSED, 0),
+            (Stage::Closed, Stage::Open) => (refusal::BOARD_OPEN, 0),
+            _ => (refusal::ACCEPTED, 0),
         }
     }
 
@@ -196,14 +196,14 @@ impl Board {
     #[allow(clippy::should_implement_trait)] // the call's own name
     pub fn add(self, set: u64, quantity: u8) -> Answer<()> {
         let (number, place) = self.refusal_in(Stage::Open);
-        if number != refusal::NONE {
+        if number != refusal::ACCEPTED {
             return Answer::refused_at(self, number, place);
         }
         if self.count == MOST_LINES {
-            return Answer::refused(self, refusal::FULL);
+            return Answer::refused(self, refusal::TOO_MANY_LINES);
         }
         let number = refusal_of_line(Line { set, quantity }, self.rack);
-        if number != refusal::NONE {
+        if number != refusal::ACCEPTED {
             return Answer::refused(self, number);
         }
         let mut board = self.clone();
@@ -219,7 +219,7 @@ impl Board {
     /// Closes an open board.
     pub fn close(self) -> Answer<()> {
         let (number, place) = self.refusal_in(Stage::Open);
-        if number != refusal::NONE {
+        if number != refusal::ACCEPTED {
             return Answer::refused_at(self, number, place);
         }
         Answer::accepted(Board { stage: Stage::Closed, ..self }, ())

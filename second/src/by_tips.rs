@@ -52,7 +52,7 @@ pub fn try_every_order_by_tips(placing: &Placing, tips: &[u8], mounted: Option<u
 /// Why parts with these tips are not ordered, whatever order they have; number and place.
 fn refusal_of_tips(placing: &Placing, tips: &[u8], mounted: Option<usize>, order: &[u8]) -> (u32, usize) {
     let (number, place) = placing.refusal();
-    if number != refusal::NONE {
+    if number != refusal::ACCEPTED {
         return (number, place);
     }
     let count = placing.parts.len();
@@ -68,14 +68,14 @@ fn refusal_of_tips(placing: &Placing, tips: &[u8], mounted: Option<usize>, order
     if mounted.is_some_and(|tip| tip >= MOST_TIPS) {
         return (refusal::MOUNTED_OUTSIDE, 0);
     }
-    (refusal::NONE, 0)
+    (refusal::ACCEPTED, 0)
 }
 
 /// Writes the order by tips, one byte a position, and nothing where the call is refused.
 pub fn order_by_tips(placing: &Placing, tips: &[u8], mounted: Option<usize>, order: &mut [u8]) -> ByTips {
     let refused = |number: u32, place: usize| ByTips { ordered: Ordered { number, place }, changes: 0 };
     let (number, place) = refusal_of_tips(placing, tips, mounted, order);
-    if number != refusal::NONE {
+    if number != refusal::ACCEPTED {
         return refused(number, place);
     }
     let Some(found) = placing.order_by_tips(tips, mounted) else {
@@ -86,5 +86,5 @@ pub fn order_by_tips(placing: &Placing, tips: &[u8], mounted: Option<usize>, ord
     let placed = found.iter().map(|&part| usize::from(tips[usize::from(part)]));
     let heads: Vec<usize> = mounted.into_iter().chain(placed).collect();
     let changes = heads.windows(2).filter(|pair| pair[0] != pair[1]).count();
-    ByTips { ordered: Ordered { number: refusal::NONE, place: 0 }, changes }
+    ByTips { ordered: Ordered { number: refusal::ACCEPTED, place: 0 }, changes }
 }

@@ -41,7 +41,7 @@ impl Board {
     /// that no plan has more; plan and table are only read.
     pub fn check(self, plan: &[u8], claim: u32, table: &[u32]) -> Answer<()> {
         let (number, place) = self.refusal_in(Stage::Closed);
-        if number != refusal::NONE {
+        if number != refusal::ACCEPTED {
             return Answer::refused_at(self, number, place);
         }
         if plan.len() < self.count {
@@ -60,7 +60,7 @@ impl Board {
             return Answer::refused(self, refusal::WRONG_CLAIM);
         }
         if !self.table_shows(claim, table) {
-            return Answer::refused(self, refusal::TABLE_FAILS);
+            return Answer::refused(self, refusal::WRONG_TABLE);
         }
         Answer::accepted(self, ())
     }

@@ -45,7 +45,7 @@ impl Board {
     /// The largest occurrence, the least number of placements off the common tip, and the tips that attain it.
     pub fn common_tip(self) -> Answer<CommonTip> {
         let (number, place) = self.refusal_in(Stage::Closed);
-        if number != refusal::NONE {
+        if number != refusal::ACCEPTED {
             return Answer::refused_at(self, number, place);
         }
         let placements = self.placements();
@@ -70,7 +70,7 @@ impl Board {
     /// Keeps, in each line, the tips that it has in some plan within k; the answer is the margin.
     pub fn keep_within(self, k: u16) -> Answer<i64> {
         let (number, place) = self.refusal_in(Stage::Closed);
-        if number != refusal::NONE {
+        if number != refusal::ACCEPTED {
             return Answer::refused_at(self, number, place);
         }
         let placements = self.placements();

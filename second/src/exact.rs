@@ -91,12 +91,12 @@ impl Board {
     /// set of named tips, and with its score.
     pub fn exact(self, mounted: Option<usize>, price: u32, plan: &mut [u8], table: &mut [u32]) -> Answer<Exact> {
         let (number, place) = self.refusal_of_plan(mounted, plan);
-        if number != refusal::NONE {
+        if number != refusal::ACCEPTED {
             return Answer::refused_at(self, number, place);
         }
         let tips = self.tips_by_rank();
         if tips.len() > EXACT_TIPS {
-            return Answer::refused(self, refusal::MANY_TIPS);
+            return Answer::refused(self, refusal::TOO_MANY_NAMED);
         }
         let sets = 1 << tips.len();
         if table.len() < 2 * sets {

@@ -93,7 +93,7 @@ pub fn read(file: &[u8]) -> Answer<()> {
         let (set, quantity) = bytes.split_at(SET);
         let line = Line { set: number_in(set), quantity: quantity.first().copied().unwrap_or(1) };
         let number = refusal_of_line(line, rack);
-        if number != refusal::NONE {
+        if number != refusal::ACCEPTED {
             return refused(number, place);
         }
         board.sets[place] = line.set;
@@ -128,7 +128,7 @@ impl Board {
     pub fn file(&self) -> Vec<u8> {
         let mut file = vec![0; self.version().length_of(self.count)];
         let written = self.clone().write(&mut file);
-        assert_eq!(written.number, refusal::NONE, "only a sound closed board has a job file");
+        assert_eq!(written.number, refusal::ACCEPTED, "only a sound closed board has a job file");
         file
     }
 
@@ -152,7 +152,7 @@ impl Board {
     /// Writes the board as a job file; the answer is the number of bytes.
     pub fn write(self, out: &mut [u8]) -> Answer<usize> {
         let (number, place) = self.refusal_in(Stage::Closed);
-        if number != refusal::NONE {
+        if number != refusal::ACCEPTED {
             return Answer::refused_at(self, number, place);
         }
         let file = self.file_in(self.version());

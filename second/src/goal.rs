@@ -72,7 +72,7 @@ impl Board {
     /// Keeps, in each line, the tips that it has in some plan with at least as many pairs as the goal says.
     pub fn goal(self, goal: u32) -> Answer<()> {
         let (number, place) = self.refusal_in(Stage::Closed);
-        if number != refusal::NONE {
+        if number != refusal::ACCEPTED {
             return Answer::refused_at(self, number, place);
         }
         if let Some(line) = self.first_no_run() {

@@ -34,7 +34,7 @@ fn on_board(file: &[u8], answer: &mut [u64], call: impl FnOnce(Board, &mut [u64]
         return refusal::SHORT_ANSWER;
     }
     let job = read_file(file);
-    if job.number != refusal::NONE {
+    if job.number != refusal::ACCEPTED {
         return refused(answer, &job);
     }
     call(job.board, answer)
@@ -43,7 +43,7 @@ fn on_board(file: &[u8], answer: &mut [u64], call: impl FnOnce(Board, &mut [u64]
 /// Rack size and number of lines of a file: place, rack size, lines, 0.
 pub fn read(file: &[u8], answer: &mut [u64]) -> u32 {
     on_board(file, answer, |board, answer| {
-        answered(answer, refusal::NONE, [0, board.rack as u64, board.count as u64, 0])
+        answered(answer, refusal::ACCEPTED, [0, board.rack as u64, board.count as u64, 0])
     })
 }
 
@@ -51,7 +51,7 @@ pub fn read(file: &[u8], answer: &mut [u64]) -> u32 {
 pub fn common(file: &[u8], answer: &mut [u64]) -> u32 {
     on_board(file, answer, |board, answer| {
         let common = board.common_tip().value;
-        answered(answer, refusal::NONE, [0, common.top as u64, common.off as u64, common.tips])
+        answered(answer, refusal::ACCEPTED, [0, common.top as u64, common.off as u64, common.tips])
     })
 }
 
@@ -59,14 +59,14 @@ pub fn common(file: &[u8], answer: &mut [u64]) -> u32 {
 pub fn keep(file: &[u8], k: u16, out: &mut [u8], answer: &mut [u64]) -> u32 {
     on_board(file, answer, |board, answer| {
         let kept = board.keep_within(k);
-        if kept.number != refusal::NONE {
+        if kept.number != refusal::ACCEPTED {
             return answered(answer, kept.number, [kept.place as u64, kept.value as u64, 0, 0]);
         }
         let written = kept.board.write(out);
-        if written.number != refusal::NONE {
+        if written.number != refusal::ACCEPTED {
             return refused(answer, &written);
         }
-        answered(answer, refusal::NONE, [0, kept.value as u64, written.value as u64, 0])
+        answered(answer, refusal::ACCEPTED, [0, kept.value as u64, written.value as u64, 0])
     })
 }
 
@@ -74,7 +74,7 @@ pub fn keep(file: &[u8], k: u16, out: &mut [u8], answer: &mut [u64]) -> u32 {
 pub fn goal(file: &[u8], goal: u32, out: &mut [u8], answer: &mut [u64]) -> u32 {
     on_board(file, answer, |board, answer| {
         let kept = board.goal(goal);
-        if kept.number != refusal::NONE {
+        if kept.number != refusal::ACCEPTED {
             return refused(answer, &kept);
         }
         let written = kept.board.write(out);
@@ -149,7 +149,7 @@ fn on_boards(
 pub fn merge(first: &[u8], second: &[u8], out: &mut [u8], answer: &mut [u64]) -> u32 {
     on_boards(first, second, answer, |first, second, answer| {
         let merged = first.merge(second);
-        if merged.number != refusal::NONE {
+        if merged.number != refusal::ACCEPTED {
             return answered(answer, merged.number, [merged.place as u64, 0, 0, 0]);
         }
         let written = merged.panel.write(out);
@@ -192,7 +192,7 @@ fn on_parts(parts: &[u32], rules: &[u32], answer: &mut [u64], call: impl FnOnce(
     let parts: Vec<Part> = parts.chunks(PART_PLACES).map(part).collect();
     let rules: Vec<Rule> = rules.chunks(RULE_PLACES).map(|of| (of[0], of[1])).collect();
     let ByTips { ordered, changes } = call(&Placing { parts: &parts, rules: &rules });
-    let count = if ordered.number == refusal::NONE { parts.len() } else { 0 };
+    let count = if ordered.number == refusal::ACCEPTED { parts.len() } else { 0 };
     answered(answer, ordered.number, [ordered.place as u64, count as u64, changes as u64, 0])
 }
 

@@ -41,11 +41,11 @@ impl Board {
     /// Plans with one tip or two: the most pairs, then the lowest first tip, then the lowest second.
     pub fn junior(self, plan: &mut [u8]) -> Answer<Junior> {
         let (number, place) = self.refusal_in(Stage::Closed);
-        if number != refusal::NONE {
+        if number != refusal::ACCEPTED {
             return Answer::refused_at(self, number, place);
         }
         if self.count > JUNIOR_LINES {
-            return Answer::refused(self, refusal::FULL);
+            return Answer::refused(self, refusal::TOO_MANY_LINES);
         }
         if self.rack > JUNIOR_TIPS {
             return Answer::refused(self, refusal::RACK_SIZE);

@@ -15,7 +15,7 @@ mod junior;
 mod mending;
 mod panel;
 mod placing;
-mod refusal;
+pub mod refusal;
 mod report;
 mod sharing;
 mod trying;

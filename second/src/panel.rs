@@ -28,7 +28,7 @@ pub struct Alone {
 /// The refusal of the first board that is not sound and closed, and its place; 0 where both are.
 fn refusal_of_both(first: &Board, second: &Board) -> (u32, usize) {
     let of_first = first.refusal_in(Stage::Closed);
-    if of_first.0 != refusal::NONE {
+    if of_first.0 != refusal::ACCEPTED {
         return of_first;
     }
     second.refusal_in(Stage::Closed)
@@ -40,22 +40,22 @@ fn refusal_of_panel(first: &Board, second: &Board) -> u32 {
         return refusal::RACKS_DIFFER;
     }
     if first.count + second.count > MOST_LINES {
-        return refusal::FULL;
+        return refusal::TOO_MANY_LINES;
     }
     if first.placements().len() + second.placements().len() > MOST_PLACEMENTS {
         return refusal::TOO_MANY_PLACEMENTS;
     }
-    refusal::NONE
+    refusal::ACCEPTED
 }
 
 impl Board {
     /// Merges two closed boards into one: the lines of the first, then those of the second.
     pub fn merge(self, other: Board) -> Merged {
         let (mut number, place) = refusal_of_both(&self, &other);
-        if number == refusal::NONE {
+        if number == refusal::ACCEPTED {
             number = refusal_of_panel(&self, &other);
         }
-        let panel = if number == refusal::NONE {
+        let panel = if number == refusal::ACCEPTED {
             let lines: Vec<Line> = self.lines().chain(other.lines()).collect();
             Board::of_lines(self.rack, &lines)
         } else {
@@ -68,10 +68,10 @@ impl Board {
     /// that of the first.
     pub fn alone(self, other: Board, plan: &mut [u8]) -> Alone {
         let (mut number, place) = refusal_of_both(&self, &other);
-        if number == refusal::NONE && plan.len() < self.count + other.count {
+        if number == refusal::ACCEPTED && plan.len() < self.count + other.count {
             number = refusal::SHORT_PLAN;
         }
-        if number != refusal::NONE {
+        if number != refusal::ACCEPTED {
             return Alone { first: self, second: other, number, place, first_pairs: 0, second_pairs: 0 };
         }
         let (of_first, of_second) = plan.split_at_mut(self.count);

@@ -62,7 +62,7 @@ impl Placing<'_> {
                 return (refusal::BAD_RULE, number);
             }
         }
-        (refusal::NONE, 0)
+        (refusal::ACCEPTED, 0)
     }
 
     /// Whether an order, the part at each position, has each part once and obeys windows, flags and rules.
@@ -226,7 +226,7 @@ pub struct Ordered {
 /// Writes the least order that obeys, one byte a position, and nothing where the call is refused.
 pub fn order_parts(placing: &Placing, order: &mut [u8]) -> Ordered {
     let (number, place) = placing.refusal();
-    if number != refusal::NONE {
+    if number != refusal::ACCEPTED {
         return Ordered { number, place };
     }
     if order.len() < placing.parts.len() {
@@ -236,7 +236,7 @@ pub fn order_parts(placing: &Placing, order: &mut [u8]) -> Ordered {
         None => Ordered { number: refusal::NO_ORDER, place: 0 },
         Some(least) => {
             order[..least.len()].copy_from_slice(&least);
-            Ordered { number: refusal::NONE, place: 0 }
+            Ordered { number: refusal::ACCEPTED, place: 0 }
         }
     }
 }

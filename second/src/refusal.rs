@@ -1,7 +1,7 @@
 //! The numbers of refused calls.
 
 /// The call was accepted.
-pub const NONE: u32 = 0;
+pub const ACCEPTED: u32 = 0;
 
 /// The rack size is 0 or above 64, or for the Junior above 8.
 pub const RACK_SIZE: u32 = 1;
@@ -43,21 +43,21 @@ pub const FOREIGN_TIP: u32 = 19;
 pub const WRONG_CLAIM: u32 = 20;
 
 /// The board's rack size or number of lines is out of range.
-pub const OUT_OF_RANGE: u32 = 21;
+pub const UNSOUND_BOARD: u32 = 21;
 /// Add or close on a closed board.
-pub const CLOSED: u32 = 22;
+pub const BOARD_CLOSED: u32 = 22;
 /// Common tip, keep, a plan or write on an open board.
-pub const OPEN: u32 = 23;
+pub const BOARD_OPEN: u32 = 23;
 /// Add on a board of 512 lines, the Junior on one of more than 64, or merging with more than 512 together.
-pub const FULL: u32 = 24;
+pub const TOO_MANY_LINES: u32 = 24;
 /// Best sharing, a goal or a check, and some line misses a named tip between its lowest and its highest.
 pub const NO_RUN: u32 = 25;
 /// Keep, and the margin is below zero.
 pub const NO_PLAN: u32 = 26;
 /// A line of the board has no tip, one outside the rack, quantity 0, or passes 2,048 placements.
-pub const BAD_LINE: u32 = 27;
+pub const UNSOUND_LINE: u32 = 27;
 /// After the last line of the board a set is not empty or a quantity not 0.
-pub const LEFT_OVER: u32 = 28;
+pub const HELD_BEHIND: u32 = 28;
 /// No order of the parts obeys.
 pub const NO_ORDER: u32 = 29;
 /// The lines stand for more than 2,048 placements, those of both boards where they are merged.
@@ -65,11 +65,11 @@ pub const TOO_MANY_PLACEMENTS: u32 = 30;
 /// The Junior, and no two tips serve every line.
 pub const NO_TWO_TIPS: u32 = 31;
 /// The table does not show that the checked plan has the most pairs.
-pub const TABLE_FAILS: u32 = 33;
+pub const WRONG_TABLE: u32 = 33;
 /// A goal of pairs, and no plan has so many.
 pub const GOAL_MISSED: u32 = 34;
 /// Exact sharing, and lines name more than 20 tips.
-pub const MANY_TIPS: u32 = 35;
+pub const TOO_MANY_NAMED: u32 = 35;
 
 /// The answer of a call of the C interface has fewer than 4 places.
 pub const SHORT_ANSWER: u32 = 100;

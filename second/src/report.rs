@@ -19,7 +19,7 @@ pub fn report(file: &[u8]) -> Vec<u8> {
 
 fn write_report(file: &[u8], text: &mut Vec<u8>) -> std::io::Result<()> {
     let job = read(file);
-    if job.number != refusal::NONE {
+    if job.number != refusal::ACCEPTED {
         return writeln!(text, "refused {}", job.number);
     }
     let board = job.board;
@@ -30,7 +30,7 @@ fn write_report(file: &[u8], text: &mut Vec<u8>) -> std::io::Result<()> {
     let mut best_plan = [0; MOST_LINES];
     let mut table = vec![0; MOST_TIPS * MOST_TIPS];
     let best = board.best(None, &mut best_plan, &mut table);
-    let all_runs = best.number == refusal::NONE;
+    let all_runs = best.number == refusal::ACCEPTED;
 
     writeln!(text, "lines {count} rack {rack}")?;
     write!(text, "off {} tips", common.off)?;

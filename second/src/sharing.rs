@@ -120,7 +120,7 @@ impl Board {
     /// The refusal of a plan for the board's state, then for the mounted tip, then for the plan buffer; 0 for none.
     pub(crate) fn refusal_of_plan(&self, mounted: Option<usize>, plan: &[u8]) -> (u32, usize) {
         let (number, place) = self.refusal_in(Stage::Closed);
-        if number != refusal::NONE {
+        if number != refusal::ACCEPTED {
             return (number, place);
         }
         if mounted.is_some_and(|tip| tip >= self.rack) {
@@ -129,7 +129,7 @@ impl Board {
         if plan.len() < self.count {
             return (refusal::SHORT_PLAN, 0);
         }
-        (refusal::NONE, 0)
+        (refusal::ACCEPTED, 0)
     }
 
     /// The first line that misses a named tip between its lowest and its highest.
@@ -141,7 +141,7 @@ impl Board {
     /// Quick sharing: each round plans all lines of the tip that most unplanned placements allow.
     pub fn quick(self, mounted: Option<usize>, plan: &mut [u8]) -> Answer<u32> {
         let (number, place) = self.refusal_of_plan(mounted, plan);
-        if number != refusal::NONE {
+        if number != refusal::ACCEPTED {
             return Answer::refused_at(self, number, place);
         }
         let mut planned = vec![false; self.count];
@@ -178,7 +178,7 @@ impl Board {
     /// Best sharing of lines that are runs among the named tips; the table ends with the most pairs of each stretch.
     pub fn best(self, mounted: Option<usize>, plan: &mut [u8], table: &mut [u32]) -> Answer<u32> {
         let (number, place) = self.refusal_of_plan(mounted, plan);
-        if number != refusal::NONE {
+        if number != refusal::ACCEPTED {
             return Answer::refused_at(self, number, place);
         }
         let m = self.rack;

@@ -56,7 +56,7 @@ pub fn try_every_order_for_windows(placing: &Placing) -> Option<Vec<(u8, u8)>> {
 /// Writes the first and the last position of each part, one byte a part, and nothing where the call is refused.
 pub fn find_windows(placing: &Placing, first: &mut [u8], last: &mut [u8]) -> Ordered {
     let (number, place) = placing.refusal();
-    if number != refusal::NONE {
+    if number != refusal::ACCEPTED {
         return Ordered { number, place };
     }
     if first.len().min(last.len()) < placing.parts.len() {
@@ -68,5 +68,5 @@ pub fn find_windows(placing: &Placing, first: &mut [u8], last: &mut [u8]) -> Ord
     for (part, window) in windows.into_iter().enumerate() {
         (first[part], last[part]) = window;
     }
-    Ordered { number: refusal::NONE, place: 0 }
+    Ordered { number: refusal::ACCEPTED, place: 0 }
 }

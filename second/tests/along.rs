@@ -1,7 +1,7 @@
 //! Plans along the list: rows worked out by hand, and its refusals.
 
 use second::interface::{self, NO_TIP};
-use second::{Along, Board, Line, Stage};
+use second::{refusal, Along, Board, Line, Stage};
 
 /// The closed board of these lines, tips and quantity.
 fn closed(rack: usize, lines: &[(&[usize], u8)]) -> Board {
@@ -93,10 +93,10 @@ fn refusals_in_their_order() {
         board
     };
     let boards = [
-        (Board { rack: 0, ..sound.clone() }, 21, 0),
-        (with(0, 1), 27, 1),
-        (with(1, 2), 28, 2),
-        (Board { stage: Stage::Open, ..sound.clone() }, 23, 0),
+        (Board { rack: 0, ..sound.clone() }, refusal::UNSOUND_BOARD, 0),
+        (with(0, 1), refusal::UNSOUND_LINE, 1),
+        (with(1, 2), refusal::HELD_BEHIND, 2),
+        (Board { stage: Stage::Open, ..sound.clone() }, refusal::BOARD_OPEN, 0),
     ];
     let refused = |board: &Board, mounted: Option<usize>, lent: usize| {
         let mut plan = vec![7; lent];
@@ -111,12 +111,12 @@ fn refusals_in_their_order() {
     }
     for mounted in [3, 64, 256, 1 << 32, usize::MAX] {
         for lent in [0, 1, 2, 512] {
-            assert_eq!(refused(&sound, Some(mounted), lent), (16, 0));
+            assert_eq!(refused(&sound, Some(mounted), lent), (refusal::MOUNTED_OUTSIDE, 0));
         }
     }
     for lent in [0, 1] {
-        assert_eq!(refused(&sound, None, lent), (4, 0));
-        assert_eq!(refused(&sound, Some(2), lent), (4, 0));
+        assert_eq!(refused(&sound, None, lent), (refusal::SHORT_PLAN, 0));
+        assert_eq!(refused(&sound, Some(2), lent), (refusal::SHORT_PLAN, 0));
     }
 }
 
@@ -135,17 +135,17 @@ fn numbers_of_the_interface() {
         (number, answer[0])
     };
     // The file is read before anything else.
-    assert_eq!(refused(&file[..7], 3, 0), (6, 0));
+    assert_eq!(refused(&file[..7], 3, 0), (refusal::SHORT_FILE, 0));
     let mut empty_line = file.clone();
     empty_line[24] = 0;
-    assert_eq!(refused(&empty_line, 3, 0), (2, 1));
+    assert_eq!(refused(&empty_line, 3, 0), (refusal::EMPTY_LINE, 1));
     for mounted in [3, 64, 255, 256, 1 << 32, NO_TIP - 1] {
-        assert_eq!(refused(&file, mounted, 0), (16, 0));
+        assert_eq!(refused(&file, mounted, 0), (refusal::MOUNTED_OUTSIDE, 0));
     }
-    assert_eq!(refused(&file, NO_TIP, 2), (4, 0));
+    assert_eq!(refused(&file, NO_TIP, 2), (refusal::SHORT_PLAN, 0));
     for short in 0..4 {
         let mut answer = vec![9; short];
-        assert_eq!(interface::along(&file[..7], 3, &mut [], &mut answer), 100);
+        assert_eq!(interface::along(&file[..7], 3, &mut [], &mut answer), refusal::SHORT_ANSWER);
         assert_eq!(answer, vec![9; short]);
     }
 }

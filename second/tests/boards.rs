@@ -1,6 +1,6 @@
 //! The boards B1 to B14 of the rules, and the printed example.
 
-use second::{pairs_in, read, report, Answer, Board, CommonTip, LONGEST_FILE};
+use second::{pairs_in, read, refusal, report, Answer, Board, CommonTip, LONGEST_FILE};
 
 /// The set of the given tips.
 fn set(tips: &[usize]) -> u64 {
@@ -154,7 +154,7 @@ fn b12_rack_sizes() {
 fn b13_tip_outside_the_rack() {
     let board = Board::open(3).board;
     let refused = board.clone().add(set(&[3]), 1);
-    assert_eq!((refused.number, refused.place), (3, 0));
+    assert_eq!((refused.number, refused.place), (refusal::TIP_OUTSIDE, 0));
     assert_eq!(refused.board, board);
     let added = accepted(board.add(set(&[2]), 7)).board;
     assert_eq!((added.count, added.sets[0], added.quantities[0]), (1, 4, 7));
@@ -170,7 +170,7 @@ fn b14_line_512_and_513() {
     assert_eq!(board.sets[511], 1 << 63);
     for (set, quantity) in [(1, 1), (0, 1), (u64::MAX, 1), (1, 0)] {
         let answer = board.clone().add(set, quantity);
-        assert_eq!((answer.number, answer.place), (24, 0));
+        assert_eq!((answer.number, answer.place), (refusal::TOO_MANY_LINES, 0));
         assert_eq!(answer.board, board);
     }
 }

@@ -1,7 +1,7 @@
 //! The placing order by tips: rows worked out by hand, and small cases against every order.
 
 use second::interface::{self, NO_TIP};
-use second::{order_by_tips, try_every_order_by_tips, ByTips, Part, Placing, Rule};
+use second::{order_by_tips, refusal, try_every_order_by_tips, ByTips, Part, Placing, Rule};
 
 use placings::{below, every_small_placing, parts, seeded_placings};
 
@@ -88,22 +88,22 @@ fn without_parts_there_is_no_change() {
 #[test]
 fn refusals_in_their_order() {
     let round = [(0, 1), (1, 0)];
-    assert_eq!(refused(&["1-0"; 129], &[(0, 0)], &[], Some(64), 0), (12, 0));
-    assert_eq!(refused(&["0-1", "1-0"], &[(0, 0)], &[64], Some(64), 0), (12, 1));
-    assert_eq!(refused(&["0-1"; 2], &[(0, 1), (1, 2)], &[64], Some(64), 0), (13, 1));
-    assert_eq!(refused(&["0-1"; 2], &round, &[64], Some(64), 1), (14, 0));
-    assert_eq!(refused(&["0-1"; 2], &round, &[64], Some(64), 2), (4, 0));
-    assert_eq!(refused(&["0-1"; 2], &round, &[], None, 2), (4, 0));
-    assert_eq!(refused(&["0-1"; 2], &round, &[63, 64], Some(64), 2), (3, 1));
-    assert_eq!(refused(&["0-1"; 2], &round, &[255, 64], None, 2), (3, 0));
+    assert_eq!(refused(&["1-0"; 129], &[(0, 0)], &[], Some(64), 0), (refusal::BAD_WINDOW, 0));
+    assert_eq!(refused(&["0-1", "1-0"], &[(0, 0)], &[64], Some(64), 0), (refusal::BAD_WINDOW, 1));
+    assert_eq!(refused(&["0-1"; 2], &[(0, 1), (1, 2)], &[64], Some(64), 0), (refusal::BAD_RULE, 1));
+    assert_eq!(refused(&["0-1"; 2], &round, &[64], Some(64), 1), (refusal::SHORT_ORDER, 0));
+    assert_eq!(refused(&["0-1"; 2], &round, &[64], Some(64), 2), (refusal::SHORT_PLAN, 0));
+    assert_eq!(refused(&["0-1"; 2], &round, &[], None, 2), (refusal::SHORT_PLAN, 0));
+    assert_eq!(refused(&["0-1"; 2], &round, &[63, 64], Some(64), 2), (refusal::TIP_OUTSIDE, 1));
+    assert_eq!(refused(&["0-1"; 2], &round, &[255, 64], None, 2), (refusal::TIP_OUTSIDE, 0));
     for mounted in [64, 65, 256, 1 << 32, usize::MAX] {
-        assert_eq!(refused(&["0-1"; 2], &round, &[63, 0], Some(mounted), 2), (16, 0));
+        assert_eq!(refused(&["0-1"; 2], &round, &[63, 0], Some(mounted), 2), (refusal::MOUNTED_OUTSIDE, 0));
     }
-    assert_eq!(refused(&["0-1"; 2], &round, &[63, 0], Some(63), 2), (29, 0));
+    assert_eq!(refused(&["0-1"; 2], &round, &[63, 0], Some(63), 2), (refusal::NO_ORDER, 0));
     // Of a longer plan only the bytes of the parts count.
     assert_eq!(ordered(&["0-1"; 2], &[], &[1, 2, 64], None), (vec![0, 1], 1));
     // Without parts the mounted tip counts all the same.
-    assert_eq!(refused(&[], &[], &[], Some(64), 0), (16, 0));
+    assert_eq!(refused(&[], &[], &[], Some(64), 0), (refusal::MOUNTED_OUTSIDE, 0));
 }
 
 /// The order by tips is the one that comes first of all that obey, and with one tip for all it is the least.
@@ -154,7 +154,7 @@ fn numbers_of_the_interface() {
     assert_eq!((lent, answer), ([1, 0, 2, 9], [0, 3, 2, 0, 7]));
     for short in 0..4 {
         let mut answer = vec![7; short];
-        assert_eq!(interface::order_by_tips(&parts[..3], &[1], &[], 64, &mut [], &mut answer), 100);
+        assert_eq!(interface::order_by_tips(&parts[..3], &[1], &[], 64, &mut [], &mut answer), refusal::SHORT_ANSWER);
         assert_eq!(answer, vec![7; short]);
     }
     let refused = |parts: &[u32], rules: &[u32], plan: &[u8], mounted: usize, lent: usize| {
@@ -163,15 +163,15 @@ fn numbers_of_the_interface() {
         assert_eq!((order, &answer[1..]), (vec![9; lent], &[0, 0, 0, 7][..]));
         (number, answer[0])
     };
-    assert_eq!(refused(&parts[..11], &[5, 5], &[], 64, 0), (101, 0));
-    assert_eq!(refused(&parts, &[0, 1, 2], &[], 64, 0), (101, 0));
-    assert_eq!(refused(&[9; 4 * 129], &[5, 5], &[], 64, 0), (12, 0));
-    assert_eq!(refused(&parts, &[0, 2, 1, u32::MAX], &[], 64, 0), (13, 1));
-    assert_eq!(refused(&parts, &[2, 0], &[64; 2], 64, 2), (14, 0));
-    assert_eq!(refused(&parts, &[2, 0], &[64; 2], 64, 3), (4, 0));
-    assert_eq!(refused(&parts, &[2, 0], &[0, 0, 64], 64, 3), (3, 2));
+    assert_eq!(refused(&parts[..11], &[5, 5], &[], 64, 0), (refusal::BROKEN_RECORD, 0));
+    assert_eq!(refused(&parts, &[0, 1, 2], &[], 64, 0), (refusal::BROKEN_RECORD, 0));
+    assert_eq!(refused(&[9; 4 * 129], &[5, 5], &[], 64, 0), (refusal::BAD_WINDOW, 0));
+    assert_eq!(refused(&parts, &[0, 2, 1, u32::MAX], &[], 64, 0), (refusal::BAD_RULE, 1));
+    assert_eq!(refused(&parts, &[2, 0], &[64; 2], 64, 2), (refusal::SHORT_ORDER, 0));
+    assert_eq!(refused(&parts, &[2, 0], &[64; 2], 64, 3), (refusal::SHORT_PLAN, 0));
+    assert_eq!(refused(&parts, &[2, 0], &[0, 0, 64], 64, 3), (refusal::TIP_OUTSIDE, 2));
     for mounted in [64, 255, 256, 1 << 32, NO_TIP - 1] {
-        assert_eq!(refused(&parts, &[2, 0], &[0; 3], mounted, 3), (16, 0));
+        assert_eq!(refused(&parts, &[2, 0], &[0; 3], mounted, 3), (refusal::MOUNTED_OUTSIDE, 0));
     }
-    assert_eq!(refused(&parts, &[2, 0], &[0; 3], 0, 3), (29, 0));
+    assert_eq!(refused(&parts, &[2, 0], &[0; 3], 0, 3), (refusal::NO_ORDER, 0));
 }

@@ -1,7 +1,7 @@
 //! Exact sharing: rows worked out by hand, and its refusals.
 
 use second::interface::{self, NO_TIP};
-use second::{Board, Exact, Line, Stage};
+use second::{refusal, Board, Exact, Line, Stage};
 
 /// The closed board of these lines, tips and quantity.
 fn closed(rack: usize, lines: &[(&[usize], u8)]) -> Board {
@@ -126,10 +126,10 @@ fn refusals_in_their_order() {
         (answer.number, answer.place)
     };
     for (board, number, place) in [
-        (Board { rack: 0, ..sound.clone() }, 21, 0),
-        (with(0, 1), 27, 1),
-        (with(1, 2), 28, 2),
-        (Board { stage: Stage::Open, ..sound.clone() }, 23, 0),
+        (Board { rack: 0, ..sound.clone() }, refusal::UNSOUND_BOARD, 0),
+        (with(0, 1), refusal::UNSOUND_LINE, 1),
+        (with(1, 2), refusal::HELD_BEHIND, 2),
+        (Board { stage: Stage::Open, ..sound.clone() }, refusal::BOARD_OPEN, 0),
     ] {
         assert_eq!(refused(&board, Some(3), [0, 0]), (number, place));
         assert_eq!(refused(&board, None, [2, 16]), (number, place));
@@ -137,19 +137,19 @@ fn refusals_in_their_order() {
     let many = Board::of_sets(21, &[(1 << 21) - 1]);
     for board in [&sound, &many] {
         for mounted in [21, 64, 256, 1 << 32, usize::MAX] {
-            assert_eq!(refused(board, Some(mounted), [0, 0]), (16, 0));
+            assert_eq!(refused(board, Some(mounted), [0, 0]), (refusal::MOUNTED_OUTSIDE, 0));
         }
-        assert_eq!(refused(board, None, [0, 0]), (4, 0));
+        assert_eq!(refused(board, None, [0, 0]), (refusal::SHORT_PLAN, 0));
     }
     for places in [0, 15, 16, 2 << 21] {
-        assert_eq!(refused(&many, Some(20), [1, places]), (35, 0));
+        assert_eq!(refused(&many, Some(20), [1, places]), (refusal::TOO_MANY_NAMED, 0));
     }
     for places in [0, 8, 15] {
-        assert_eq!(refused(&sound, None, [2, places]), (5, 0));
+        assert_eq!(refused(&sound, None, [2, places]), (refusal::SHORT_TABLE, 0));
     }
     // Tips that no line names do not count.
     let spread = Board::of_sets(64, &[1, 1 << 63]);
-    assert_eq!(refused(&spread, None, [2, 7]), (5, 0));
+    assert_eq!(refused(&spread, None, [2, 7]), (refusal::SHORT_TABLE, 0));
     assert_eq!(planned(&spread, None, 0), (vec![0, 63], 0, 2));
 }
 
@@ -172,15 +172,15 @@ fn numbers_of_the_interface() {
         assert_eq!((plan, table, &answer[1..]), (vec![7; lent[0]], vec![7; lent[1]], &[0, 0, 0, 9][..]));
         (number, answer[0])
     };
-    assert_eq!(refused(&file[..7], 3, [0, 0]), (6, 0));
+    assert_eq!(refused(&file[..7], 3, [0, 0]), (refusal::SHORT_FILE, 0));
     for mounted in [3, 64, 255, 256, 1 << 32, NO_TIP - 1] {
-        assert_eq!(refused(&file, mounted, [0, 0]), (16, 0));
+        assert_eq!(refused(&file, mounted, [0, 0]), (refusal::MOUNTED_OUTSIDE, 0));
     }
-    assert_eq!(refused(&file, NO_TIP, [3, 16]), (4, 0));
-    assert_eq!(refused(&file, NO_TIP, [4, 15]), (5, 0));
+    assert_eq!(refused(&file, NO_TIP, [3, 16]), (refusal::SHORT_PLAN, 0));
+    assert_eq!(refused(&file, NO_TIP, [4, 15]), (refusal::SHORT_TABLE, 0));
     for short in 0..4 {
         let mut answer = vec![9; short];
-        assert_eq!(interface::exact(&file[..7], 3, 0, &mut [], &mut [], &mut answer), 100);
+        assert_eq!(interface::exact(&file[..7], 3, 0, &mut [], &mut [], &mut answer), refusal::SHORT_ANSWER);
         assert_eq!(answer, vec![9; short]);
     }
 }

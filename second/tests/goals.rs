@@ -1,6 +1,6 @@
 //! Goals of pairs: rows worked out by hand.
 
-use second::{Board, Line, Stage};
+use second::{refusal, Board, Line, Stage};
 
 /// The closed board of these lines, tips and quantity.
 fn closed(rack: usize, lines: &[(&[usize], u8)]) -> Board {
@@ -36,18 +36,18 @@ fn b49_to_b51_of_the_rules() {
     for goal in [18, 20] {
         assert_left(&b23(), goal, &[0b001, 0b001, 0b100, 0b100]);
     }
-    assert_refused(&b23(), 21, 34, 0);
-    assert_refused(&b23(), u32::MAX, 34, 0);
+    assert_refused(&b23(), 21, refusal::GOAL_MISSED, 0);
+    assert_refused(&b23(), u32::MAX, refusal::GOAL_MISSED, 0);
     let empty = closed(3, &[]);
     assert_left(&empty, 0, &[]);
-    assert_refused(&empty, 1, 34, 0);
+    assert_refused(&empty, 1, refusal::GOAL_MISSED, 0);
 }
 
 #[test]
 fn b52_every_tip_of_equal_lines_stays() {
     let board = closed(3, &[(&[0, 1, 2], 1), (&[0, 1, 2], 1)]);
     assert_left(&board, 1, &[0b111, 0b111]);
-    assert_refused(&board, 2, 34, 0);
+    assert_refused(&board, 2, refusal::GOAL_MISSED, 0);
 }
 
 #[test]
@@ -57,7 +57,7 @@ fn b53_a_gap_is_left() {
     assert_left(&board, 32_643, &[0b101, 0b001, 0b010, 0b100]);
     let left = board.goal(32_643).board;
     let best = left.best(None, &mut [0; 4], &mut [0; 9]);
-    assert_eq!((best.number, best.place), (25, 0));
+    assert_eq!((best.number, best.place), (refusal::NO_RUN, 0));
 }
 
 #[test]
@@ -65,15 +65,15 @@ fn b54_tips_that_no_line_names() {
     let board = closed(5, &[(&[0], 1), (&[0, 4], 1), (&[4], 2)]);
     assert_left(&board, 2, &[0b00001, 0b10001, 0b10000]);
     assert_left(&board, 3, &[0b00001, 0b10000, 0b10000]);
-    assert_refused(&board, 4, 34, 0);
+    assert_refused(&board, 4, refusal::GOAL_MISSED, 0);
 }
 
 #[test]
 fn b55_the_order_of_refusals() {
     let board = closed(3, &[(&[1], 1), (&[0, 2], 1)]);
-    assert_refused(&Board { stage: Stage::Open, ..board.clone() }, 0, 23, 0);
-    assert_refused(&board, 0, 25, 1);
-    assert_refused(&board, u32::MAX, 25, 1);
+    assert_refused(&Board { stage: Stage::Open, ..board.clone() }, 0, refusal::BOARD_OPEN, 0);
+    assert_refused(&board, 0, refusal::NO_RUN, 1);
+    assert_refused(&board, u32::MAX, refusal::NO_RUN, 1);
 }
 
 #[test]

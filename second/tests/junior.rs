@@ -1,6 +1,6 @@
 //! Plans for the Junior: rows worked out by hand.
 
-use second::{Board, Junior, Line, Stage};
+use second::{refusal, Board, Junior, Line, Stage};
 
 /// The closed board of these lines, tips and quantity.
 fn closed(rack: usize, lines: &[(&[usize], u8)]) -> Board {
@@ -54,18 +54,18 @@ fn b60_no_tip_without_a_line() {
 #[test]
 fn b61_and_b65_the_order_of_refusals() {
     let board = closed(3, &[(&[0], 1), (&[1], 1), (&[2], 1)]);
-    assert_refused(&board, 3, 31);
-    assert_refused(&board, 2, 4);
-    assert_refused(&Board { stage: Stage::Open, ..board }, 0, 23);
+    assert_refused(&board, 3, refusal::NO_TWO_TIPS);
+    assert_refused(&board, 2, refusal::SHORT_PLAN);
+    assert_refused(&Board { stage: Stage::Open, ..board }, 0, refusal::BOARD_OPEN);
 }
 
 #[test]
 fn b62_and_b63_the_largest_boards() {
     assert_planned(&closed(2, &[(&[0, 1][..], 1); 64]), &[0; 64], 2016, 0, 0);
-    assert_refused(&closed(2, &[(&[0, 1][..], 1); 65]), 0, 24);
+    assert_refused(&closed(2, &[(&[0, 1][..], 1); 65]), 0, refusal::TOO_MANY_LINES);
     assert_planned(&closed(8, &[(&[7], 1)]), &[7], 0, 7, 7);
-    assert_refused(&closed(9, &[(&[8], 1)]), 0, 1);
-    assert_refused(&closed(9, &[(&[8][..], 1); 65]), 0, 24);
+    assert_refused(&closed(9, &[(&[8], 1)]), 0, refusal::RACK_SIZE);
+    assert_refused(&closed(9, &[(&[8][..], 1); 65]), 0, refusal::TOO_MANY_LINES);
     let most = closed(8, &[[(&[0, 7][..], 255); 8].as_slice(), &[(&[7], 8)]].concat());
     assert_planned(&most, &[7; 9], 2_096_128, 7, 7);
 }
@@ -73,5 +73,5 @@ fn b62_and_b63_the_largest_boards() {
 #[test]
 fn b64_no_lines() {
     assert_planned(&closed(3, &[]), &[], 0, 0, 0);
-    assert_refused(&closed(9, &[]), 0, 1);
+    assert_refused(&closed(9, &[]), 0, refusal::RACK_SIZE);
 }

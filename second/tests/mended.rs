@@ -1,6 +1,6 @@
 //! Mended files: the rows of the rules, and what holds of every file.
 
-use second::{interface, mend, mended, read, Board, Line, Mending, Version, MOST_PLACEMENTS};
+use second::{interface, mend, mended, read, refusal, Board, Line, Mending, Version, MOST_PLACEMENTS};
 
 /// A file with this head and these lines, each a set and a quantity, whether they keep the rules or not.
 fn file(version: u8, rack: u8, count: u16, lines: &[(u64, u8)]) -> Vec<u8> {
@@ -134,7 +134,7 @@ fn refused_files_and_outputs() {
     let found = first(3, 2, &[0b1000, 0b011]);
     for (out, changes) in [(15, 9), (16, 8), (0, 9), (16, 0), (15, 8)] {
         let (mut to, mut told) = (vec![7; out], vec![7; changes]);
-        assert_eq!(mend(&found, &mut to, &mut told), Mending { number: 11, file: 0, report: 0 });
+        assert_eq!(mend(&found, &mut to, &mut told), Mending { number: refusal::SHORT_OUTPUT, file: 0, report: 0 });
         assert_eq!((to, told), (vec![7; out], vec![7; changes]));
     }
     let (mut to, mut told) = ([7; 18], [7; 11]);
@@ -173,13 +173,13 @@ fn refused_files_and_outputs() {
 fn interface_of_mending() {
     let mut answer = [9; 5];
     let (mut out, mut changes) = ([7; 30], [7; 5]);
-    assert_eq!(interface::mend(&example()[..23], &mut out, &mut changes, &mut answer), 11);
+    assert_eq!(interface::mend(&example()[..23], &mut out, &mut changes, &mut answer), refusal::SHORT_OUTPUT);
     assert_eq!((answer, changes), ([0, 0, 0, 0, 9], [7; 5]));
     assert_eq!(interface::mend(&[example(), vec![9]].concat(), &mut out, &mut changes, &mut answer), 0);
     assert_eq!((answer, changes), ([0, 24, 3, 0, 9], [255, 255, 6, 7, 7]));
     assert_eq!((&out[..24], &out[24..]), (&example()[..], &[7; 6][..]));
     let mut short = [9; 3];
-    assert_eq!(interface::mend(&[], &mut out, &mut changes, &mut short), 100);
+    assert_eq!(interface::mend(&[], &mut out, &mut changes, &mut short), refusal::SHORT_ANSWER);
     assert_eq!(short, [9; 3]);
 }
 

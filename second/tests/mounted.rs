@@ -1,7 +1,7 @@
 //! A mounted tip wins a tie: rows worked out by hand, and where its refusal stands.
 
 use second::interface::{self, NO_TIP};
-use second::{Board, Line, Stage};
+use second::{refusal, Board, Line, Stage};
 
 /// The closed board of these lines, tips and quantity.
 fn closed(rack: usize, lines: &[(&[usize], u8)]) -> Board {
@@ -128,10 +128,10 @@ fn state_of_the_board_is_refused_before_the_mounted_tip() {
         board
     };
     let boards = [
-        (Board { rack: 0, ..sound.clone() }, 21, 0),
-        (with(0, 1), 27, 1),
-        (with(1, 2), 28, 2),
-        (Board { stage: Stage::Open, ..sound.clone() }, 23, 0),
+        (Board { rack: 0, ..sound.clone() }, refusal::UNSOUND_BOARD, 0),
+        (with(0, 1), refusal::UNSOUND_LINE, 1),
+        (with(1, 2), refusal::HELD_BEHIND, 2),
+        (Board { stage: Stage::Open, ..sound.clone() }, refusal::BOARD_OPEN, 0),
     ];
     for (board, number, place) in boards {
         for mounted in [None, Some(0), Some(3), Some(usize::MAX)] {
@@ -157,13 +157,13 @@ fn interface_has_one_number_for_no_tip() {
     }
     for mounted in [3, 64, 255, 256, 257, 1 << 32, NO_TIP - 1] {
         // Reading is refused first, and a short answer before everything.
-        for (given, number) in [(&file[..], 16), (&file[..7], 6)] {
+        for (given, number) in [(&file[..], refusal::MOUNTED_OUTSIDE), (&file[..7], refusal::SHORT_FILE)] {
             answer = [9; 5];
             assert_eq!(interface::quick(given, mounted, &mut [], &mut answer), number);
             assert_eq!(answer, [0, 0, 0, 0, 9]);
             assert_eq!(interface::best(given, mounted, &mut [], &mut [], &mut answer), number);
             assert_eq!(answer, [0, 0, 0, 0, 9]);
-            assert_eq!(interface::quick(given, mounted, &mut [], &mut answer[..3]), 100);
+            assert_eq!(interface::quick(given, mounted, &mut [], &mut answer[..3]), refusal::SHORT_ANSWER);
         }
     }
 }

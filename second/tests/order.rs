@@ -1,7 +1,7 @@
 //! The placing order: rows worked out by hand, and small cases against every order.
 
 use second::interface;
-use second::{order_parts, try_every_order, Part, Placing, Rule};
+use second::{order_parts, refusal, try_every_order, Part, Placing, Rule};
 
 use placings::{every_small_placing, parts, seeded_placings};
 
@@ -36,17 +36,17 @@ fn rows_of_the_rules() {
     assert_eq!(order(&["0-0 ft"], &[], 2), (0, 0, vec![0, 9]));
     assert_eq!(ordered(&["0-127"; 128], &[]), (0..128).collect::<Vec<u8>>());
     // B93 to B98.
-    assert_eq!(refused(&["1-0"; 129], &[(0, 0)], 0), (12, 0));
-    assert_eq!(refused(&["0-1", "1-0"], &[], 2), (12, 1));
-    assert_eq!(refused(&["0-3", "0-2", "2-1"], &[(5, 5)], 0), (12, 0));
-    assert_eq!(refused(&["0-1", "0-1"], &[(0, 1), (1, 2)], 0), (13, 1));
-    assert_eq!(refused(&["0-1", "0-1"], &[(0, 1), (2, 1)], 0), (13, 1));
-    assert_eq!(refused(&["0-1", "0-1"], &[(1, 1), (0, 2)], 0), (13, 0));
-    assert_eq!(refused(&["0-1", "0-1"], &[(0, 1), (1, 0)], 1), (14, 0));
+    assert_eq!(refused(&["1-0"; 129], &[(0, 0)], 0), (refusal::BAD_WINDOW, 0));
+    assert_eq!(refused(&["0-1", "1-0"], &[], 2), (refusal::BAD_WINDOW, 1));
+    assert_eq!(refused(&["0-3", "0-2", "2-1"], &[(5, 5)], 0), (refusal::BAD_WINDOW, 0));
+    assert_eq!(refused(&["0-1", "0-1"], &[(0, 1), (1, 2)], 0), (refusal::BAD_RULE, 1));
+    assert_eq!(refused(&["0-1", "0-1"], &[(0, 1), (2, 1)], 0), (refusal::BAD_RULE, 1));
+    assert_eq!(refused(&["0-1", "0-1"], &[(1, 1), (0, 2)], 0), (refusal::BAD_RULE, 0));
+    assert_eq!(refused(&["0-1", "0-1"], &[(0, 1), (1, 0)], 1), (refusal::SHORT_ORDER, 0));
     // B99 to B104.
-    assert_eq!(refused(&["0-2"; 3], &[(0, 1), (1, 2), (2, 0)], 3), (29, 0));
+    assert_eq!(refused(&["0-2"; 3], &[(0, 1), (1, 2), (2, 0)], 3), (refusal::NO_ORDER, 0));
     assert_eq!(ordered(&["0-1 ft", "0-1"], &[]), [1, 0]);
-    assert_eq!(refused(&["1-1", "0-2", "1-1"], &[], 3), (29, 0));
+    assert_eq!(refused(&["1-1", "0-2", "1-1"], &[], 3), (refusal::NO_ORDER, 0));
     assert_eq!(order(&["0-1", "0-0"], &[], 3), (0, 0, vec![1, 0, 9]));
     assert_eq!(ordered(&["0-2"; 3], &[]), [0, 1, 2]);
     assert_eq!(ordered(&["0-3 t", "0-3", "0-3 f", "0-3"], &[(3, 1)]), [2, 3, 1, 0]);
@@ -62,8 +62,8 @@ fn height_decides() {
     assert_eq!(ordered(&["0-3 ft", "0-3", "0-3 t", "0-3 f"], &[]), [3, 1, 0, 2]);
     assert_eq!(ordered(&["0-3 ft", "0-3", "0-3 t", "0-3 f"], &[(2, 0)]), [3, 1, 2, 0]);
     // Nothing puts it before a plain part.
-    assert_eq!(refused(&["0-1 ft", "0-1"], &[(0, 1)], 2), (29, 0));
-    assert_eq!(refused(&["0-0 ft", "0-1"], &[], 2), (29, 0));
+    assert_eq!(refused(&["0-1 ft", "0-1"], &[(0, 1)], 2), (refusal::NO_ORDER, 0));
+    assert_eq!(refused(&["0-0 ft", "0-1"], &[], 2), (refusal::NO_ORDER, 0));
     assert_eq!(ordered(&["0-1 ft", "0-1 ft"], &[]), [0, 1]);
 }
 
@@ -72,7 +72,7 @@ fn parts_behind_are_looked_at_too() {
     assert_eq!(ordered(&["0-3", "0-3", "0-1", "0-1"], &[]), [2, 3, 0, 1]);
     assert_eq!(ordered(&["0-2", "0-2", "0-1"], &[(2, 0)]), [1, 2, 0]);
     // Part 3 is behind part 1, which begins at 2, and ends at 2.
-    assert_eq!(refused(&["0-3", "2-3", "0-3", "0-2"], &[(1, 3)], 4), (29, 0));
+    assert_eq!(refused(&["0-3", "2-3", "0-3", "0-2"], &[(1, 3)], 4), (refusal::NO_ORDER, 0));
     // Part 2 ends at 2 and part 1 is before it: part 0 cannot be at 0 with part 3, which is at 1 alone.
     assert_eq!(ordered(&["0-3", "0-3", "0-2", "1-1"], &[(1, 2)]), [1, 3, 2, 0]);
 }
@@ -138,7 +138,7 @@ fn numbers_of_the_interface() {
     assert_eq!((lent, answer), ([1, 0, 2, 9], [0, 3, 0, 0, 7]));
     for short in 0..4 {
         let mut answer = vec![7; short];
-        assert_eq!(interface::order(&parts[..3], &[1], &mut [], &mut answer), 100);
+        assert_eq!(interface::order(&parts[..3], &[1], &mut [], &mut answer), refusal::SHORT_ANSWER);
         assert_eq!(answer, vec![7; short]);
     }
     let mut call = |parts: &[u32], rules: &[u32]| {
@@ -150,14 +150,14 @@ fn numbers_of_the_interface() {
     };
     // 101 comes before 12 and 13.
     for length in [1, 2, 3, 5, 6, 7, 11] {
-        assert_eq!(call(&[9; 12][..length], &[5, 5]), (101, 0));
+        assert_eq!(call(&[9; 12][..length], &[5, 5]), (refusal::BROKEN_RECORD, 0));
     }
-    assert_eq!(call(&parts, &[0, 1, 2]), (101, 0));
-    assert_eq!(call(&[9; 4 * 129], &[5]), (101, 0));
-    assert_eq!(call(&[9; 4 * 129], &[5, 5]), (12, 0));
-    assert_eq!(call(&[0, u32::MAX, 0, 0], &[]), (12, 0));
-    assert_eq!(call(&[u32::MAX, u32::MAX, 0, 0], &[]), (12, 0));
-    assert_eq!(call(&parts, &[0, 2, 1, u32::MAX]), (13, 1));
-    assert_eq!(call(&parts, &[0, 2, 256, 1]), (13, 1));
-    assert_eq!(call(&parts, &[2, 0]), (29, 0));
+    assert_eq!(call(&parts, &[0, 1, 2]), (refusal::BROKEN_RECORD, 0));
+    assert_eq!(call(&[9; 4 * 129], &[5]), (refusal::BROKEN_RECORD, 0));
+    assert_eq!(call(&[9; 4 * 129], &[5, 5]), (refusal::BAD_WINDOW, 0));
+    assert_eq!(call(&[0, u32::MAX, 0, 0], &[]), (refusal::BAD_WINDOW, 0));
+    assert_eq!(call(&[u32::MAX, u32::MAX, 0, 0], &[]), (refusal::BAD_WINDOW, 0));
+    assert_eq!(call(&parts, &[0, 2, 1, u32::MAX]), (refusal::BAD_RULE, 1));
+    assert_eq!(call(&parts, &[0, 2, 256, 1]), (refusal::BAD_RULE, 1));
+    assert_eq!(call(&parts, &[2, 0]), (refusal::NO_ORDER, 0));
 }

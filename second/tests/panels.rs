@@ -1,6 +1,6 @@
 //! Two boards on one panel: the rows of the rules, the order of refusals, and what holds of every panel.
 
-use second::{interface, pairs_in, try_every_plan, Board, Line, Stage, Version};
+use second::{interface, pairs_in, refusal, try_every_plan, Board, Line, Stage, Version};
 
 /// The closed board of these lines, tips and quantity.
 fn closed(rack: usize, lines: &[(&[usize], u8)]) -> Board {
@@ -104,7 +104,12 @@ fn boards_that_are_refused() {
     let mut left_over = closed(3, &[(&[0], 1)]);
     left_over.sets[3] = 1;
     let open = Board { stage: Stage::Open, ..closed(4, &[]) };
-    for (second, number, place) in [(&out_of_range, 21, 0), (&empty_line, 27, 1), (&left_over, 28, 3), (&open, 23, 0)] {
+    for (second, number, place) in [
+        (&out_of_range, refusal::UNSOUND_BOARD, 0),
+        (&empty_line, refusal::UNSOUND_LINE, 1),
+        (&left_over, refusal::HELD_BEHIND, 3),
+        (&open, refusal::BOARD_OPEN, 0),
+    ] {
         assert_no_panel(&good, second, number, place);
         assert_no_panel(second, &good, number, place);
         assert_not_alone(&good, second, 0, number, place);
@@ -191,7 +196,7 @@ fn interface_of_panels() {
     assert_eq!(answer, [0, 44, 0, 0, 9]);
     assert_eq!(out[..44], panel_of(&first, &second).file());
     assert_eq!(out[44..], [7; 6]);
-    assert_eq!(interface::merge(&one, &two, &mut out[..43], &mut answer), 11);
+    assert_eq!(interface::merge(&one, &two, &mut out[..43], &mut answer), refusal::SHORT_OUTPUT);
     assert_eq!(answer, [0, 0, 0, 0, 9]);
     // Where every quantity is 1 the panel is of version 1.
     assert_eq!(interface::merge(&two, &two, &mut out, &mut answer), 0);
@@ -199,7 +204,7 @@ fn interface_of_panels() {
     let mut plan = [7; 5];
     assert_eq!(interface::alone(&one, &two, &mut plan, &mut answer), 0);
     assert_eq!((plan, answer), ([0, 0, 2, 2, 7], [0, 3, 1, 0, 9]));
-    assert_eq!(interface::alone(&one, &two, &mut plan[..3], &mut answer), 4);
+    assert_eq!(interface::alone(&one, &two, &mut plan[..3], &mut answer), refusal::SHORT_PLAN);
     assert_eq!((plan, answer), ([0, 0, 2, 2, 7], [0, 0, 0, 0, 9]));
     // The first file's refusal comes first.
     let mut bad = two.clone();
@@ -214,7 +219,7 @@ fn interface_of_panels() {
         assert_eq!(answer, [place, 0, 0, 0, 9]);
     }
     let mut short = [9; 3];
-    assert_eq!(interface::merge(&one, &two, &mut out, &mut short), 100);
-    assert_eq!(interface::alone(&[], &[], &mut plan, &mut short), 100);
+    assert_eq!(interface::merge(&one, &two, &mut out, &mut short), refusal::SHORT_ANSWER);
+    assert_eq!(interface::alone(&[], &[], &mut plan, &mut short), refusal::SHORT_ANSWER);
     assert_eq!(short, [9; 3]);
 }

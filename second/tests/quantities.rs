@@ -1,6 +1,6 @@
 //! Boards whose lines stand for several placements, worked out by hand.
 
-use second::{pairs_in, report, Answer, Board, CommonTip, Line};
+use second::{pairs_in, refusal, report, Answer, Board, CommonTip, Line};
 
 /// The closed board of these lines, tips and quantity, built by open, add and close.
 fn closed(rack: usize, lines: &[(&[usize], u8)]) -> Board {
@@ -53,7 +53,7 @@ fn common_tip_counts_placements() {
 fn keep_strikes_above_margin_zero() {
     let board = closed(2, &[(&[0], 5), (&[0, 1], 3), (&[1], 1)]);
     // With {0,1} on tip 1 the 5 of {0} are on tip 0 and 4 are off.
-    assert_eq!(board.clone().keep_within(0).number, 26);
+    assert_eq!(board.clone().keep_within(0).number, refusal::NO_PLAN);
     assert_eq!(kept(&board, 1), (0, vec![0b01, 0b01, 0b10]));
     assert_eq!(kept(&board, 2), (1, vec![0b01, 0b01, 0b10]));
     assert_eq!(kept(&board, 3), (2, vec![0b01, 0b01, 0b10]));

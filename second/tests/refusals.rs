@@ -1,6 +1,6 @@
 //! Every refusal of every call, with its place, and that nothing else changes.
 
-use second::{interface, read, Along, Answer, Board, Exact, Junior, Line, Stage, Version, LONGEST_FILE};
+use second::{interface, read, refusal, Along, Answer, Board, Exact, Junior, Line, Stage, Version, LONGEST_FILE};
 
 /// A closed board of rack 3 with the lines {0}, {1,2}.
 fn closed_board() -> Board {
@@ -48,52 +48,52 @@ fn unsound_boards() -> Vec<(Board, u32, usize)> {
     let wrong_quantities = with_quantities(&sound, &[(1, 0), (2, 1), (511, 1)]);
     let passing = nine_of_255();
     vec![
-        (Board { rack: 0, ..sound.clone() }, 21, 0),
-        (Board { rack: 0, ..empty.clone() }, 21, 0),
-        (Board { rack: 65, ..sound.clone() }, 21, 0),
-        (Board { rack: usize::MAX, ..sound.clone() }, 21, 0),
-        (Board { count: 513, ..full.clone() }, 21, 0),
-        (Board { count: usize::MAX, ..full.clone() }, 21, 0),
+        (Board { rack: 0, ..sound.clone() }, refusal::UNSOUND_BOARD, 0),
+        (Board { rack: 0, ..empty.clone() }, refusal::UNSOUND_BOARD, 0),
+        (Board { rack: 65, ..sound.clone() }, refusal::UNSOUND_BOARD, 0),
+        (Board { rack: usize::MAX, ..sound.clone() }, refusal::UNSOUND_BOARD, 0),
+        (Board { count: 513, ..full.clone() }, refusal::UNSOUND_BOARD, 0),
+        (Board { count: usize::MAX, ..full.clone() }, refusal::UNSOUND_BOARD, 0),
         // The numbers come before the sets.
-        (Board { rack: 0, ..wrong.clone() }, 21, 0),
-        (Board { count: 513, ..wrong.clone() }, 21, 0),
-        (with_sets(&sound, &[(0, 0)]), 27, 0),
-        (with_sets(&sound, &[(0, 0b1001)]), 27, 0),
-        (with_sets(&sound, &[(1, 0)]), 27, 1),
-        (with_sets(&sound, &[(0, 1 << 63), (1, 0)]), 27, 0),
-        (Board { count: 3, ..sound.clone() }, 27, 2),
-        (with_sets(&full, &[(511, 0)]), 27, 511),
-        (with_sets(&full, &[(300, 8), (511, 0)]), 27, 300),
+        (Board { rack: 0, ..wrong.clone() }, refusal::UNSOUND_BOARD, 0),
+        (Board { count: 513, ..wrong.clone() }, refusal::UNSOUND_BOARD, 0),
+        (with_sets(&sound, &[(0, 0)]), refusal::UNSOUND_LINE, 0),
+        (with_sets(&sound, &[(0, 0b1001)]), refusal::UNSOUND_LINE, 0),
+        (with_sets(&sound, &[(1, 0)]), refusal::UNSOUND_LINE, 1),
+        (with_sets(&sound, &[(0, 1 << 63), (1, 0)]), refusal::UNSOUND_LINE, 0),
+        (Board { count: 3, ..sound.clone() }, refusal::UNSOUND_LINE, 2),
+        (with_sets(&full, &[(511, 0)]), refusal::UNSOUND_LINE, 511),
+        (with_sets(&full, &[(300, 8), (511, 0)]), refusal::UNSOUND_LINE, 300),
         // The lines come before the sets after them.
-        (wrong.clone(), 27, 1),
-        (with_sets(&sound, &[(2, 1)]), 28, 2),
-        (with_sets(&sound, &[(511, 1)]), 28, 511),
-        (with_sets(&sound, &[(2, 8), (511, 1)]), 28, 2),
-        (Board { count: 511, ..full.clone() }, 28, 511),
-        (Board { count: 0, ..full.clone() }, 28, 0),
-        (with_sets(&empty, &[(511, 1)]), 28, 511),
+        (wrong.clone(), refusal::UNSOUND_LINE, 1),
+        (with_sets(&sound, &[(2, 1)]), refusal::HELD_BEHIND, 2),
+        (with_sets(&sound, &[(511, 1)]), refusal::HELD_BEHIND, 511),
+        (with_sets(&sound, &[(2, 8), (511, 1)]), refusal::HELD_BEHIND, 2),
+        (Board { count: 511, ..full.clone() }, refusal::HELD_BEHIND, 511),
+        (Board { count: 0, ..full.clone() }, refusal::HELD_BEHIND, 0),
+        (with_sets(&empty, &[(511, 1)]), refusal::HELD_BEHIND, 511),
         // The same of quantities.
-        (Board { rack: 65, ..wrong_quantities.clone() }, 21, 0),
-        (with_quantities(&sound, &[(0, 0)]), 27, 0),
-        (with_quantities(&sound, &[(1, 0)]), 27, 1),
-        (with_quantities(&full, &[(511, 0)]), 27, 511),
-        (wrong_quantities, 27, 1),
-        (with_quantities(&sound, &[(2, 1)]), 28, 2),
-        (with_quantities(&sound, &[(511, 255)]), 28, 511),
-        (with_quantities(&empty, &[(0, 1)]), 28, 0),
+        (Board { rack: 65, ..wrong_quantities.clone() }, refusal::UNSOUND_BOARD, 0),
+        (with_quantities(&sound, &[(0, 0)]), refusal::UNSOUND_LINE, 0),
+        (with_quantities(&sound, &[(1, 0)]), refusal::UNSOUND_LINE, 1),
+        (with_quantities(&full, &[(511, 0)]), refusal::UNSOUND_LINE, 511),
+        (wrong_quantities, refusal::UNSOUND_LINE, 1),
+        (with_quantities(&sound, &[(2, 1)]), refusal::HELD_BEHIND, 2),
+        (with_quantities(&sound, &[(511, 255)]), refusal::HELD_BEHIND, 511),
+        (with_quantities(&empty, &[(0, 1)]), refusal::HELD_BEHIND, 0),
         // The first place that is wrong in any way.
-        (with_sets(&with_quantities(&sound, &[(0, 0)]), &[(1, 0)]), 27, 0),
-        (with_quantities(&with_sets(&sound, &[(0, 8)]), &[(1, 0)]), 27, 0),
-        (with_sets(&with_quantities(&sound, &[(2, 1)]), &[(3, 1)]), 28, 2),
-        (with_quantities(&with_sets(&sound, &[(2, 1)]), &[(3, 1)]), 28, 2),
+        (with_sets(&with_quantities(&sound, &[(0, 0)]), &[(1, 0)]), refusal::UNSOUND_LINE, 0),
+        (with_quantities(&with_sets(&sound, &[(0, 8)]), &[(1, 0)]), refusal::UNSOUND_LINE, 0),
+        (with_sets(&with_quantities(&sound, &[(2, 1)]), &[(3, 1)]), refusal::HELD_BEHIND, 2),
+        (with_quantities(&with_sets(&sound, &[(2, 1)]), &[(3, 1)]), refusal::HELD_BEHIND, 2),
         // The total passes with a line, and what follows it is not looked at.
-        (passing.clone(), 27, 8),
-        (with_quantities(&passing, &[(8, 9)]), 27, 8),
-        (with_quantities(&passing, &[(8, 0)]), 27, 8),
-        (with_sets(&passing, &[(4, 0)]), 27, 4),
-        (Board { count: 10, ..with_quantities(&passing, &[(9, 1)]) }, 27, 8),
-        (with_quantities(&passing, &[(9, 1)]), 27, 8),
-        (with_quantities(&Board { quantities: [4; 512], ..full }, &[(0, 5)]), 27, 511),
+        (passing.clone(), refusal::UNSOUND_LINE, 8),
+        (with_quantities(&passing, &[(8, 9)]), refusal::UNSOUND_LINE, 8),
+        (with_quantities(&passing, &[(8, 0)]), refusal::UNSOUND_LINE, 8),
+        (with_sets(&passing, &[(4, 0)]), refusal::UNSOUND_LINE, 4),
+        (Board { count: 10, ..with_quantities(&passing, &[(9, 1)]) }, refusal::UNSOUND_LINE, 8),
+        (with_quantities(&passing, &[(9, 1)]), refusal::UNSOUND_LINE, 8),
+        (with_quantities(&Board { quantities: [4; 512], ..full }, &[(0, 5)]), refusal::UNSOUND_LINE, 511),
     ]
 }
 
@@ -158,18 +158,18 @@ fn closed_board_takes_no_line_and_no_close() {
     let most_placements = with_quantities(&nine_of_255(), &[(8, 8)]);
     for board in [closed_board(), full, most_placements] {
         for (set, quantity) in LINES_TO_ADD {
-            assert_refused(board.clone().add(set, quantity), &board, 22, 0, ());
+            assert_refused(board.clone().add(set, quantity), &board, refusal::BOARD_CLOSED, 0, ());
         }
-        assert_refused(board.clone().close(), &board, 22, 0, ());
+        assert_refused(board.clone().close(), &board, refusal::BOARD_CLOSED, 0, ());
     }
 }
 
 #[test]
 fn open_board_gives_no_plan_and_no_file() {
-    assert_closed_calls_refused(&with_stage(closed_board(), Stage::Open), 23, 0);
+    assert_closed_calls_refused(&with_stage(closed_board(), Stage::Open), refusal::BOARD_OPEN, 0);
     let mut no_runs = with_stage(closed_board(), Stage::Open);
     no_runs.sets[0] = 0b101;
-    assert_closed_calls_refused(&no_runs, 23, 0);
+    assert_closed_calls_refused(&no_runs, refusal::BOARD_OPEN, 0);
 }
 
 #[test]
@@ -178,14 +178,14 @@ fn add_refuses_bad_sets() {
         let board = Board::open(rack).board;
         // The set is looked at before the quantity.
         for quantity in [0, 1] {
-            assert_refused(board.clone().add(0, quantity), &board, 2, 0, ());
+            assert_refused(board.clone().add(0, quantity), &board, refusal::EMPTY_LINE, 0, ());
         }
         for tip in 0..64 {
             for quantity in [0, 1, 255] {
                 let number = if tip >= rack {
-                    3
+                    refusal::TIP_OUTSIDE
                 } else if quantity == 0 {
-                    15
+                    refusal::ZERO_QUANTITY
                 } else {
                     0
                 };
@@ -203,13 +203,19 @@ fn add_refuses_more_placements_than_2048() {
     for _ in 0..8 {
         board = board.add(1, 255).board;
     }
-    for (set, quantity, number) in [(1, 9, 30), (1, 255, 30), (1, 0, 15), (0, 9, 2), (8, 9, 3)] {
+    for (set, quantity, number) in [
+        (1, 9, refusal::TOO_MANY_PLACEMENTS),
+        (1, 255, refusal::TOO_MANY_PLACEMENTS),
+        (1, 0, refusal::ZERO_QUANTITY),
+        (0, 9, refusal::EMPTY_LINE),
+        (8, 9, refusal::TIP_OUTSIDE),
+    ] {
         assert_refused(board.clone().add(set, quantity), &board, number, 0, ());
     }
     let board = board.add(1, 8).board;
     assert_eq!((board.count, board.placements().len()), (9, 2048));
-    assert_refused(board.clone().add(1, 1), &board, 30, 0, ());
-    assert_refused(board.clone().add(1, 0), &board, 15, 0, ());
+    assert_refused(board.clone().add(1, 1), &board, refusal::TOO_MANY_PLACEMENTS, 0, ());
+    assert_refused(board.clone().add(1, 0), &board, refusal::ZERO_QUANTITY, 0, ());
     assert_eq!(board.clone().close().board.stage, Stage::Closed);
     // A board with all lines is full, whatever is added.
     let mut full = Board::open(3).board;
@@ -217,7 +223,7 @@ fn add_refuses_more_placements_than_2048() {
         full = full.add(1, 4).board;
     }
     for (set, quantity) in LINES_TO_ADD {
-        assert_refused(full.clone().add(set, quantity), &full, 24, 0, ());
+        assert_refused(full.clone().add(set, quantity), &full, refusal::TOO_MANY_LINES, 0, ());
     }
 }
 
@@ -227,30 +233,30 @@ fn short_buffers() {
     for length in 0..2 {
         let mut plan = vec![7; length];
         let mut table = vec![7; 9];
-        assert_refused(board.clone().quick(None, &mut plan), &board, 4, 0, 0);
-        assert_refused(board.clone().best(None, &mut plan, &mut table), &board, 4, 0, 0);
+        assert_refused(board.clone().quick(None, &mut plan), &board, refusal::SHORT_PLAN, 0, 0);
+        assert_refused(board.clone().best(None, &mut plan, &mut table), &board, refusal::SHORT_PLAN, 0, 0);
         // The plan is looked at before the table.
-        assert_refused(board.clone().best(None, &mut plan, &mut table[..8]), &board, 4, 0, 0);
-        assert_refused(board.clone().check(&plan, 7, &table), &board, 4, 0, ());
-        assert_refused(board.clone().check(&plan, 7, &table[..8]), &board, 4, 0, ());
+        assert_refused(board.clone().best(None, &mut plan, &mut table[..8]), &board, refusal::SHORT_PLAN, 0, 0);
+        assert_refused(board.clone().check(&plan, 7, &table), &board, refusal::SHORT_PLAN, 0, ());
+        assert_refused(board.clone().check(&plan, 7, &table[..8]), &board, refusal::SHORT_PLAN, 0, ());
         assert_eq!((plan, table), (vec![7; length], vec![7; 9]));
     }
     let no_runs = Board::of_sets(3, &[0b010, 0b101]);
     for length in 0..9 {
         let mut plan = vec![7; 2];
         let mut table = vec![7; length];
-        assert_refused(board.clone().best(None, &mut plan, &mut table), &board, 5, 0, 0);
-        assert_refused(board.clone().check(&plan, 7, &table), &board, 5, 0, ());
+        assert_refused(board.clone().best(None, &mut plan, &mut table), &board, refusal::SHORT_TABLE, 0, 0);
+        assert_refused(board.clone().check(&plan, 7, &table), &board, refusal::SHORT_TABLE, 0, ());
         // The table is looked at before the runs.
-        assert_refused(no_runs.clone().best(None, &mut plan, &mut table), &no_runs, 5, 0, 0);
-        assert_refused(no_runs.clone().check(&plan, 7, &table), &no_runs, 5, 0, ());
+        assert_refused(no_runs.clone().best(None, &mut plan, &mut table), &no_runs, refusal::SHORT_TABLE, 0, 0);
+        assert_refused(no_runs.clone().check(&plan, 7, &table), &no_runs, refusal::SHORT_TABLE, 0, ());
         assert_eq!((plan, table), (vec![7; 2], vec![7; length]));
     }
     // By the length of the version that is written.
     for (board, needed) in [(board, 24), (counted_board(), 26)] {
         for length in 0..needed {
             let mut out = vec![7; length];
-            assert_refused(board.clone().write(&mut out), &board, 11, 0, 0);
+            assert_refused(board.clone().write(&mut out), &board, refusal::SHORT_OUTPUT, 0, 0);
             assert_eq!(out, vec![7; length]);
         }
         let mut out = vec![7; needed + 3];
@@ -267,9 +273,9 @@ fn no_run_names_the_first_such_line() {
         board.sets[line..512.min(line + 511)].fill(1 | 1 << 63);
         let mut plan = [7; 512];
         let mut table = [7; 4096];
-        assert_refused(board.clone().best(None, &mut plan, &mut table), &board, 25, line, 0);
-        assert_refused(board.clone().check(&plan, 7, &table), &board, 25, line, ());
-        assert_refused(board.clone().goal(u32::MAX), &board, 25, line, ());
+        assert_refused(board.clone().best(None, &mut plan, &mut table), &board, refusal::NO_RUN, line, 0);
+        assert_refused(board.clone().check(&plan, 7, &table), &board, refusal::NO_RUN, line, ());
+        assert_refused(board.clone().goal(u32::MAX), &board, refusal::NO_RUN, line, ());
         assert_eq!((plan, table), ([7; 512], [7; 4096]));
     }
 }
@@ -278,15 +284,15 @@ fn no_run_names_the_first_such_line() {
 fn keep_margin_is_signed() {
     let sets: Vec<u64> = (0..512).map(|line| 1 << (line % 64)).collect();
     let board = Board::of_sets(64, &sets);
-    assert_refused(board.clone().keep_within(0), &board, 26, 0, -504);
-    assert_refused(board.clone().keep_within(503), &board, 26, 0, -1);
+    assert_refused(board.clone().keep_within(0), &board, refusal::NO_PLAN, 0, -504);
+    assert_refused(board.clone().keep_within(503), &board, refusal::NO_PLAN, 0, -1);
     for (k, margin) in [(504, 0), (505, 1), (u16::MAX, 65_031)] {
         assert_refused(board.clone().keep_within(k), &board, 0, 0, margin);
     }
     // Four placements a line: 32 of 2,048 on each tip.
     let board = Board { quantities: [4; 512], ..board };
-    assert_refused(board.clone().keep_within(0), &board, 26, 0, -2016);
-    assert_refused(board.clone().keep_within(2015), &board, 26, 0, -1);
+    assert_refused(board.clone().keep_within(0), &board, refusal::NO_PLAN, 0, -2016);
+    assert_refused(board.clone().keep_within(2015), &board, refusal::NO_PLAN, 0, -1);
     for (k, margin) in [(2016, 0), (2017, 1), (u16::MAX, 63_519)] {
         assert_refused(board.clone().keep_within(k), &board, 0, 0, margin);
     }
@@ -341,11 +347,11 @@ fn read_refusals_in_order() {
     assert_eq!(read(&good).number, 0);
     assert_eq!(read(&good).board, closed_board());
     for length in 0..24 {
-        assert_not_read(&good[..length], if length < 8 { 6 } else { 10 }, 0);
+        assert_not_read(&good[..length], if length < 8 { refusal::SHORT_FILE } else { refusal::FILE_LENGTH }, 0);
     }
     let mut longer = good.clone();
     longer.push(0);
-    assert_not_read(&longer, 10, 0);
+    assert_not_read(&longer, refusal::FILE_LENGTH, 0);
     let changed = |changes: &Changes| {
         let mut file = good.clone();
         for &(place, byte) in changes {
@@ -355,13 +361,13 @@ fn read_refusals_in_order() {
     };
     // Each damage together with every later one.
     let damages: [(&Changes, u32, usize); 7] = [
-        (&[(0, b't')], 7, 0),
-        (&[(4, 3)], 8, 0),
-        (&[(5, 0)], 1, 0),
-        (&[(6, 2), (7, 1)], 9, 0),
-        (&[(6, 0), (7, 1)], 10, 0),
-        (&[(15, 0)], 2, 0),
-        (&[(22, 1)], 3, 1),
+        (&[(0, b't')], refusal::WRONG_MARK, 0),
+        (&[(4, 3)], refusal::WRONG_VERSION, 0),
+        (&[(5, 0)], refusal::RACK_SIZE, 0),
+        (&[(6, 2), (7, 1)], refusal::FILE_LINES, 0),
+        (&[(6, 0), (7, 1)], refusal::FILE_LENGTH, 0),
+        (&[(15, 0)], refusal::EMPTY_LINE, 0),
+        (&[(22, 1)], refusal::TIP_OUTSIDE, 1),
     ];
     for first in 0..damages.len() {
         let mut changes = Vec::new();
@@ -372,25 +378,25 @@ fn read_refusals_in_order() {
         assert_not_read(&changed(&changes), damages[first].1, damages[first].2);
     }
     for byte in 0..3 {
-        assert_not_read(&changed(&[(byte, 0)]), 7, 0);
+        assert_not_read(&changed(&[(byte, 0)]), refusal::WRONG_MARK, 0);
     }
     // The lengths are those of the version's own lines.
-    assert_not_read(&changed(&[(4, 2)]), 10, 0);
+    assert_not_read(&changed(&[(4, 2)]), refusal::FILE_LENGTH, 0);
     for version in [0, 3, 0x100, 0x101, 0x102, 0x200, 0xFFFF] {
         let bytes = u16::to_be_bytes(version);
-        assert_not_read(&changed(&[(3, bytes[0]), (4, bytes[1])]), 8, 0);
+        assert_not_read(&changed(&[(3, bytes[0]), (4, bytes[1])]), refusal::WRONG_VERSION, 0);
     }
     for rack in [0, 65, 128, 255] {
-        assert_not_read(&changed(&[(5, rack)]), 1, 0);
+        assert_not_read(&changed(&[(5, rack)]), refusal::RACK_SIZE, 0);
     }
     for count in [513, 514, 1026, 0xFFFF] {
         let bytes = u16::to_be_bytes(count);
-        assert_not_read(&changed(&[(6, bytes[0]), (7, bytes[1])]), 9, 0);
+        assert_not_read(&changed(&[(6, bytes[0]), (7, bytes[1])]), refusal::FILE_LINES, 0);
     }
     // The first bad line counts, whatever is wrong with it.
-    assert_not_read(&changed(&[(15, 0), (22, 1)]), 2, 0);
-    assert_not_read(&changed(&[(14, 1), (23, 0)]), 3, 0);
-    assert_not_read(&changed(&[(23, 0)]), 2, 1);
+    assert_not_read(&changed(&[(15, 0), (22, 1)]), refusal::EMPTY_LINE, 0);
+    assert_not_read(&changed(&[(14, 1), (23, 0)]), refusal::TIP_OUTSIDE, 0);
+    assert_not_read(&changed(&[(23, 0)]), refusal::EMPTY_LINE, 1);
 }
 
 /// Both versions of a board with these quantities.
@@ -406,9 +412,9 @@ fn second_version_refusals_in_order() {
     assert_eq!(good[8..], [0, 0, 0, 0, 0, 0, 0, 1, 2, 0, 0, 0, 0, 0, 0, 0, 6, 3]);
     assert_eq!((read(&good).number, read(&good).board), (0, counted_board()));
     for length in 0..26 {
-        assert_not_read(&good[..length], if length < 8 { 6 } else { 10 }, 0);
+        assert_not_read(&good[..length], if length < 8 { refusal::SHORT_FILE } else { refusal::FILE_LENGTH }, 0);
     }
-    assert_not_read(&[&good[..], &[1]].concat(), 10, 0);
+    assert_not_read(&[&good[..], &[1]].concat(), refusal::FILE_LENGTH, 0);
     let changed = |changes: &Changes| {
         let mut file = good.clone();
         for &(place, byte) in changes {
@@ -417,14 +423,14 @@ fn second_version_refusals_in_order() {
         file
     };
     let damages: [(&Changes, u32, usize); 8] = [
-        (&[(0, b't')], 7, 0),
-        (&[(3, 2)], 8, 0),
-        (&[(5, 65)], 1, 0),
-        (&[(6, 2), (7, 1)], 9, 0),
-        (&[(4, 1)], 10, 0),
-        (&[(14, 1)], 3, 0),
-        (&[(16, 0)], 15, 0),
-        (&[(24, 0)], 2, 1),
+        (&[(0, b't')], refusal::WRONG_MARK, 0),
+        (&[(3, 2)], refusal::WRONG_VERSION, 0),
+        (&[(5, 65)], refusal::RACK_SIZE, 0),
+        (&[(6, 2), (7, 1)], refusal::FILE_LINES, 0),
+        (&[(4, 1)], refusal::FILE_LENGTH, 0),
+        (&[(14, 1)], refusal::TIP_OUTSIDE, 0),
+        (&[(16, 0)], refusal::ZERO_QUANTITY, 0),
+        (&[(24, 0)], refusal::EMPTY_LINE, 1),
     ];
     for first in 0..damages.len() {
         let mut changes = Vec::new();
@@ -435,10 +441,10 @@ fn second_version_refusals_in_order() {
         assert_not_read(&changed(&changes), damages[first].1, damages[first].2);
     }
     // The set of a line is looked at before its quantity, and an earlier line before a later one.
-    assert_not_read(&changed(&[(15, 0), (16, 0)]), 2, 0);
-    assert_not_read(&changed(&[(16, 0), (24, 0)]), 15, 0);
-    assert_not_read(&changed(&[(25, 0)]), 15, 1);
-    assert_not_read(&changed(&[(24, 8), (25, 0)]), 3, 1);
+    assert_not_read(&changed(&[(15, 0), (16, 0)]), refusal::EMPTY_LINE, 0);
+    assert_not_read(&changed(&[(16, 0), (24, 0)]), refusal::ZERO_QUANTITY, 0);
+    assert_not_read(&changed(&[(25, 0)]), refusal::ZERO_QUANTITY, 1);
+    assert_not_read(&changed(&[(24, 8), (25, 0)]), refusal::TIP_OUTSIDE, 1);
 }
 
 #[test]
@@ -454,13 +460,19 @@ fn files_of_too_many_placements() {
         (&[255; 512], 8),
         (&[5; 512], 409),
     ] {
-        assert_not_read(&counted_file(quantities), 30, place);
+        assert_not_read(&counted_file(quantities), refusal::TOO_MANY_PLACEMENTS, place);
     }
     // Every line is looked at first, also those after the one that passes.
     let passing = counted_file(&[255; 20]);
-    for (line, changes, number) in [(19, 16, 15), (12, 16, 15), (0, 16, 15), (19, 15, 2), (19, 14, 3)] {
+    for (line, changes, number) in [
+        (19, 16, refusal::ZERO_QUANTITY),
+        (12, 16, refusal::ZERO_QUANTITY),
+        (0, 16, refusal::ZERO_QUANTITY),
+        (19, 15, refusal::EMPTY_LINE),
+        (19, 14, refusal::TIP_OUTSIDE),
+    ] {
         let mut file = passing.clone();
-        file[9 * line + changes] = u8::from(number == 3);
+        file[9 * line + changes] = u8::from(number == refusal::TIP_OUTSIDE);
         assert_not_read(&file, number, line);
     }
 }
@@ -485,11 +497,11 @@ fn longest_files_are_read_and_written() {
     for (quantity, length) in [(1, 4104), (4, LONGEST_FILE)] {
         let board = Board::of_lines(64, &[Line { set: u64::MAX, quantity }; 512]);
         let mut file = vec![7; length + 2];
-        assert_eq!(board.clone().write(&mut file[..length - 1]).number, 11);
+        assert_eq!(board.clone().write(&mut file[..length - 1]).number, refusal::SHORT_OUTPUT);
         assert_eq!(board.clone().write(&mut file).value, length);
         assert_eq!(file[length..], [7, 7]);
         assert_eq!(read(&file[..length]).board, board);
-        assert_not_read(&file[..length + 1], 10, 0);
+        assert_not_read(&file[..length + 1], refusal::FILE_LENGTH, 0);
     }
 }
 
@@ -500,16 +512,22 @@ fn interface_answers() {
         let mut answer = vec![9; places];
         let (mut plan, mut out, mut table) = ([7; 2], [7; 24], [7; 9]);
         for input in [&file[..], &file[..3]] {
-            assert_eq!(interface::read(input, &mut answer), 100);
-            assert_eq!(interface::common(input, &mut answer), 100);
-            assert_eq!(interface::keep(input, 1, &mut out, &mut answer), 100);
-            assert_eq!(interface::goal(input, 1, &mut out, &mut answer), 100);
-            assert_eq!(interface::junior(input, &mut plan, &mut answer), 100);
-            assert_eq!(interface::quick(input, interface::NO_TIP, &mut plan, &mut answer), 100);
-            assert_eq!(interface::best(input, interface::NO_TIP, &mut plan, &mut table, &mut answer), 100);
-            assert_eq!(interface::along(input, interface::NO_TIP, &mut plan, &mut answer), 100);
-            assert_eq!(interface::exact(input, interface::NO_TIP, 0, &mut plan, &mut table, &mut answer), 100);
-            assert_eq!(interface::check(input, &plan, 0, &table, &mut answer), 100);
+            assert_eq!(interface::read(input, &mut answer), refusal::SHORT_ANSWER);
+            assert_eq!(interface::common(input, &mut answer), refusal::SHORT_ANSWER);
+            assert_eq!(interface::keep(input, 1, &mut out, &mut answer), refusal::SHORT_ANSWER);
+            assert_eq!(interface::goal(input, 1, &mut out, &mut answer), refusal::SHORT_ANSWER);
+            assert_eq!(interface::junior(input, &mut plan, &mut answer), refusal::SHORT_ANSWER);
+            assert_eq!(interface::quick(input, interface::NO_TIP, &mut plan, &mut answer), refusal::SHORT_ANSWER);
+            assert_eq!(
+                interface::best(input, interface::NO_TIP, &mut plan, &mut table, &mut answer),
+                refusal::SHORT_ANSWER
+            );
+            assert_eq!(interface::along(input, interface::NO_TIP, &mut plan, &mut answer), refusal::SHORT_ANSWER);
+            assert_eq!(
+                interface::exact(input, interface::NO_TIP, 0, &mut plan, &mut table, &mut answer),
+                refusal::SHORT_ANSWER
+            );
+            assert_eq!(interface::check(input, &plan, 0, &table, &mut answer), refusal::SHORT_ANSWER);
         }
         assert_eq!((answer, plan, out, table), (vec![9; places], [7; 2], [7; 24], [7; 9]));
     }
@@ -520,9 +538,9 @@ fn interface_answers() {
     assert_eq!(answer, [0, 1, 1, 0b111, 9]);
     let mut out = [7; 25];
     // A bound that no plan meets is refused before the length of the output.
-    assert_eq!(interface::keep(&file, 0, &mut out[..3], &mut answer), 26);
+    assert_eq!(interface::keep(&file, 0, &mut out[..3], &mut answer), refusal::NO_PLAN);
     assert_eq!(answer, [0, u64::MAX, 0, 0, 9]);
-    assert_eq!(interface::keep(&file, 2, &mut out[..23], &mut answer), 11);
+    assert_eq!(interface::keep(&file, 2, &mut out[..23], &mut answer), refusal::SHORT_OUTPUT);
     assert_eq!(answer, [0, 0, 0, 0, 9]);
     assert_eq!(out, [7; 25]);
     assert_eq!(interface::keep(&file, 2, &mut out, &mut answer), 0);
@@ -530,14 +548,14 @@ fn interface_answers() {
     assert_eq!((&out[..24], out[24]), (&file[..], 7));
     // Keep needs what it writes: the first version for a file of the second whose quantities are all 1.
     let in_second = closed_board().file_in(Version::Two);
-    assert_eq!(interface::keep(&in_second, 2, &mut out[..23], &mut answer), 11);
+    assert_eq!(interface::keep(&in_second, 2, &mut out[..23], &mut answer), refusal::SHORT_OUTPUT);
     let mut out = [7; 25];
     assert_eq!(interface::keep(&in_second, 2, &mut out[..24], &mut answer), 0);
     assert_eq!(answer, [0, 1, 24, 0, 9]);
     assert_eq!((&out[..24], out[24]), (&file[..], 7));
     let counted = counted_board().file();
     let mut out = [7; 27];
-    assert_eq!(interface::keep(&counted, 3, &mut out[..25], &mut answer), 11);
+    assert_eq!(interface::keep(&counted, 3, &mut out[..25], &mut answer), refusal::SHORT_OUTPUT);
     assert_eq!(interface::keep(&counted, 3, &mut out, &mut answer), 0);
     assert_eq!(answer, [0, 1, 26, 0, 9]);
     assert_eq!((&out[..26], out[26]), (&counted[..], 7));
@@ -546,15 +564,15 @@ fn interface_answers() {
     assert_eq!(interface::common(&counted, &mut answer), 0);
     assert_eq!(answer, [0, 3, 2, 0b110, 9]);
     // {0} of 2 and {1,2} of 3 placements: 1 + 3 pairs.
-    for (claim, number) in [(4, 0), (3, 20), (0, 20)] {
+    for (claim, number) in [(4, refusal::ACCEPTED), (3, refusal::WRONG_CLAIM), (0, refusal::WRONG_CLAIM)] {
         answer = [9; 5];
         assert_eq!(interface::check(&counted, &[0, 2], claim, &[1, 1, 4, 0, 0, 3, 0, 0, 0], &mut answer), number);
         assert_eq!(answer, [0, 0, 0, 0, 9]);
     }
     // A goal is looked at before the length of the output; what is written is in the shorter version.
     let mut out = [7; 27];
-    assert_eq!(interface::goal(&counted, 5, &mut out[..3], &mut answer), 34);
-    assert_eq!(interface::goal(&counted, 4, &mut out[..25], &mut answer), 11);
+    assert_eq!(interface::goal(&counted, 5, &mut out[..3], &mut answer), refusal::GOAL_MISSED);
+    assert_eq!(interface::goal(&counted, 4, &mut out[..25], &mut answer), refusal::SHORT_OUTPUT);
     assert_eq!((answer, out), ([0, 0, 0, 0, 9], [7; 27]));
     assert_eq!(interface::goal(&counted, 4, &mut out, &mut answer), 0);
     assert_eq!((answer, &out[..26], out[26]), ([0, 26, 0, 0, 9], &counted[..], 7));
@@ -565,7 +583,7 @@ fn interface_answers() {
     let mut plan = [7; 3];
     assert_eq!(interface::junior(&counted, &mut plan, &mut answer), 0);
     assert_eq!((answer, plan), ([0, 4, 0, 1, 9], [0, 1, 7]));
-    assert_eq!(interface::junior(&counted, &mut plan[..1], &mut answer), 4);
+    assert_eq!(interface::junior(&counted, &mut plan[..1], &mut answer), refusal::SHORT_PLAN);
     assert_eq!((answer, plan), ([0, 0, 0, 0, 9], [0, 1, 7]));
     let mut text = vec![7; interface::REPORT_SPACE];
     assert_eq!(interface::report(&file, &mut text[1..]), 0);

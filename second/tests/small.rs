@@ -1,7 +1,7 @@
 //! Small boards, with quantities and without, against trying every plan, plans from other software among them with every
 //! table of small numbers, and the counts that 002 prints.
 
-use second::{pairs_in, try_every_plan, Board};
+use second::{pairs_in, refusal, try_every_plan, Board};
 
 use every_plan::{all_runs, all_sets, check, counted, every_board, single};
 
@@ -95,10 +95,10 @@ fn what_is_accepted_has_the_most_pairs() {
             let pairs = pairs_in(&board.placed(plan));
             every_table(board.rack, 3, &mut |table| {
                 let number = board.clone().check(plan, pairs, table).number;
-                assert_eq!(number == 19, !own);
+                assert_eq!(number == refusal::FOREIGN_TIP, !own);
                 assert!(number != 0 || pairs == most, "{plan:?} {table:?} of {board:?}");
                 accepted += usize::from(number == 0);
-                refused += usize::from(number == 33);
+                refused += usize::from(number == refusal::WRONG_TABLE);
             });
         });
     };

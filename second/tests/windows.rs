@@ -1,7 +1,7 @@
 //! The positions that each part can have: rows worked out by hand, and small cases against every order.
 
 use second::interface;
-use second::{find_windows, try_every_order_for_windows, Part, Placing, Rule};
+use second::{find_windows, refusal, try_every_order_for_windows, Part, Placing, Rule};
 
 use placings::{every_small_placing, parts, seeded_placings};
 
@@ -61,20 +61,20 @@ fn parts_that_fill_positions_shut_others_out() {
 
 #[test]
 fn refusals_in_their_order() {
-    assert_eq!(refused(&["1-0"; 129], &[(0, 0)], [0, 0]), (12, 0));
-    assert_eq!(refused(&["0-1", "1-0"], &[(0, 0)], [0, 0]), (12, 1));
-    assert_eq!(refused(&["0-1", "0-2"], &[], [2, 2]), (12, 1));
-    assert_eq!(refused(&["0-1"; 2], &[(0, 1), (1, 2)], [0, 0]), (13, 1));
-    assert_eq!(refused(&["0-1"; 2], &[(1, 1), (0, 2)], [2, 2]), (13, 0));
+    assert_eq!(refused(&["1-0"; 129], &[(0, 0)], [0, 0]), (refusal::BAD_WINDOW, 0));
+    assert_eq!(refused(&["0-1", "1-0"], &[(0, 0)], [0, 0]), (refusal::BAD_WINDOW, 1));
+    assert_eq!(refused(&["0-1", "0-2"], &[], [2, 2]), (refusal::BAD_WINDOW, 1));
+    assert_eq!(refused(&["0-1"; 2], &[(0, 1), (1, 2)], [0, 0]), (refusal::BAD_RULE, 1));
+    assert_eq!(refused(&["0-1"; 2], &[(1, 1), (0, 2)], [2, 2]), (refusal::BAD_RULE, 0));
     // Either buffer, before it is known that no order obeys.
     for lent in [[1, 2], [2, 1], [0, 0], [1, 1], [0, 9], [9, 0]] {
-        assert_eq!(refused(&["0-1"; 2], &[(0, 1), (1, 0)], lent), (14, 0));
+        assert_eq!(refused(&["0-1"; 2], &[(0, 1), (1, 0)], lent), (refusal::SHORT_ORDER, 0));
     }
-    assert_eq!(refused(&["0-1"; 2], &[(0, 1), (1, 0)], [2, 2]), (29, 0));
-    assert_eq!(refused(&["1-1", "0-2", "1-1"], &[], [3, 3]), (29, 0));
-    assert_eq!(refused(&["0-1 ft", "0-1"], &[(0, 1)], [2, 3]), (29, 0));
+    assert_eq!(refused(&["0-1"; 2], &[(0, 1), (1, 0)], [2, 2]), (refusal::NO_ORDER, 0));
+    assert_eq!(refused(&["1-1", "0-2", "1-1"], &[], [3, 3]), (refusal::NO_ORDER, 0));
+    assert_eq!(refused(&["0-1 ft", "0-1"], &[(0, 1)], [2, 3]), (refusal::NO_ORDER, 0));
     // Without parts every rule names one that is absent.
-    assert_eq!(refused(&[], &[(0, 1)], [1, 1]), (13, 0));
+    assert_eq!(refused(&[], &[(0, 1)], [1, 1]), (refusal::BAD_RULE, 0));
 }
 
 /// The positions are those that orders have, among all orders that obey.
@@ -107,7 +107,7 @@ fn numbers_of_the_interface() {
     assert_eq!((first, last, answer), ([1, 0, 2, 9], [1, 0, 2, 9, 9], [0, 3, 0, 0, 7]));
     for short in 0..4 {
         let mut answer = vec![7; short];
-        assert_eq!(interface::windows(&parts[..3], &[1], &mut [], &mut [], &mut answer), 100);
+        assert_eq!(interface::windows(&parts[..3], &[1], &mut [], &mut [], &mut answer), refusal::SHORT_ANSWER);
         assert_eq!(answer, vec![7; short]);
     }
     let refused = |parts: &[u32], rules: &[u32], lent: usize| {
@@ -118,12 +118,12 @@ fn numbers_of_the_interface() {
     };
     // 101 comes before 12 and 13.
     for length in [1, 2, 3, 5, 6, 7, 11] {
-        assert_eq!(refused(&[9; 12][..length], &[5, 5], 0), (101, 0));
+        assert_eq!(refused(&[9; 12][..length], &[5, 5], 0), (refusal::BROKEN_RECORD, 0));
     }
-    assert_eq!(refused(&parts, &[0, 1, 2], 0), (101, 0));
-    assert_eq!(refused(&[9; 4 * 129], &[5], 0), (101, 0));
-    assert_eq!(refused(&[9; 4 * 129], &[5, 5], 0), (12, 0));
-    assert_eq!(refused(&parts, &[0, 2, 1, u32::MAX], 0), (13, 1));
-    assert_eq!(refused(&parts, &[2, 0], 2), (14, 0));
-    assert_eq!(refused(&parts, &[2, 0], 3), (29, 0));
+    assert_eq!(refused(&parts, &[0, 1, 2], 0), (refusal::BROKEN_RECORD, 0));
+    assert_eq!(refused(&[9; 4 * 129], &[5], 0), (refusal::BROKEN_RECORD, 0));
+    assert_eq!(refused(&[9; 4 * 129], &[5, 5], 0), (refusal::BAD_WINDOW, 0));
+    assert_eq!(refused(&parts, &[0, 2, 1, u32::MAX], 0), (refusal::BAD_RULE, 1));
+    assert_eq!(refused(&parts, &[2, 0], 2), (refusal::SHORT_ORDER, 0));
+    assert_eq!(refused(&parts, &[2, 0], 3), (refusal::NO_ORDER, 0));
 }

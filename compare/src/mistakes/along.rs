@@ -6,6 +6,7 @@ use super::changes::{
 use super::Mistake;
 use crate::check::{call_library, Buffers, Call};
 use crate::files::file_of;
+use crate::refusal;
 use job_file::AT_RACK;
 use second::interface::{ANSWER_PLACES, NO_TIP};
 use second::{pairs_in, Board, Line};
@@ -169,20 +170,26 @@ pub(super) const OF_ALONG: &[Mistake] = &[
     ("refusal 16 comes after 4 along the list", |call, lent| {
         let returned = call_library(call, lent);
         match (call, board_of(lent)) {
-            (Call::Along { plan, .. }, Some(board)) if returned == 16 && *plan < board.count => 4,
+            (Call::Along { plan, .. }, Some(board)) if returned == refusal::MOUNTED_OUTSIDE && *plan < board.count => {
+                refusal::SHORT_PLAN
+            }
             _ => returned,
         }
     }),
     ("refusal 4 tells the number of lines along the list", |call, lent| {
         let count = board_of(lent).map_or(0, |board| board.count as u64);
         match call {
-            Call::Along { .. } => at_refusal(call, lent, &[4], |lent| lent.answer.inside()[0] = count),
+            Call::Along { .. } => {
+                at_refusal(call, lent, &[refusal::SHORT_PLAN], |lent| lent.answer.inside()[0] = count)
+            }
             _ => call_library(call, lent),
         }
     }),
     ("a refused plan along the list is begun", |call, lent| {
         let returned = call_library(call, lent);
-        if matches!(call, Call::Along { .. }) && matches!(refusal(call, returned), 4 | 16) {
+        if matches!(call, Call::Along { .. })
+            && matches!(refusal(call, returned), refusal::SHORT_PLAN | refusal::MOUNTED_OUTSIDE)
+        {
             touch(lent);
         }
         returned

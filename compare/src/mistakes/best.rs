@@ -4,6 +4,7 @@ use super::changes::{at_refusal, board_of, mirrored, missed, on_best, on_sets, p
 use super::Mistake;
 use crate::boards::is_unbroken;
 use crate::check::{call_library, Buffers, Call};
+use crate::refusal;
 use second::interface::ANSWER_PLACES;
 use second::Board;
 
@@ -32,7 +33,7 @@ pub(super) const OF_BEST: &[Mistake] = &[
         on_no_run(call, lent, |board| board.lines().position(|line| line.set == u64::MAX))
     }),
     ("the last line that is no run is named", |call, lent| {
-        at_refusal(call, lent, &[25], |lent| {
+        at_refusal(call, lent, &[refusal::NO_RUN], |lent| {
             let board = board_of(lent).expect("a good file");
             let named = board.named_tips();
             let last = board.lines().rposition(|line| missed(line.set, named) != 0);
@@ -53,14 +54,16 @@ pub(super) const OF_BEST: &[Mistake] = &[
             let named = board.named_tips();
             board.lines().position(|line| missed(line.set, named) != 0)
         };
-        if let (5, Some(line)) = (refusal(call, returned), board_of(lent).and_then(no_run)) {
+        if let (refusal::SHORT_TABLE, Some(line)) = (refusal(call, returned), board_of(lent).and_then(no_run)) {
             lent.answer.inside()[0] = line as u64;
             return 25;
         }
         returned
     }),
     ("lines that are no runs are accepted", |call, lent| on_missed_tips(call, lent, |missed| missed)),
-    ("refusal 25 clears the table", |call, lent| at_refusal(call, lent, &[25], |lent| lent.table.inside().fill(0))),
+    ("refusal 25 clears the table", |call, lent| {
+        at_refusal(call, lent, &[refusal::NO_RUN], |lent| lent.table.inside().fill(0))
+    }),
     ("the table below the diagonal is not written", |call, lent| {
         let junk = lent.table.clone().inside().to_vec();
         on_best(call, lent, |board, lent| {
@@ -87,14 +90,14 @@ pub(super) const OF_NAMED_TIPS: &[Mistake] = &[
         on_no_run(call, lent, |board| board.lines().position(|line| !is_unbroken(line.set)))
     }),
     ("refusal 25 names the first line that lacks any tip between its ends", |call, lent| {
-        at_refusal(call, lent, &[25], |lent| {
+        at_refusal(call, lent, &[refusal::NO_RUN], |lent| {
             let board = board_of(lent).expect("a good file");
             let first = board.lines().position(|line| !is_unbroken(line.set));
             lent.answer.inside()[0] = first.expect("a line that lacks a tip") as u64;
         })
     }),
     ("refusal 25 goes by the tips named up to the line", |call, lent| {
-        at_refusal(call, lent, &[25], |lent| {
+        at_refusal(call, lent, &[refusal::NO_RUN], |lent| {
             let board = board_of(lent).expect("a good file");
             let mut named = 0;
             let first = board.lines().position(|line| {

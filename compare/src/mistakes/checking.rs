@@ -5,6 +5,7 @@ use super::Mistake;
 use crate::check::{call_library, Buffers, Call};
 use crate::files::file_of;
 use crate::handed::{keeps, stopping, wrapping, Handed, Rule};
+use crate::refusal;
 use second::{Board, Line};
 
 pub(super) const OF_CHECKED_PLANS: &[Mistake] = &[
@@ -16,9 +17,9 @@ pub(super) const OF_CHECKED_PLANS: &[Mistake] = &[
     }),
     ("a line may be on any tip in a check", |call, lent| {
         on_check(call, lent, |board, handed, number| match number {
-            19 if handed.pairs(board) != handed.claim => 20,
-            19 if !board.table_shows(handed.claim, &handed.table) => 33,
-            19 => 0,
+            refusal::FOREIGN_TIP if handed.pairs(board) != handed.claim => refusal::WRONG_CLAIM,
+            refusal::FOREIGN_TIP if !board.table_shows(handed.claim, &handed.table) => refusal::WRONG_TABLE,
+            refusal::FOREIGN_TIP => 0,
             _ => number,
         })
     }),
@@ -27,7 +28,7 @@ pub(super) const OF_CHECKED_PLANS: &[Mistake] = &[
             let named = board.named_tips();
             let are_named = handed.plan.iter().all(|&tip| tip < 64 && named >> tip & 1 == 1);
             match number {
-                19 if are_named && handed.pairs(board) != handed.claim => 20,
+                refusal::FOREIGN_TIP if are_named && handed.pairs(board) != handed.claim => refusal::WRONG_CLAIM,
                 _ => number,
             }
         })
@@ -38,7 +39,7 @@ pub(super) const OF_CHECKED_PLANS: &[Mistake] = &[
             let is_own = |(&tip, line): (&u8, Line)| tip < 64 && line.set >> tip & 1 == 1;
             let is_last = number == 19 && others.iter().zip(board.lines()).all(is_own) && *last < 64;
             match number {
-                19 if is_last && handed.pairs(board) != handed.claim => 20,
+                refusal::FOREIGN_TIP if is_last && handed.pairs(board) != handed.claim => refusal::WRONG_CLAIM,
                 _ => number,
             }
         })
@@ -75,7 +76,7 @@ pub(super) const OF_CHECKED_PLANS: &[Mistake] = &[
         on_single(call, lent, |call| matches!(call, Call::Check { .. }))
     }),
     ("refusal 19 names the line", |call, lent| {
-        at_refusal(call, lent, &[19], |lent| {
+        at_refusal(call, lent, &[refusal::FOREIGN_TIP], |lent| {
             let board = board_of(lent).expect("a good file");
             let is_own = |(line, tip): (Line, &mut u8)| *tip < 64 && line.set >> *tip & 1 == 1;
             let foreign = board.lines().zip(lent.bytes.inside()).position(|pair| !is_own(pair));
@@ -91,12 +92,14 @@ pub(super) const OF_CHECKED_PLANS: &[Mistake] = &[
         _ => call_library(call, lent),
     }),
     ("an accepted check changes the plan", |call, lent| match call {
-        Call::Check { .. } => at_refusal(call, lent, &[0], touch),
+        Call::Check { .. } => at_refusal(call, lent, &[refusal::ACCEPTED], touch),
         _ => call_library(call, lent),
     }),
-    ("a refused check changes the plan", |call, lent| at_refusal(call, lent, &[19, 20, 33], touch)),
+    ("a refused check changes the plan", |call, lent| {
+        at_refusal(call, lent, &[refusal::FOREIGN_TIP, refusal::WRONG_CLAIM, refusal::WRONG_TABLE], touch)
+    }),
     ("a check clears the table below its diagonal", |call, lent| match call {
-        Call::Check { .. } => at_refusal(call, lent, &[0, 33], |lent| {
+        Call::Check { .. } => at_refusal(call, lent, &[refusal::ACCEPTED, refusal::WRONG_TABLE], |lent| {
             let rack = board_of(lent).expect("a good file").rack;
             let below = (0..rack * rack).filter(|place| place / rack > place % rack);
             below.for_each(|place| lent.table.inside()[place] = 0);
@@ -207,19 +210,19 @@ pub(super) const OF_CHECKED_TABLES: &[Mistake] = &[
 pub(super) const OF_ORDER_IN_CHECKS: &[Mistake] = &[
     ("20 comes before 19", |call, lent| {
         on_check(call, lent, |board, handed, number| match number {
-            19 if handed.pairs(board) != handed.claim => 20,
+            refusal::FOREIGN_TIP if handed.pairs(board) != handed.claim => refusal::WRONG_CLAIM,
             _ => number,
         })
     }),
     ("33 comes before 20", |call, lent| {
         on_check(call, lent, |board, handed, number| match number {
-            20 if !board.table_shows(handed.claim, &handed.table) => 33,
+            refusal::WRONG_CLAIM if !board.table_shows(handed.claim, &handed.table) => refusal::WRONG_TABLE,
             _ => number,
         })
     }),
     ("33 comes before 19", |call, lent| {
         on_check(call, lent, |board, handed, number| match number {
-            19 if !board.table_shows(handed.claim, &handed.table) => 33,
+            refusal::FOREIGN_TIP if !board.table_shows(handed.claim, &handed.table) => refusal::WRONG_TABLE,
             _ => number,
         })
     }),
@@ -248,7 +251,7 @@ pub(super) const OF_ORDER_IN_CHECKS: &[Mistake] = &[
         }
     }),
     ("25 names no line in a check", |call, lent| match call {
-        Call::Check { .. } => at_refusal(call, lent, &[25], |lent| lent.answer.inside()[0] = 0),
+        Call::Check { .. } => at_refusal(call, lent, &[refusal::NO_RUN], |lent| lent.answer.inside()[0] = 0),
         _ => call_library(call, lent),
     }),
     ("a plan of n bytes or a table of m * m places is refused in a check", |call, lent| match (call, board_of(lent)) {
@@ -276,7 +279,11 @@ fn exact(entry: u32, pairs: u32, below: u32, above: u32) -> bool {
 fn on_check(call: &Call, lent: &mut Buffers, number: impl FnOnce(&Board, &Handed, u64) -> u64) -> u64 {
     let returned = call_library(call, lent);
     match (*call, returned, board_of(lent)) {
-        (Call::Check { claim, .. }, 0 | 19 | 20 | 33, Some(board)) => {
+        (
+            Call::Check { claim, .. },
+            0 | refusal::FOREIGN_TIP | refusal::WRONG_CLAIM | refusal::WRONG_TABLE,
+            Some(board),
+        ) => {
             let plan = lent.bytes.inside()[..board.count].to_vec();
             let table = lent.table.inside()[..board.rack * board.rack].to_vec();
             number(&board, &Handed { plan, claim, table }, returned)
@@ -288,8 +295,8 @@ fn on_check(call: &Call, lent: &mut Buffers, number: impl FnOnce(&Board, &Handed
 /// A check by another rule of the table, at these of the named tips or more.
 fn on_rule(call: &Call, lent: &mut Buffers, tips: fn(u64) -> u64, rule: Rule) -> u64 {
     on_check(call, lent, |board, handed, number| match number {
-        0 | 33 if keeps(board, handed, tips(board.named_tips()), rule) => 0,
-        0 | 33 => 33,
+        0 | refusal::WRONG_TABLE if keeps(board, handed, tips(board.named_tips()), rule) => 0,
+        0 | refusal::WRONG_TABLE => refusal::WRONG_TABLE,
         _ => number,
     })
 }
@@ -298,7 +305,7 @@ fn on_rule(call: &Call, lent: &mut Buffers, tips: fn(u64) -> u64, rule: Rule) ->
 fn on_claim(call: &Call, lent: &mut Buffers, edit: fn(&Board, &Handed) -> u32) -> u64 {
     let mut other = *call;
     let returned = on_check(call, lent, |board, handed, number| {
-        if let (Call::Check { claim, .. }, 20) = (&mut other, number) {
+        if let (Call::Check { claim, .. }, refusal::WRONG_CLAIM) = (&mut other, number) {
             *claim = edit(board, handed);
         }
         number

@@ -5,6 +5,7 @@ use super::Mistake;
 use crate::boards::single;
 use crate::check::{call_library, Buffers, Call};
 use crate::files::{file_in, file_of, line_in, put_line, version_of};
+use crate::refusal;
 use job_file::LONGEST_FILE;
 use second::{Board, Line};
 
@@ -31,7 +32,9 @@ pub(super) const OF_KEEP: &[Mistake] = &[
         let most = board_of(lent).map_or(u16::MAX, |board| board.count as u16);
         on_k(call, lent, |k| k.min(most))
     }),
-    ("refusal 26 carries margin 0", |call, lent| at_refusal(call, lent, &[26], |lent| lent.answer.inside()[1] = 0)),
+    ("refusal 26 carries margin 0", |call, lent| {
+        at_refusal(call, lent, &[refusal::NO_PLAN], |lent| lent.answer.inside()[1] = 0)
+    }),
     ("the board is handed back as it was", |call, lent| on_kept(call, lent, |_, _, given| given)),
     ("tips are struck at margin 1 too", |call, lent| match *call {
         Call::Keep { k, .. } if k > 0 => {
@@ -67,15 +70,15 @@ pub(super) const OF_KEEP: &[Mistake] = &[
         returned
     }),
     ("refusal 11 carries the margin", |call, lent| match *call {
-        Call::Keep { k, .. } => at_refusal(call, lent, &[11], |lent| {
+        Call::Keep { k, .. } => at_refusal(call, lent, &[refusal::SHORT_OUTPUT], |lent| {
             let kept = library::keep(lent.file.inside(), k, &mut [0; LONGEST_FILE]);
             lent.answer.inside()[1] = kept.expect("the bound is met").margin as u64;
         }),
         _ => call_library(call, lent),
     }),
-    ("refusal 11 writes a byte of the output", |call, lent| at_refusal(call, lent, &[11], touch)),
+    ("refusal 11 writes a byte of the output", |call, lent| at_refusal(call, lent, &[refusal::SHORT_OUTPUT], touch)),
     ("refusal 26 writes the output", |call, lent| {
-        at_refusal(call, lent, &[26], |lent| {
+        at_refusal(call, lent, &[refusal::NO_PLAN], |lent| {
             let file = lent.file.inside().to_vec();
             if lent.bytes.length >= file.len() {
                 lent.bytes.inside()[..file.len()].copy_from_slice(&file);

@@ -6,6 +6,7 @@ use super::changes::{
 use super::Mistake;
 use crate::check::{call_library, Buffers, Call};
 use crate::files::file_of;
+use crate::refusal;
 use second::interface::{ANSWER_PLACES, NO_TIP};
 use second::{pairs_in, Board, Line, EXACT_TIPS};
 
@@ -127,13 +128,13 @@ pub(super) const OF_EXACT: &[Mistake] = &[
     }),
     ("refusal 35 returns the number of named tips", |call, lent| {
         let named = board_of(lent).map_or(0, |board| board.named_tips().count_ones());
-        at_refusal(call, lent, &[35], |lent| lent.answer.inside()[0] = named.into())
+        at_refusal(call, lent, &[refusal::TOO_MANY_NAMED], |lent| lent.answer.inside()[0] = named.into())
     }),
     ("refusal 35 is that of a table that is too short", |call, lent| match call_library(call, lent) {
-        35 if matches!(call, Call::Exact { .. }) => 5,
+        refusal::TOO_MANY_NAMED if matches!(call, Call::Exact { .. }) => refusal::SHORT_TABLE,
         returned => returned,
     }),
-    ("refusal 35 writes to the plan", |call, lent| at_refusal(call, lent, &[35], touch)),
+    ("refusal 35 writes to the plan", |call, lent| at_refusal(call, lent, &[refusal::TOO_MANY_NAMED], touch)),
     ("a plan buffer of n bytes is refused in exact sharing", |call, lent| match (call, board_of(lent)) {
         (Call::Exact { .. }, Some(board)) if board.count > 0 && lent.bytes.length == board.count => {
             lent.bytes.length -= 1;
@@ -237,7 +238,7 @@ pub(super) const OF_TABLES: &[Mistake] = &[
     ("a table of 2^r places is enough", |call, lent| {
         let returned = call_library(call, lent);
         match (*call, board_of(lent)) {
-            (Call::Exact { mounted, price, plan, .. }, Some(board)) if returned == 5 => {
+            (Call::Exact { mounted, price, plan, .. }, Some(board)) if returned == refusal::SHORT_TABLE => {
                 let sets = 1 << board.named_tips().count_ones();
                 if sets > lent.table.length || plan < board.count {
                     return returned;
@@ -260,7 +261,7 @@ pub(super) const OF_TABLES: &[Mistake] = &[
         _ => call_library(call, lent),
     }),
     ("refusal 5 clears the table in exact sharing", |call, lent| match call {
-        Call::Exact { .. } => at_refusal(call, lent, &[5], |lent| lent.table.inside().fill(0)),
+        Call::Exact { .. } => at_refusal(call, lent, &[refusal::SHORT_TABLE], |lent| lent.table.inside().fill(0)),
         _ => call_library(call, lent),
     }),
     ("the lines are put in the order of their sets", |call, lent| match (call, board_of(lent)) {

@@ -5,6 +5,7 @@ use super::Mistake;
 use crate::boards::is_unbroken;
 use crate::check::{call_library, Buffers, Call};
 use crate::files::{board_in, file_in, file_of, line_in, put_line, version_of};
+use crate::refusal;
 use job_file::Version;
 use second::interface::ANSWER_PLACES;
 use second::{pairs_in, Board, Line};
@@ -88,21 +89,21 @@ pub(super) const OF_GOALS: &[Mistake] = &[
     }),
     ("refusal 25 of a goal is always at line 0", |call, lent| {
         if let Call::Goal { .. } = call {
-            at_refusal(call, lent, &[25], |lent| lent.answer.inside()[0] = 0)
+            at_refusal(call, lent, &[refusal::NO_RUN], |lent| lent.answer.inside()[0] = 0)
         } else {
             call_library(call, lent)
         }
     }),
     ("refusal 34 tells the number of lines", |call, lent| {
         let count = board_of(lent).map_or(0, |board| board.count as u64);
-        at_refusal(call, lent, &[34], |lent| lent.answer.inside()[0] = count)
+        at_refusal(call, lent, &[refusal::GOAL_MISSED], |lent| lent.answer.inside()[0] = count)
     }),
     ("refusal 34 tells the pairs of a best plan", |call, lent| {
         let pairs = board_of(lent).map_or(0, |board| pairs_in(&board.placed(&best_plan(&board))));
-        at_refusal(call, lent, &[34], |lent| lent.answer.inside()[1] = pairs.into())
+        at_refusal(call, lent, &[refusal::GOAL_MISSED], |lent| lent.answer.inside()[1] = pairs.into())
     }),
     ("refusal 34 writes the output", |call, lent| {
-        at_refusal(call, lent, &[34], |lent| {
+        at_refusal(call, lent, &[refusal::GOAL_MISSED], |lent| {
             let file = lent.file.inside().to_vec();
             if lent.bytes.length >= file.len() {
                 lent.bytes.inside()[..file.len()].copy_from_slice(&file);
@@ -120,7 +121,7 @@ pub(super) const OF_GOALS: &[Mistake] = &[
     ("a line that is no run is told after a short output", |call, lent| {
         let returned = call_library(call, lent);
         let written = board_of(lent).map_or(0, |board| file_of(&board).len());
-        if let (Call::Goal { .. }, 25) = (call, returned) {
+        if let (Call::Goal { .. }, refusal::NO_RUN) = (call, returned) {
             if lent.bytes.length < written {
                 lent.answer.inside()[0] = 0;
                 return 11;

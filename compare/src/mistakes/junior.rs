@@ -3,6 +3,7 @@
 use super::changes::{at_refusal, board_of, on_accepted, on_head, on_single, touch};
 use super::Mistake;
 use crate::check::{call_library, Buffers, Call};
+use crate::refusal;
 use job_file::AT_RACK;
 use second::interface::ANSWER_PLACES;
 use second::{pairs_in, Board, JUNIOR_LINES, JUNIOR_TIPS};
@@ -22,15 +23,19 @@ pub(super) const OF_JUNIOR: &[Mistake] = &[
         }
     }),
     ("the Junior looks at the rack before the number of lines", |call, lent| {
-        on_refused(call, lent, 24, |board, _| (board.rack > JUNIOR_TIPS).then_some(1))
+        on_refused(call, lent, refusal::TOO_MANY_LINES, |board, _| {
+            (board.rack > JUNIOR_TIPS).then_some(refusal::RACK_SIZE)
+        })
     }),
     ("the Junior looks at the plan buffer before the rack", |call, lent| {
-        on_refused(call, lent, 1, |board, plan| (plan < board.count && board.count <= JUNIOR_LINES).then_some(4))
+        on_refused(call, lent, refusal::RACK_SIZE, |board, plan| {
+            (plan < board.count && board.count <= JUNIOR_LINES).then_some(refusal::SHORT_PLAN)
+        })
     }),
     ("the Junior looks at the tips before the plan buffer", |call, lent| {
-        on_refused(call, lent, 4, |board, _| {
+        on_refused(call, lent, refusal::SHORT_PLAN, |board, _| {
             let number = board.clone().junior(&mut [0; JUNIOR_LINES]).number;
-            (number == 31).then_some(31)
+            (number == second::refusal::NO_TWO_TIPS).then_some(refusal::NO_TWO_TIPS)
         })
     }),
     ("the Junior refuses a plan buffer of n bytes", |call, lent| match (call, board_of(lent)) {
@@ -116,12 +121,12 @@ pub(super) const OF_JUNIOR: &[Mistake] = &[
     }),
     ("refusal 31 tells the last line", |call, lent| {
         let count = board_of(lent).map_or(0, |board| board.count as u64);
-        at_refusal(call, lent, &[31], |lent| lent.answer.inside()[0] = count.saturating_sub(1))
+        at_refusal(call, lent, &[refusal::NO_TWO_TIPS], |lent| lent.answer.inside()[0] = count.saturating_sub(1))
     }),
-    ("refusal 31 writes to the plan", |call, lent| at_refusal(call, lent, &[31], touch)),
+    ("refusal 31 writes to the plan", |call, lent| at_refusal(call, lent, &[refusal::NO_TWO_TIPS], touch)),
     ("refusal 24 tells the number of lines", |call, lent| {
         let count = board_of(lent).map_or(0, |board| board.count as u64);
-        at_refusal(call, lent, &[24], |lent| lent.answer.inside()[0] = count)
+        at_refusal(call, lent, &[refusal::TOO_MANY_LINES], |lent| lent.answer.inside()[0] = count)
     }),
     ("the Junior's plan bytes from n on are cleared", |call, lent| {
         on_junior(call, lent, |board, lent| lent.bytes.inside()[board.count..].fill(0))

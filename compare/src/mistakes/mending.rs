@@ -4,6 +4,7 @@ use super::changes::{at_refusal, head_of, on_file, touch};
 use super::Mistake;
 use crate::check::{call_library, Buffers, Call};
 use crate::files::{board_in, file_in, file_of, line_in, put_line};
+use crate::refusal;
 use job_file::{Head, Version, AT_COUNT, AT_RACK, HEAD, LONGEST_FILE};
 use second::interface::ANSWER_PLACES;
 use second::{mended, Board, Line, CHANGE};
@@ -242,18 +243,20 @@ pub const OF_MENDED_FILES: &[Mistake] = &[
 
 pub const OF_MENDING_OUTPUTS: &[Mistake] = &[
     ("the lengths of a mending change places", |call, lent| match call {
-        Call::Mend { .. } => at_refusal(call, lent, &[0], |lent| lent.answer.inside().swap(1, 2)),
+        Call::Mend { .. } => at_refusal(call, lent, &[refusal::ACCEPTED], |lent| lent.answer.inside().swap(1, 2)),
         _ => call_library(call, lent),
     }),
     ("a mending tells the number of changes", |call, lent| match call {
-        Call::Mend { .. } => at_refusal(call, lent, &[0], |lent| lent.answer.inside()[2] /= CHANGE as u64),
+        Call::Mend { .. } => {
+            at_refusal(call, lent, &[refusal::ACCEPTED], |lent| lent.answer.inside()[2] /= CHANGE as u64)
+        }
         _ => call_library(call, lent),
     }),
     ("a mending tells a place", |call, lent| {
         let first = mended(lent.file.inside()).ok().and_then(|it| it.changes.first().copied());
         match (call, first) {
             (Call::Mend { .. }, Some(change)) => {
-                at_refusal(call, lent, &[0], |lent| lent.answer.inside()[0] = change.line.into())
+                at_refusal(call, lent, &[refusal::ACCEPTED], |lent| lent.answer.inside()[0] = change.line.into())
             }
             _ => call_library(call, lent),
         }
@@ -267,7 +270,7 @@ pub const OF_MENDING_OUTPUTS: &[Mistake] = &[
     ("a report that is too short is left out", |call, lent| match (*call, mended(lent.file.inside())) {
         (Call::Mend { out, answer, .. }, Ok(it)) if out >= it.file.len() && answer >= ANSWER_PLACES => {
             let returned = call_library(call, lent);
-            if returned == 11 {
+            if returned == refusal::SHORT_OUTPUT {
                 lent.bytes.inside()[..it.file.len()].copy_from_slice(&it.file);
                 lent.answer.inside()[1] = it.file.len() as u64;
                 return 0;
@@ -277,24 +280,28 @@ pub const OF_MENDING_OUTPUTS: &[Mistake] = &[
         _ => call_library(call, lent),
     }),
     ("a refused mending writes the report", |call, lent| match (*call, mended(lent.file.inside())) {
-        (Call::Mend { report, .. }, Ok(it)) if report >= it.report().len() => at_refusal(call, lent, &[11], |lent| {
-            lent.other.inside()[..it.report().len()].copy_from_slice(&it.report());
-        }),
+        (Call::Mend { report, .. }, Ok(it)) if report >= it.report().len() => {
+            at_refusal(call, lent, &[refusal::SHORT_OUTPUT], |lent| {
+                lent.other.inside()[..it.report().len()].copy_from_slice(&it.report());
+            })
+        }
         _ => call_library(call, lent),
     }),
     ("a refused mending writes the head", |call, lent| match call {
-        Call::Mend { .. } => at_refusal(call, lent, &[11], touch),
+        Call::Mend { .. } => at_refusal(call, lent, &[refusal::SHORT_OUTPUT], touch),
         _ => call_library(call, lent),
     }),
     ("11 comes before the refusals of the head", |call, lent| match *call {
         Call::Mend { out, .. } if out < HEAD => match call_library(call, lent) {
-            1 | 6 | 7 | 8 => 11,
+            refusal::RACK_SIZE | refusal::SHORT_FILE | refusal::WRONG_MARK | refusal::WRONG_VERSION => {
+                refusal::SHORT_OUTPUT
+            }
             number => number,
         },
         _ => call_library(call, lent),
     }),
     ("a mending writes to the byte behind its file", |call, lent| match call {
-        Call::Mend { .. } => at_refusal(call, lent, &[0], |lent| {
+        Call::Mend { .. } => at_refusal(call, lent, &[refusal::ACCEPTED], |lent| {
             let place = lent.answer.inside()[1] as usize;
             if let Some(byte) = lent.bytes.inside().get_mut(place) {
                 *byte ^= 1;
@@ -303,7 +310,7 @@ pub const OF_MENDING_OUTPUTS: &[Mistake] = &[
         _ => call_library(call, lent),
     }),
     ("a mending writes to the byte behind its report", |call, lent| match call {
-        Call::Mend { .. } => at_refusal(call, lent, &[0], |lent| {
+        Call::Mend { .. } => at_refusal(call, lent, &[refusal::ACCEPTED], |lent| {
             let place = lent.answer.inside()[2] as usize;
             if let Some(byte) = lent.other.inside().get_mut(place) {
                 *byte ^= 1;
@@ -347,7 +354,7 @@ fn mended_board(file: &[u8]) -> Board {
 /// An accepted mending with another file and another report, where there is room for them, given the file found.
 fn on_mended(call: &Call, lent: &mut Buffers, edit: fn(&[u8], &mut Vec<u8>, &mut Vec<Told>)) -> u64 {
     let Call::Mend { .. } = call else { return call_library(call, lent) };
-    at_refusal(call, lent, &[0], |lent| {
+    at_refusal(call, lent, &[refusal::ACCEPTED], |lent| {
         let found = lent.file.inside().to_vec();
         let [file, told] = [1, 2].map(|place| lent.answer.inside()[place] as usize);
         let mut file = lent.bytes.inside()[..file].to_vec();

@@ -7,6 +7,7 @@ use super::changes::{
 use super::Mistake;
 use crate::check::{call_library, Buffers, Call};
 use crate::files::file_of;
+use crate::refusal;
 use second::interface::{ANSWER_PLACES, NO_TIP};
 use second::{Board, Line};
 
@@ -35,7 +36,9 @@ pub(super) const OF_REFUSED_MOUNTED_TIPS: &[Mistake] = &[
     ("refusal 16 comes after 4", |call, lent| {
         let returned = call_library(call, lent);
         match board_of(lent) {
-            Some(board) if refusal(call, returned) == 16 && lent.bytes.length < board.count => 4,
+            Some(board) if refusal(call, returned) == refusal::MOUNTED_OUTSIDE && lent.bytes.length < board.count => {
+                refusal::SHORT_PLAN
+            }
             _ => returned,
         }
     }),
@@ -43,7 +46,7 @@ pub(super) const OF_REFUSED_MOUNTED_TIPS: &[Mistake] = &[
         let returned = call_library(call, lent);
         match (call, board_of(lent)) {
             (Call::Best { plan, table, .. }, Some(board))
-                if returned == 16 && *plan >= board.count && *table < board.rack * board.rack =>
+                if returned == refusal::MOUNTED_OUTSIDE && *plan >= board.count && *table < board.rack * board.rack =>
             {
                 5
             }
@@ -55,7 +58,9 @@ pub(super) const OF_REFUSED_MOUNTED_TIPS: &[Mistake] = &[
         let no_run = |board: &Board| board.lines().position(|line| missed(line.set, board.named_tips()) != 0);
         match (call, board_of(lent)) {
             (Call::Best { plan, table, .. }, Some(board))
-                if returned == 16 && *plan >= board.count && *table >= board.rack * board.rack =>
+                if returned == refusal::MOUNTED_OUTSIDE
+                    && *plan >= board.count
+                    && *table >= board.rack * board.rack =>
             {
                 no_run(&board).map_or(returned, |line| {
                     lent.answer.inside()[0] = line as u64;
@@ -68,7 +73,9 @@ pub(super) const OF_REFUSED_MOUNTED_TIPS: &[Mistake] = &[
     ("refusal 16 comes before those of reading", |call, lent| {
         let returned = call_library(call, lent);
         let is_outside = mounted_tip(call).is_some_and(|tip| tip >= 64);
-        if is_outside && !matches!(refusal(call, returned), 0 | 16 | 100) {
+        if is_outside
+            && !matches!(refusal(call, returned), refusal::ACCEPTED | refusal::MOUNTED_OUTSIDE | refusal::SHORT_ANSWER)
+        {
             lent.answer.inside()[..ANSWER_PLACES].fill(0);
             return 16;
         }
@@ -84,10 +91,14 @@ pub(super) const OF_REFUSED_MOUNTED_TIPS: &[Mistake] = &[
         }
     }),
     ("refusal 16 names the mounted tip", |call, lent| {
-        at_refusal(call, lent, &[16], |lent| lent.answer.inside()[0] = mounted_tip(call).unwrap_or(0) as u64)
+        at_refusal(call, lent, &[refusal::MOUNTED_OUTSIDE], |lent| {
+            lent.answer.inside()[0] = mounted_tip(call).unwrap_or(0) as u64
+        })
     }),
-    ("refusal 16 writes to the plan", |call, lent| at_refusal(call, lent, &[16], touch)),
-    ("refusal 16 clears the table", |call, lent| at_refusal(call, lent, &[16], |lent| lent.table.inside().fill(0))),
+    ("refusal 16 writes to the plan", |call, lent| at_refusal(call, lent, &[refusal::MOUNTED_OUTSIDE], touch)),
+    ("refusal 16 clears the table", |call, lent| {
+        at_refusal(call, lent, &[refusal::MOUNTED_OUTSIDE], |lent| lent.table.inside().fill(0))
+    }),
 ];
 
 pub(super) const OF_MOUNTED_TIPS: &[Mistake] = &[

@@ -3,6 +3,7 @@
 use super::changes::{after, at_refusal, on_report, refusal, touch};
 use super::Mistake;
 use crate::check::{call_library, Call, Lent};
+use crate::refusal;
 use job_file::HEAD;
 use second::interface::{ANSWER_PLACES, REPORT_SPACE};
 
@@ -17,7 +18,7 @@ pub(super) const OF_ANSWERS: &[Mistake] = &[
         returned
     }),
     ("refusal 100 writes to the answer", |call, lent| {
-        at_refusal(call, lent, &[100], |lent| {
+        at_refusal(call, lent, &[refusal::SHORT_ANSWER], |lent| {
             if let Some(first) = lent.answer.inside().first_mut() {
                 *first ^= 1;
             }
@@ -26,7 +27,7 @@ pub(super) const OF_ANSWERS: &[Mistake] = &[
     ("a refusal of the file comes before 100", |call, lent| {
         let returned = call_library(call, lent);
         match library::read(lent.file.inside()) {
-            Err(refused) if refusal(call, returned) == 100 => refused.number.into(),
+            Err(refused) if refusal(call, returned) == refusal::SHORT_ANSWER => refused.number.into(),
             _ => returned,
         }
     }),

@@ -5,6 +5,7 @@ use super::Mistake;
 use crate::boards::{is_counted, single};
 use crate::check::{call_library, Buffers, Call, Lent};
 use crate::files::{board_in, file_in, file_of, number_of};
+use crate::refusal;
 use job_file::{Job, Version, AT_RACK};
 use second::Board;
 
@@ -44,7 +45,9 @@ pub const OF_MERGING: &[Mistake] = &[
     }),
     ("11 comes before 17, 24 and 30", |call, lent| {
         on_merge(call, lent, |panel, number| {
-            if matches!(number, 17 | 24 | 30) && panel.out < Version::Two.length_of(panel.lines) {
+            if matches!(number, refusal::RACKS_DIFFER | refusal::TOO_MANY_LINES | refusal::TOO_MANY_PLACEMENTS)
+                && panel.out < Version::Two.length_of(panel.lines)
+            {
                 11
             } else {
                 number
@@ -58,7 +61,7 @@ pub const OF_MERGING: &[Mistake] = &[
         let first = boards_of(lent).map(|[first, _]| first.count);
         match (call, first) {
             (Call::Merge { .. }, Some(first)) => {
-                at_refusal(call, lent, &[30], |lent| lent.answer.inside()[0] = first as u64)
+                at_refusal(call, lent, &[refusal::TOO_MANY_PLACEMENTS], |lent| lent.answer.inside()[0] = first as u64)
             }
             _ => call_library(call, lent),
         }
@@ -99,37 +102,40 @@ pub const OF_MERGING: &[Mistake] = &[
         })
     }),
     ("merge tells the lines in the place of the bytes", |call, lent| match (call, boards_of(lent)) {
-        (Call::Merge { .. }, Some([first, second])) => {
-            at_refusal(call, lent, &[0], |lent| lent.answer.inside()[1] = (first.count + second.count) as u64)
-        }
+        (Call::Merge { .. }, Some([first, second])) => at_refusal(call, lent, &[refusal::ACCEPTED], |lent| {
+            lent.answer.inside()[1] = (first.count + second.count) as u64
+        }),
         _ => call_library(call, lent),
     }),
     ("a refused merge clears the output", |call, lent| match call {
-        Call::Merge { .. } => {
-            at_refusal(call, lent, &[11, 17, 24, 30], |lent| lent.bytes.inside().iter_mut().for_each(|byte| *byte = 0))
-        }
+        Call::Merge { .. } => at_refusal(
+            call,
+            lent,
+            &[refusal::SHORT_OUTPUT, refusal::RACKS_DIFFER, refusal::TOO_MANY_LINES, refusal::TOO_MANY_PLACEMENTS],
+            |lent| lent.bytes.inside().iter_mut().for_each(|byte| *byte = 0),
+        ),
         _ => call_library(call, lent),
     }),
     ("merge writes to the byte behind the panel", |call, lent| match call {
-        Call::Merge { .. } => at_refusal(call, lent, &[0], |lent| touch_at(lent, |answer| answer[1])),
+        Call::Merge { .. } => at_refusal(call, lent, &[refusal::ACCEPTED], |lent| touch_at(lent, |answer| answer[1])),
         _ => call_library(call, lent),
     }),
 ];
 
 pub const OF_PLANNING_ALONE: &[Mistake] = &[
     ("the plan of the second board begins with the buffer", |call, lent| match (call, boards_of(lent)) {
-        (Call::Alone { .. }, Some([first, second])) => at_refusal(call, lent, &[0], |lent| {
+        (Call::Alone { .. }, Some([first, second])) => at_refusal(call, lent, &[refusal::ACCEPTED], |lent| {
             let plan = &mut lent.bytes.inside()[..first.count + second.count];
             plan.rotate_left(first.count);
         }),
         _ => call_library(call, lent),
     }),
     ("the pairs of the two plans change places", |call, lent| match call {
-        Call::Alone { .. } => at_refusal(call, lent, &[0], |lent| lent.answer.inside().swap(1, 2)),
+        Call::Alone { .. } => at_refusal(call, lent, &[refusal::ACCEPTED], |lent| lent.answer.inside().swap(1, 2)),
         _ => call_library(call, lent),
     }),
     ("the pairs of both plans are told together", |call, lent| match call {
-        Call::Alone { .. } => at_refusal(call, lent, &[0], |lent| {
+        Call::Alone { .. } => at_refusal(call, lent, &[refusal::ACCEPTED], |lent| {
             let answer = lent.answer.inside();
             answer[1] += answer[2];
         }),
@@ -143,7 +149,7 @@ pub const OF_PLANNING_ALONE: &[Mistake] = &[
         _ => call_library(call, lent),
     }),
     ("boards planned alone share their tips", |call, lent| match (call, boards_of(lent)) {
-        (Call::Alone { .. }, Some([first, second])) => at_refusal(call, lent, &[0], |lent| {
+        (Call::Alone { .. }, Some([first, second])) => at_refusal(call, lent, &[refusal::ACCEPTED], |lent| {
             let merged = first.clone().merge(second.clone());
             if merged.number == 0 {
                 let plan = &mut lent.bytes.inside()[..merged.panel.count];
@@ -159,7 +165,7 @@ pub const OF_PLANNING_ALONE: &[Mistake] = &[
     ("a plan that does for the first board alone is accepted", |call, lent| match (*call, boards_of(lent)) {
         (Call::Alone { plan, .. }, Some([first, _])) if plan >= first.count => {
             let returned = call_library(call, lent);
-            if returned == 4 {
+            if returned == refusal::SHORT_PLAN {
                 let (pairs, count) = (first.clone().quick(None, lent.bytes.inside()).value, lent.answer.length);
                 lent.answer.inside()[1.min(count - 1)] = pairs.into();
                 return 0;
@@ -169,9 +175,11 @@ pub const OF_PLANNING_ALONE: &[Mistake] = &[
         _ => call_library(call, lent),
     }),
     ("a refused plan alone has that of the first board", |call, lent| match (*call, boards_of(lent)) {
-        (Call::Alone { plan, .. }, Some([first, _])) if plan >= first.count => at_refusal(call, lent, &[4], |lent| {
-            first.quick(None, lent.bytes.inside());
-        }),
+        (Call::Alone { plan, .. }, Some([first, _])) if plan >= first.count => {
+            at_refusal(call, lent, &[refusal::SHORT_PLAN], |lent| {
+                first.quick(None, lent.bytes.inside());
+            })
+        }
         _ => call_library(call, lent),
     }),
     ("planning alone needs a byte more", |call, lent| match (*call, boards_of(lent)) {
@@ -184,12 +192,12 @@ pub const OF_PLANNING_ALONE: &[Mistake] = &[
     ("planning alone writes to the byte behind both plans", |call, lent| match (call, boards_of(lent)) {
         (Call::Alone { .. }, Some([first, second])) => {
             let behind = first.count + second.count;
-            at_refusal(call, lent, &[0], |lent| touch_at(lent, |_| behind as u64))
+            at_refusal(call, lent, &[refusal::ACCEPTED], |lent| touch_at(lent, |_| behind as u64))
         }
         _ => call_library(call, lent),
     }),
     ("a board planned alone has the pairs of lines", |call, lent| match (call, boards_of(lent)) {
-        (Call::Alone { .. }, Some([_, second])) => at_refusal(call, lent, &[0], |lent| {
+        (Call::Alone { .. }, Some([_, second])) => at_refusal(call, lent, &[refusal::ACCEPTED], |lent| {
             lent.answer.inside()[2] = single(&second).quick(None, &mut [0; 512]).value.into()
         }),
         _ => call_library(call, lent),
@@ -218,11 +226,13 @@ pub const OF_TWO_FILES: &[Mistake] = &[
         _ => call_library(call, lent),
     }),
     ("a line of the second file is counted on from the first", |call, lent| match call {
-        Call::Merge { .. } | Call::Alone { .. } => at_refusal(call, lent, &[2, 3, 15], |lent| {
-            if let Ok(first) = Job::read(lent.file.inside()) {
-                lent.answer.inside()[0] += first.lines.len() as u64;
-            }
-        }),
+        Call::Merge { .. } | Call::Alone { .. } => {
+            at_refusal(call, lent, &[refusal::EMPTY_LINE, refusal::TIP_OUTSIDE, refusal::ZERO_QUANTITY], |lent| {
+                if let Ok(first) = Job::read(lent.file.inside()) {
+                    lent.answer.inside()[0] += first.lines.len() as u64;
+                }
+            })
+        }
         _ => call_library(call, lent),
     }),
     ("a second file of version 2 is refused", |call, lent| match call {
@@ -303,7 +313,7 @@ fn on_merge(call: &Call, lent: &mut Buffers, number: fn(&Together, u64) -> u64) 
 /// Merging with another file written, where there is room for it, given the panel.
 fn on_panel(call: &Call, lent: &mut Buffers, edit: impl FnOnce(Board) -> Vec<u8>) -> u64 {
     match (call, boards_of(lent)) {
-        (Call::Merge { .. }, Some([first, second])) => at_refusal(call, lent, &[0], |lent| {
+        (Call::Merge { .. }, Some([first, second])) => at_refusal(call, lent, &[refusal::ACCEPTED], |lent| {
             let file = edit(first.merge(second).panel);
             if file.len() <= lent.bytes.length {
                 lent.bytes.inside()[..file.len()].copy_from_slice(&file);

@@ -5,6 +5,7 @@ use super::changes::{
 };
 use super::Mistake;
 use crate::check::{call_library, Buffers, Call};
+use crate::refusal;
 use second::Board;
 
 pub(super) const OF_QUICK: &[Mistake] = &[
@@ -55,7 +56,7 @@ pub(super) const OF_QUICK: &[Mistake] = &[
         }
         _ => call_library(call, lent),
     }),
-    ("refusal 4 writes to the plan", |call, lent| at_refusal(call, lent, &[4], touch)),
+    ("refusal 4 writes to the plan", |call, lent| at_refusal(call, lent, &[refusal::SHORT_PLAN], touch)),
     ("plan bytes from n on are cleared", |call, lent| {
         on_quick(call, lent, |board, lent| {
             lent.bytes.inside()[board.count..].fill(0);

@@ -6,6 +6,7 @@ use crate::boards::single;
 use crate::check::{call_library, Buffers, Call};
 use crate::damage::{first_to_pass, quantities_in};
 use crate::files::{file_in, file_of, line_in, version_of};
+use crate::refusal;
 use job_file::{Version, AT_RACK, AT_VERSION, HEAD, LONGEST_FILE, MARK, MOST_PLACEMENTS};
 use second::interface::ANSWER_PLACES;
 use second::Line;
@@ -75,7 +76,9 @@ pub(super) const OF_READING: &[Mistake] = &[
     ("sets are read little-endian", |call, lent| on_sets(call, lent, |_, set| set.swap_bytes())),
     ("the last bad line is named", |call, lent| {
         let returned = call_library(call, lent);
-        if let (2 | 3 | 15, Some(head)) = (refusal(call, returned), head_of(lent.file.inside())) {
+        if let (refusal::EMPTY_LINE | refusal::TIP_OUTSIDE | refusal::ZERO_QUANTITY, Some(head)) =
+            (refusal(call, returned), head_of(lent.file.inside()))
+        {
             let is_bad = |&line: &usize| {
                 let Line { set, quantity } = line_in(head.form(), head.bytes, line);
                 set == 0 || head.rack < 64 && set >> head.rack != 0 || quantity == 0
@@ -99,10 +102,10 @@ pub(super) const OF_READING: &[Mistake] = &[
         on_sets(call, lent, |_, set| if set != 0 && rack < 64 { (set & ((1 << rack) - 1)).max(1) } else { set })
     }),
     ("the line of a refusal is always 0", |call, lent| {
-        at_refusal(call, lent, &[2, 3], |lent| lent.answer.inside()[0] = 0)
+        at_refusal(call, lent, &[refusal::EMPTY_LINE, refusal::TIP_OUTSIDE], |lent| lent.answer.inside()[0] = 0)
     }),
     ("the line of a refusal has 8 bits", |call, lent| {
-        at_refusal(call, lent, &[2, 3], |lent| lent.answer.inside()[0] &= 0xFF)
+        at_refusal(call, lent, &[refusal::EMPTY_LINE, refusal::TIP_OUTSIDE], |lent| lent.answer.inside()[0] &= 0xFF)
     }),
 ];
 
@@ -125,7 +128,9 @@ pub(super) const OF_READING_QUANTITIES: &[Mistake] = &[
     }),
     ("a quantity is looked at before the set of its line", |call, lent| {
         let returned = call_library(call, lent);
-        if let (2 | 3, Some(head)) = (refusal(call, returned), head_of(lent.file.inside())) {
+        if let (refusal::EMPTY_LINE | refusal::TIP_OUTSIDE, Some(head)) =
+            (refusal(call, returned), head_of(lent.file.inside()))
+        {
             let bad = line_in(head.form(), head.bytes, lent.answer.inside()[0] as usize);
             if bad.quantity == 0 {
                 return 15;
@@ -145,7 +150,7 @@ pub(super) const OF_READING_QUANTITIES: &[Mistake] = &[
         })
     }),
     ("the line of refusal 15 is always 0", |call, lent| {
-        at_refusal(call, lent, &[15], |lent| lent.answer.inside()[0] = 0)
+        at_refusal(call, lent, &[refusal::ZERO_QUANTITY], |lent| lent.answer.inside()[0] = 0)
     }),
     ("2,048 placements are refused", |call, lent| {
         let total: usize = quantities_in(lent.file.inside()).into_iter().map(usize::from).sum();
@@ -175,7 +180,9 @@ pub(super) const OF_READING_QUANTITIES: &[Mistake] = &[
         let returned = call_library(call, lent);
         let passing = first_to_pass(&quantities_in(lent.file.inside()));
         match (refusal(call, returned), passing) {
-            (2 | 3 | 15, Some(line)) if (line as u64) < lent.answer.inside()[0] => {
+            (refusal::EMPTY_LINE | refusal::TIP_OUTSIDE | refusal::ZERO_QUANTITY, Some(line))
+                if (line as u64) < lent.answer.inside()[0] =>
+            {
                 lent.answer.inside()[0] = line as u64;
                 30
             }
@@ -186,7 +193,9 @@ pub(super) const OF_READING_QUANTITIES: &[Mistake] = &[
         let returned = call_library(call, lent);
         let passing = first_to_pass(&quantities_in(lent.file.inside()));
         match (refusal(call, returned), passing) {
-            (2 | 3 | 15, Some(line)) if (line as u64) > lent.answer.inside()[0] => {
+            (refusal::EMPTY_LINE | refusal::TIP_OUTSIDE | refusal::ZERO_QUANTITY, Some(line))
+                if (line as u64) > lent.answer.inside()[0] =>
+            {
                 lent.answer.inside()[0] = line as u64;
                 30
             }
@@ -280,7 +289,7 @@ pub(super) const OF_VERSIONS: &[Mistake] = &[
         (Call::Keep { .. }, Some(board)) => {
             let returned = call_library(call, lent);
             let first = file_of(&single(&board));
-            if returned == 11 && lent.bytes.length >= first.len() {
+            if returned == refusal::SHORT_OUTPUT && lent.bytes.length >= first.len() {
                 lent.bytes.inside()[..first.len()].copy_from_slice(&first);
                 return 0;
             }
@@ -301,7 +310,7 @@ fn on_quantities(call: &Call, lent: &mut Buffers, edit: fn(u8) -> u8) -> u64 {
 fn at_passing_line(call: &Call, lent: &mut Buffers, change: impl FnOnce(&mut Buffers)) -> u64 {
     match call {
         Call::Merge { .. } | Call::Alone { .. } => call_library(call, lent),
-        _ => at_refusal(call, lent, &[30], change),
+        _ => at_refusal(call, lent, &[refusal::TOO_MANY_PLACEMENTS], change),
     }
 }
 

@@ -5,6 +5,7 @@ use second::Board;
 
 use super::{numbers_outside, Run};
 use crate::check::{Call, Difference, Outcome};
+use crate::refusal;
 use crate::tally::Event;
 
 /// The tip changes of a plan along the list, with the one before its first line where another tip is mounted.
@@ -44,7 +45,7 @@ impl Run {
             (with_mounted.bytes != bare.bytes, Event::AlongByMounted),
             (first_tips >> mounted & 1 == 0 && board.count > 0, Event::AlongChangeBefore),
             (board.count > 0 && tips >> mounted & 1 == 0, Event::AlongMountedNotNamed),
-            (refused == 16 && plan < board.count, Event::AlongMountedAndShortPlan),
+            (refused == refusal::MOUNTED_OUTSIDE && plan < board.count, Event::AlongMountedAndShortPlan),
         ]);
         Ok(())
     }

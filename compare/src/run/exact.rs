@@ -5,6 +5,7 @@ use second::{pairs_in, Board, Tried, EXACT_TIPS};
 
 use super::{is_own_plan, numbers_outside, Run};
 use crate::check::{Call, Difference, Outcome};
+use crate::refusal;
 use crate::tally::Event;
 
 /// A higher price of a tip counts as this one.
@@ -110,9 +111,9 @@ impl Run {
         let named = board.named_tips().count_ones() as usize;
         let rack = u64::MAX >> (64 - board.rack);
         self.count_events(&[
-            (best.returned == 25, Event::ExactWithoutRuns),
-            (best.returned == 25 && bare.answer[1] > quick.answer[1], Event::ExactAboveQuick),
-            (best.returned == 0 && board.count > 1 && bare.bytes == best.bytes, Event::ExactAsBest),
+            (best.returned == refusal::NO_RUN, Event::ExactWithoutRuns),
+            (best.returned == refusal::NO_RUN && bare.answer[1] > quick.answer[1], Event::ExactAboveQuick),
+            (best.returned == refusal::ACCEPTED && board.count > 1 && bare.bytes == best.bytes, Event::ExactAsBest),
             (board.count == 0, Event::ExactWithoutLines),
             (named > 0 && board.named_tips() != rack, Event::ExactWithAbsentTip),
         ]);
@@ -125,9 +126,9 @@ impl Run {
         let (table, answer) = (self.random.below(40), self.answer_length());
         let returned = self.case(file, Call::Exact { mounted, price, plan, table, answer })?.returned;
         self.count_events(&[
-            (returned == 4, Event::ShortPlanAndManyTips),
-            (returned == 16, Event::MountedAndManyTips),
-            (returned == 35, Event::ManyTipsAndShortTable),
+            (returned == refusal::SHORT_PLAN, Event::ShortPlanAndManyTips),
+            (returned == refusal::MOUNTED_OUTSIDE, Event::MountedAndManyTips),
+            (returned == refusal::TOO_MANY_NAMED, Event::ManyTipsAndShortTable),
         ]);
         Ok(())
     }

@@ -7,6 +7,7 @@ use super::Run;
 use crate::boards::is_unbroken;
 use crate::check::{Call, Difference, Outcome};
 use crate::files::{board_in, file_of};
+use crate::refusal;
 use crate::tally::Event;
 
 /// The second implementation solves a board for each tip of each line: those that take it longer are left out.
@@ -29,10 +30,12 @@ impl Run {
         let pairs = best.answer[1] as u32;
         let written = file_of(board).len();
         let any = self.random.below(pairs as usize + 1) as u32;
-        if best.returned == 25 || is_quick(board) {
+        if best.returned == refusal::NO_RUN || is_quick(board) {
             let kept = self.case(file, Call::Goal { goal: pairs, out: written, answer: ANSWER_PLACES })?;
             self.count_goal(board, best, pairs, &kept);
-            let goal = self.random.one_of(&[0, 1, any, any, any, pairs.saturating_sub(1), pairs / 2]);
+            // From 80 to 100 % of the best pairs the most tips take a chain of intervals to settle.
+            let near = pairs - any / 5;
+            let goal = self.random.one_of(&[0, 1, any, any, near, pairs.saturating_sub(1), pairs / 2]);
             let (out, answer) = (self.length_around(written), self.answer_length());
             let kept = self.case(file, Call::Goal { goal, out, answer })?;
             self.count_goal(board, best, goal, &kept);
@@ -42,9 +45,9 @@ impl Run {
         let (out, answer) = (self.length_around(written), self.answer_length());
         let refused = self.case(file, Call::Goal { goal, out, answer })?;
         self.count_events(&[
-            (refused.returned == 34 && goal == pairs + 1, Event::GoalMissedByOne),
-            (refused.returned == 34 && out < written, Event::GoalMissedAndShortOutput),
-            (refused.returned == 25, Event::GoalMissedAndNoRun),
+            (refused.returned == refusal::GOAL_MISSED && goal == pairs + 1, Event::GoalMissedByOne),
+            (refused.returned == refusal::GOAL_MISSED && out < written, Event::GoalMissedAndShortOutput),
+            (refused.returned == refusal::NO_RUN, Event::GoalMissedAndNoRun),
         ]);
         Ok(())
     }
@@ -57,7 +60,7 @@ impl Run {
         let (plan, table, answer) = (board.count, board.rack * board.rack, ANSWER_PLACES);
         let best = self.case(file, Call::Best { mounted: NO_TIP, plan, table, answer })?;
         let written = file_of(board).len();
-        let goal = if best.returned == 0 { best.answer[1] as u32 } else { 0 };
+        let goal = if best.returned == refusal::ACCEPTED { best.answer[1] as u32 } else { 0 };
         for answer in [0, 3, 4, 5] {
             self.case(file, Call::Goal { goal, out: written, answer })?;
         }
@@ -82,7 +85,7 @@ impl Run {
         let pairs = best.answer[1] as u32;
         let same = after == *board;
         let struck = |line: usize| after.sets[line] != board.sets[line];
-        let gap = || after.clone().best(None, &mut [0; 512], &mut [0; 4096]).number == 25;
+        let gap = || after.clone().best(None, &mut [0; 512], &mut [0; 4096]).number == second::refusal::NO_RUN;
         let several = || after.lines().any(|line| line.set.count_ones() > 1);
         // A kept tip to which the line cannot move alone.
         let with_others = || {

@@ -6,6 +6,7 @@ use second::{pairs_in, Board, JUNIOR_LINES, JUNIOR_TIPS};
 use super::Run;
 use crate::boards::{is_counted, single};
 use crate::check::{Call, Difference, Outcome};
+use crate::refusal;
 use crate::tally::Event;
 
 impl Run {
@@ -18,9 +19,12 @@ impl Run {
         let refused = self.case(file, call)?.returned;
         let is_short = plan < board.count;
         self.count_events(&[
-            (refused == 24 && board.rack > JUNIOR_TIPS, Event::JuniorManyLinesAndRack),
-            (refused == 1 && is_short, Event::JuniorRackAndShortPlan),
-            (refused == 4 && planned.returned == 31, Event::JuniorShortPlanAndNoTips),
+            (refused == refusal::TOO_MANY_LINES && board.rack > JUNIOR_TIPS, Event::JuniorManyLinesAndRack),
+            (refused == refusal::RACK_SIZE && is_short, Event::JuniorRackAndShortPlan),
+            (
+                refused == refusal::SHORT_PLAN && planned.returned == refusal::NO_TWO_TIPS,
+                Event::JuniorShortPlanAndNoTips,
+            ),
         ]);
         Ok(())
     }
@@ -33,7 +37,10 @@ impl Run {
         let number = board.clone().junior(&mut [0; JUNIOR_LINES]).number;
         for plan in (0..=board.count + 1).filter(|plan| board.count <= 8 || *plan + 2 >= board.count) {
             let refused = self.case(file, Call::Junior { plan, answer: ANSWER_PLACES })?.returned;
-            self.count_events(&[(refused == 4 && number == 31, Event::JuniorShortPlanAndNoTips)]);
+            self.count_events(&[(
+                refused == refusal::SHORT_PLAN && number == second::refusal::NO_TWO_TIPS,
+                Event::JuniorShortPlanAndNoTips,
+            )]);
         }
         Ok(())
     }

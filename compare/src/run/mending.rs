@@ -9,6 +9,7 @@ use crate::check::{Call, Difference};
 use crate::damage::{damage, damaged, put_count, KINDS};
 use crate::files::put_line;
 use crate::random::Random;
+use crate::refusal;
 use crate::tally::Event;
 
 /// A file with this count and these lines, each a set and a quantity, whether they keep the rules or not.
@@ -140,8 +141,8 @@ impl Run {
         self.begin_file(file);
         let outcome = self.case(file, Call::Mend { out, report, answer })?;
         match mended(file) {
-            Ok(mended) if outcome.returned == 0 => self.count_mending(file, &mended),
-            Ok(mended) if outcome.returned == 11 => self.count_events(&[
+            Ok(mended) if outcome.returned == refusal::ACCEPTED => self.count_mending(file, &mended),
+            Ok(mended) if outcome.returned == refusal::SHORT_OUTPUT => self.count_events(&[
                 (out >= mended.file.len(), Event::ShortReportAlone),
                 (report >= mended.report().len(), Event::ShortFileAlone),
             ]),

@@ -9,6 +9,7 @@ use crate::boards::{seeded_board, seeded_file, Size};
 use crate::check::{Call, Difference, Given};
 use crate::damage::{damage, damaged, KINDS};
 use crate::files::{board_in, file_in, file_of};
+use crate::refusal;
 use crate::tally::Event;
 
 /// So many of the fixed pairs are compared in each version that their files can have.
@@ -172,7 +173,7 @@ impl Run {
     }
 
     fn count_panel(&mut self, first: &[u8], second: &[u8], call: Call, number: u64) {
-        if number == 100 {
+        if number == refusal::SHORT_ANSWER {
             return;
         }
         let (one, two) = match (board_in(first), board_in(second)) {
@@ -187,7 +188,7 @@ impl Run {
             }
         };
         let (lines, placements) = (one.count + two.count, one.placements().len() + two.placements().len());
-        let (accepted, same_rack) = (number == 0, one.rack == two.rack);
+        let (accepted, same_rack) = (number == refusal::ACCEPTED, one.rack == two.rack);
         let versions = [first[4], second[4]];
         let is_merge = matches!(call, Call::Merge { .. });
         let fits_first = matches!(call, Call::Alone { plan, .. } if plan >= one.count);
@@ -201,7 +202,7 @@ impl Run {
             (is_merge && !same_rack && (lines > 512 || placements > 2048), Event::RacksDifferAndLines),
             (is_merge && same_rack && lines > 512 && placements > 2048, Event::LinesAndPlacements),
             (accepted && !is_merge && !same_rack, Event::AloneInTwoRacks),
-            (number == 4 && fits_first, Event::FirstPlanAloneFits),
+            (number == refusal::SHORT_PLAN && fits_first, Event::FirstPlanAloneFits),
         ]);
     }
 }

@@ -7,17 +7,10 @@ use Rattle.model.specs.Interval.{any, plan_for}
 use Rattle.model.proofs.RenumberFull.{plan_full}
 use Rattle.placements.specs.Repeated.{repeated}
 use Rattle.placements.specs.Plans.{best_plan_q}
-use Rattle.placements.proofs.Repeated.{all-repeated}
 use Rattle.placements.proofs.Named.{named-repeated}
-use Rattle.placements.proofs.Good.{good_placements}
-use Rattle.table.specs.Cells.{Runs}
 use Rattle.ranks.specs.Runs.{FullRuns}
 
 module _ {m : ℕ} {qs sets : List ℕ} (f : FullRuns m qs sets) where
-  -- placements of unbroken runs are unbroken runs
-  pub placed_runs : Runs m (repeated qs sets)
-  placed_runs = record { good = good_placements f.good; runs = all-repeated qs f.runs }
-
   -- the plan by the placements, where any tip may be chosen, is the best plan: the placements name each tip too
   pub plan_placed : (mounted : Mounted) → plan_for mounted any m (repeated qs sets) sets ≡ best_plan_q mounted m qs sets
   unfolding best_plan_q

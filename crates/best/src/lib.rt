@@ -140,7 +140,9 @@ pub fn plan_lines(
     plan: &mut [u8],
     table: &mut [u32],
 ) -> u32
-    requires { NamedRuns m quantities.now sets.old × (length plan.old ≡ length sets.old) × (length table.old ≡ m * m) }
+    requires runs { NamedRuns m quantities.now sets.old }
+    requires lines { length plan.old ≡ length sets.old }
+    requires cells { length table.old ≡ m * m }
     ensures answer { result ≡ C (repeated quantities.now sets.old) 0 m }
     ensures plan { plan.new ≡ best_plan_q (on_head mounted) m quantities.now sets.old }
     ensures table { table.new ≡ table_of m (repeated quantities.now sets.old) }

@@ -8,15 +8,15 @@ use Rattle.placements.specs.Good.{GoodLines}
 use Rattle.refusal.specs.Told.{Refusal}
 use Rattle.refusal.proofs.Laws.{lent_refused, lent_front}
 use Rattle.call_refusals.specs.declared.Stage.TheVariants.{Closed}
-use Rattle.goals.specs.Goal.{strike}
+use Rattle.goal_rules.specs.Goal.{strike}
 use Rattle.line_calls.specs.Goal as Lines
 use Rattle.line_calls.proofs.PairGoal as laws
 use Rattle.board.specs.declared.Board.{Board}
 use Rattle.board.specs.Answers.{Answer}
-use Rattle.board.specs.Board.{lines_of, quantities_of, state_refusal, answer}
+use Rattle.board.specs.Board.{lines_of, quantities_of, state_refusal, answer, with_sets}
 use Rattle.board.specs.Goal.{struck_board, goal_of, GoalRule}
 use Rattle.board.proofs.Sets.{Full, ready, lines-count}
-use Rattle.board.proofs.Replaced.{with_sets, replaced-refused, replaced-lines, replaced_full, replaced-sound}
+use Rattle.board.proofs.Replaced.{replaced-refused, replaced-lines, replaced_full, replaced-sound}
 
 module _ (b : Board) (K : ℕ) (full : Full b) where
   abbrev state : Refusal

@@ -21,10 +21,10 @@ use Rattle.line_calls.specs.Rules.{NoneWithin}
 use Rattle.line_calls.proofs.KeepWithin.{keep_exact, keep-refuses, keep_good}
 use Rattle.board.specs.declared.Board.{Board}
 use Rattle.board.specs.Answers.{Kept}
-use Rattle.board.specs.Board.{lines_of, quantities_of, sound, state_refusal}
+use Rattle.board.specs.Board.{lines_of, quantities_of, sound, state_refusal, with_sets}
 use Rattle.board.specs.Common.{kept_board, keep_of, KeepRule}
 use Rattle.board.proofs.Sets.{Full, ready, state-free, lines-count}
-use Rattle.board.proofs.Replaced.{with_sets, replaced-refused, replaced-lines, replaced_full, replaced-sound}
+use Rattle.board.proofs.Replaced.{replaced-refused, replaced-lines, replaced_full, replaced-sound}
 
 module _ (b : Board) (k : ℕ) (full : Full b) where
   abbrev state : Refusal

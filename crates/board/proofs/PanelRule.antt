@@ -8,13 +8,13 @@ use lib.ListN.{length, drop, length-append}
 use borrow.Author.Tests.{eqb-true, eqb-false}
 use Rattle.model.specs.Limits.{most_lines}
 use Rattle.refusal.specs.Told.{Refusal}
-use Rattle.refusal.specs.Refusal.{none, accepts, Given}
+use Rattle.refusal.specs.Refusal.{none, accepts, Given, or_else}
 use Rattle.refusal.proofs.Laws.{number_of, or_none, refused, accepted, by_number, later}
 use Rattle.sound.proofs.Laws.{sound_iff}
 use Rattle.call_refusals.specs.declared.Stage.TheVariants.{Closed}
 use Rattle.panel.specs.Answers.{AloneAnswer}
 use Rattle.panel.specs.Panel
-use Rattle.panel.specs.Panel.{first_of, merged_by}
+use Rattle.panel.specs.Panel.{merged_by}
 use Rattle.panel.specs.Rules.{PanelRule}
 use Rattle.panel.proofs.Merged.{known, merged-rule}
 use Rattle.board.specs.declared.Board.{Board}
@@ -27,9 +27,9 @@ use Rattle.board.proofs.JobFileRule.{front, rest, filled}
 
 module _ (a b : Board) (full : Full a) (other : Full b) where
   module _ {first second state : Refusal} (e : first ≡ state_refusal Closed a) (f : second ≡ state_refusal Closed b)
-      (g : state ≡ first_of first second) where
+      (g : state ≡ or_else first second) where
     states : state ≡ states_refusal a b
-    states = g ∙ ap₂ first_of e f
+    states = g ∙ ap₂ or_else e f
 
     -- the lines of both are given where neither state refuses
     pub given-first : Given state a.rack a.count a.quantities a.sets

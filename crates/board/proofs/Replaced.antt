@@ -13,14 +13,10 @@ use Rattle.refusal.proofs.Laws.{lent_refused, accepted}
 use Rattle.sound.proofs.Laws.{sound_iff}
 use Rattle.call_refusals.specs.declared.Stage.TheVariants.{Closed}
 use Rattle.board.specs.declared.Board.{Board}
-use Rattle.board.specs.Board.{lines_of, quantities_of, sound, state_refusal}
+use Rattle.board.specs.Board.{lines_of, quantities_of, sound, state_refusal, with_sets}
 use Rattle.board.proofs.Sets.{Full, ReadyBoard, same_size, ready, lines-count}
 
--- the board with other sets
-abbrev pub with_sets : Board → List ℕ → Board
-with_sets b sets = record { rack = b.rack; stage = b.stage; count = b.count; sets = sets; quantities = b.quantities }
-
--- and with other lines, where nothing is refused
+-- the board with other lines, where nothing is refused
 abbrev pub replaced : Board → Refusal → List ℕ → Board
 replaced b d lines = with_sets b (lent_by d (length (lines_of b)) lines b.sets)
 

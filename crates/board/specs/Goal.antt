@@ -5,18 +5,11 @@ use Rattle.call_refusals.specs.declared.Stage.TheVariants.{Closed}
 use Rattle.line_calls.specs.Goal as Lines
 use Rattle.board.specs.declared.Board.{Board}
 use Rattle.board.specs.Answers.{Answer}
-use Rattle.board.specs.Board.{lines_of, quantities_of, sound, state_refusal, answer}
+use Rattle.board.specs.Board.{lines_of, quantities_of, sound, state_refusal, answer, with_sets}
 
 -- the board with its lines struck; a refused goal leaves the board as it was
 abbrev pub struck_board : Board → ℕ → Board
-struck_board b K =
-    record {
-      rack = b.rack;
-      stage = b.stage;
-      count = b.count;
-      sets = Lines.struck_sets (state_refusal Closed b) b.rack (quantities_of b) (lines_of b) K b.sets;
-      quantities = b.quantities;
-    }
+struck_board b K = with_sets b (Lines.struck_sets (state_refusal Closed b) b.rack (quantities_of b) (lines_of b) K b.sets)
 
 -- a goal of K pairs: 21, 27, 28, 23, then 25 at the first line that is no run, then 34
 unfoldable pub goal_of : Board → ℕ → Answer

@@ -1,10 +1,9 @@
 -- What merging two boards into one panel and planning each alone answer, what is left in the lent buffer, and what the answers mean.
 use Rattle.std.specs.Prelude.{ℕ, ◌+◌, ◌≡◌, cond, List, ◌++◌, T, drop}
 use Rattle.refusal.specs.Told.{Refusal}
-use Rattle.refusal.specs.Refusal.{none, accepts}
+use Rattle.refusal.specs.Refusal.{none, accepts, or_else}
 use Rattle.call_refusals.specs.declared.Stage.TheVariants.{Closed}
 use Rattle.panel.specs.Panel
-use Rattle.panel.specs.Panel.{first_of}
 use Rattle.panel.specs.Rules
 use Rattle.panel.specs.Rules.{PanelRule}
 use Rattle.board.specs.declared.Board.{Board}
@@ -14,7 +13,7 @@ use Rattle.board.specs.Board.{lines_of, quantities_of, sound, state_refusal, no_
 
 -- the refusals because of the boards' states: those of the first, then those of the second
 abbrev pub states_refusal : Board → Board → Refusal
-states_refusal a b = first_of (state_refusal Closed a) (state_refusal Closed b)
+states_refusal a b = or_else (state_refusal Closed a) (state_refusal Closed b)
 
 -- then racks that differ, too many lines together, and too many placements together
 abbrev pub merge_refusal : Board → Board → Refusal

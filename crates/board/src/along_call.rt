@@ -21,7 +21,6 @@ impl Board {
         ensures few { (along_answered self.now result).pairs ≤ most_pairs }
     {
         let lines = self.lines()?;
-        call_refusals::mounted_refusal(self.rack, mounted)?;
         line_calls::along(lines, mounted, plan)
     }
 }

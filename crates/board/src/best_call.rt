@@ -31,7 +31,6 @@ impl Board {
         ensures checked { CheckAccepts self.now plan.new table.new (shared_answered self.now result) }
     {
         let lines = self.lines()?;
-        call_refusals::mounted_refusal(self.rack, mounted)?;
         line_calls::best(lines, mounted, plan, table)
     }
 }

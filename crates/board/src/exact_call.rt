@@ -28,7 +28,6 @@ impl Board {
         ensures few { (exact_answered self.now result).pairs ≤ most_pairs }
     {
         let lines = self.lines()?;
-        call_refusals::mounted_refusal(self.rack, mounted)?;
         line_calls::exact(lines, mounted, price, plan, table)
     }
 }

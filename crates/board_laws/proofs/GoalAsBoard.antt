@@ -8,10 +8,11 @@ use lib.Dec.{ltb}
 use lib.ListN.{length}
 use Rattle.model.specs.Interval.{C}
 use Rattle.placements.specs.Repeated.{repeated}
+use Rattle.file_calls.specs.Calls.{file_outcome}
 use Rattle.refusal.specs.Told.{Refusal}
 use Rattle.refusal.specs.Refusal.{none, when}
 use Rattle.refusal.proofs.Laws.{or_next, or_none}
-use Rattle.goals.specs.Goal.{strike}
+use Rattle.goal_rules.specs.Goal.{strike}
 use Rattle.striking.specs.Striking.{goal_refusal}
 use Rattle.call_refusals.specs.declared.Stage.TheVariants.{Closed}
 use Rattle.line_calls.specs.Lines
@@ -25,7 +26,7 @@ use Rattle.board.specs.JobFile.{read_of, write_of, write_buffer}
 use Rattle.board.proofs.Sets.{state-free}
 use Rattle.board.proofs.GoalRule.{struck-lines, struck_full, goal-rule}
 use Rattle.file_calls.specs.Outcomes.{Outcome}
-use Rattle.file_calls.specs.Goal.{file_outcome, goal_in, goal_file_in}
+use Rattle.file_calls.specs.Goal.{goal_in, goal_file_in}
 use Rattle.board_laws.proofs.AsBoard.{of_answer, on_board, full}
 
 abbrev pub of_file : Written → Outcome

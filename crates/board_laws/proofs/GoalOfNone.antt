@@ -9,16 +9,15 @@ use Rattle.placements.specs.Repeated.{repeated}
 use Rattle.refusal.specs.Refusal.{none}
 use Rattle.refusal.proofs.Laws.{or_next}
 use Rattle.call_refusals.specs.declared.Stage.TheVariants.{Closed}
-use Rattle.goals.specs.Goal.{strike}
-use Rattle.goals.proofs.Strike.{goal_of_none}
+use Rattle.goal_rules.specs.Goal.{strike}
+use Rattle.goal_rules.proofs.Strike.{goal_of_none}
 use Rattle.striking.specs.Striking.{goal_refusal}
 use Rattle.line_calls.specs.Goal as Lines
 use Rattle.line_calls.proofs.PairGoal.{asked-none}
 use Rattle.board.specs.declared.Board.{Board}
-use Rattle.board.specs.Board.{lines_of, quantities_of, state_refusal, answer}
+use Rattle.board.specs.Board.{lines_of, quantities_of, state_refusal, answer, with_sets}
 use Rattle.board.specs.Goal.{goal_of, asked_before}
 use Rattle.board.proofs.Sets.{Full, ReadyBoard, ready, lines-count}
-use Rattle.board.proofs.Replaced.{with_sets}
 
 module _ (b : Board) (full : Full b) (z : (asked_before b).number ≡ 0) where
   was : ReadyBoard Closed b

@@ -3,14 +3,14 @@ use Prim.Native.Nat.{ℕ}
 use mathlib.Core.Path.{◌≡◌, refl, sym, ap, ap₂, ◌∙◌}
 use mathlib.Core.List.{List, ◌++◌}
 use lib.ListN.{length}
+use Rattle.file_calls.specs.Calls.{file_outcome}
 use Rattle.refusal.specs.Told.{Refusal}
-use Rattle.refusal.specs.Refusal.{none}
+use Rattle.refusal.specs.Refusal.{none, or_else}
 use Rattle.refusal.proofs.Laws.{refused, accepted}
 use Rattle.call_refusals.specs.declared.Stage.TheVariants.{Closed}
 use Rattle.line_calls.specs.Lines
 use Rattle.line_calls.proofs.JobFile.{write_stopped}
 use Rattle.panel.specs.Panel
-use Rattle.panel.specs.Panel.{first_of}
 use Rattle.panel.proofs.Merged.{merge_whole}
 use Rattle.board.specs.declared.Board.{Board}
 use Rattle.board.specs.Answers.{Alone}
@@ -23,7 +23,7 @@ use Rattle.board.proofs.Sets.{Full}
 use Rattle.board.proofs.PanelRule.{merge_rule, merge_free, panel-state}
 use Rattle.job.specs.Job.{rack_in, sets_in, quantities_in, read_refusal}
 use Rattle.file_calls.specs.Outcomes.{Outcome}
-use Rattle.file_calls.specs.Panel.{file_outcome, merge_of_files, merge_file_in, alone_outcome, alone_in, alone_plan_in}
+use Rattle.file_calls.specs.Panel.{merge_of_files, merge_file_in, alone_outcome, alone_in, alone_plan_in}
 use Rattle.board_laws.proofs.AsBoard.{on_board, full as full-of}
 
 abbrev pub of_alone : Alone → Outcome
@@ -40,12 +40,12 @@ of_merged r = record { refusal = record { number = r.number; place = r.place }; 
 module _ (first second : List ℕ) (a b : Board) (given : read_of first ≡ answer a none) (second-given : read_of second ≡ answer b none) where
   -- what is asked of the files is what is asked of the boards
   on_boards : {A : Type 0} (f : Refusal → ℕ → List ℕ → List ℕ → ℕ → List ℕ → List ℕ → A)
-      → f (first_of (read_refusal first) (read_refusal second)) (rack_in first) (quantities_in first) (sets_in first)
+      → f (or_else (read_refusal first) (read_refusal second)) (rack_in first) (quantities_in first) (sets_in first)
       (rack_in second) (quantities_in second) (sets_in second)
-      ≡ f (first_of (state_refusal Closed a) (state_refusal Closed b)) a.rack (quantities_of a) (lines_of a) b.rack (quantities_of b) (lines_of b)
+      ≡ f (or_else (state_refusal Closed a) (state_refusal Closed b)) a.rack (quantities_of a) (lines_of a) b.rack (quantities_of b) (lines_of b)
   on_boards f =
-      on_board first a given (λ r m q l. f (first_of r (read_refusal second)) m q l (rack_in second) (quantities_in second) (sets_in second))
-      ∙ on_board second b second-given (λ r m q l. f (first_of (state_refusal Closed a) r) a.rack (quantities_of a) (lines_of a) m q l)
+      on_board first a given (λ r m q l. f (or_else r (read_refusal second)) m q l (rack_in second) (quantities_in second) (sets_in second))
+      ∙ on_board second b second-given (λ r m q l. f (or_else (state_refusal Closed a) r) a.rack (quantities_of a) (lines_of a) m q l)
 
   pub alone_as_board : (room : ℕ) → alone_in first second room ≡ of_alone (alone_of a b room)
   unfolding alone_in alone_of

@@ -15,9 +15,9 @@ use Rattle.model.specs.CommonTip.{margin}
 use Rattle.model.specs.Interval.{named, is_run_of, C}
 use Rattle.placements.specs.Repeated.{repeated}
 use Rattle.placements.specs.Good.{GoodLines}
-use Rattle.goals.specs.Check.{is_valid}
-use Rattle.goals.proofs.Strike.{missed_iff}
-use Rattle.holders.specs.Holders.{is_served}
+use Rattle.goal_rules.specs.Check.{is_valid}
+use Rattle.goal_rules.proofs.Strike.{missed_iff}
+use Rattle.holder_rules.specs.Holders.{is_served}
 use Rattle.job.specs.Job.{file_length, line_number, version_for}
 use Rattle.refusal.specs.Told.{Refusal}
 use Rattle.refusal.specs.Refusal.{none, refuse, or_else, when}
@@ -34,8 +34,8 @@ use Rattle.call_refusals.specs.Junior.{junior_lines, junior_tips}
 use Rattle.call_refusals.proofs.Calls.{best_none}
 use Rattle.checking.specs.Checking.{claim_refusal, table_ok, check_refusal}
 use Rattle.striking.specs.Striking.{goal_refusal}
-use Rattle.subsets.specs.Exact.{most_named}
-use Rattle.subsets.specs.Table.{table_places}
+use Rattle.subset_rules.specs.Exact.{most_named}
+use Rattle.subset_rules.specs.Table.{table_places}
 use Rattle.line_calls.specs.Lines.{check_of}
 use Rattle.line_calls.specs.Exact.{count_named, exact_refusal}
 use Rattle.line_calls.specs.Goal.{goal_asked, goal_of}

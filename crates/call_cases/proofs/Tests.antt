@@ -25,10 +25,10 @@ use Rattle.placements.specs.Totals.{first_over}
 use Rattle.placements.specs.Good.{GoodLines}
 use Rattle.placements.proofs.Totals.{before-over, total-take_le}
 use Rattle.placements.proofs.CommonTip.{within_iff_placements}
-use Rattle.goals.specs.Check.{is_valid, entry, at_tip, bounds}
-use Rattle.goals.proofs.Check.{bounds_iff}
-use Rattle.holders.specs.Holders.{is_served, NoneOnTips}
-use Rattle.holders.proofs.Junior.{unserved}
+use Rattle.goal_rules.specs.Check.{is_valid, entry, at_tip, bounds}
+use Rattle.goal_rules.proofs.Check.{bounds_iff}
+use Rattle.holder_rules.specs.Holders.{is_served, NoneOnTips}
+use Rattle.holder_rules.proofs.Junior.{unserved}
 use Rattle.sound.proofs.Laws as Sound
 use Rattle.call_refusals.specs.Calls.{is_negative, is_outside}
 use Rattle.checking.specs.Checking.{table_ok}

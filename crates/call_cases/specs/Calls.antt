@@ -8,13 +8,13 @@ use Rattle.placements.specs.Repeated.{repeated}
 use Rattle.refusal.specs.declared.Reason.TheVariants.{RackSize, ShortPlan, ShortTable, ShortOutput}
 use Rattle.refusal.specs.declared.Reason.TheVariants.{MountedOutside, RacksDiffer, ForeignTip, WrongClaim, TooManyLines, NoRun, NoPlan}
 use Rattle.refusal.specs.declared.Reason.TheVariants.{TooManyPlacements, NoTwoTips, WrongTable, GoalMissed, TooManyNamed}
-use Rattle.goals.specs.Check.{entry}
-use Rattle.holders.specs.Holders.{NoneOnTips}
+use Rattle.goal_rules.specs.Check.{entry}
+use Rattle.holder_rules.specs.Holders.{NoneOnTips}
 use Rattle.job.specs.Job.{file_length, version_for}
 use Rattle.cases.specs.Cases.{Case, plain, placed}
 use Rattle.call_refusals.specs.Junior.{junior_lines, junior_tips}
-use Rattle.subsets.specs.Exact.{most_named}
-use Rattle.subsets.specs.Table.{table_places}
+use Rattle.subset_rules.specs.Exact.{most_named}
+use Rattle.subset_rules.specs.Table.{table_places}
 use Rattle.line_calls.specs.Rules.{NoneWithin}
 use Rattle.line_calls.specs.Exact.{count_named}
 use Rattle.line_calls.specs.Goal.{NoneMeets}

@@ -1,6 +1,6 @@
 -- What the loops find is what the definitions say: the bounds of the table by the sums of the placements.
 use Rattle.std.proofs.Common.{◌≡◌, ℕ, zero, suc, ◌+◌, ◌-◌, ◌*◌, ◌<◌, ◌≤◌, Bool, true, false, not, ◌&&◌}
-use Rattle.std.proofs.Common.{◌||◌, T, eqb, List, length, get_or, ap, ◌∙◌, mul-le-mul_right, add-one, arith, le→leb, eqb→eq, leb→le}
+use Rattle.std.proofs.Common.{◌||◌, T, eqb, List, length, ap, ◌∙◌, add-one, arith, le→leb, eqb→eq, leb→le}
 use Rattle.std.proofs.Common.{refl, sym}
 use Rattle.std.specs.List.{list_all, range_with_len}
 use lib.Dec.{not_T}
@@ -10,17 +10,21 @@ use Rattle.model.specs.Plan.{has, choose2}
 use Rattle.model.specs.Interval.{Line, named, Dominates, inside}
 use Rattle.model.proofs.Tests.{false_T, every_iff, imply_in, imply_out, same_test, and_left, and_right, and_in, eqb_T}
 use Rattle.model.proofs.Cong.{every_cong}
+use Rattle.model.specs.Renumber.{names as names_of}
 use Rattle.model.proofs.Names.{names-named}
 use Rattle.model.proofs.Run.{named-lines}
 use Rattle.placements.specs.Repeated.{repeated}
 use Rattle.placements.proofs.Repeated.{all-repeated}
 use Rattle.placements.proofs.Good.{good_placements}
-use Rattle.spans.specs.Spans.{sums, inside_by}
-use Rattle.spans.proofs.Below.{below_le, below_mono, sums_at, summed}
-use Rattle.goals.specs.Check.{entry, bounds}
-use Rattle.goals.proofs.Check.{bounds_iff}
-use Rattle.checking.specs.Checking.{split_by, end_by, ends_by, tip_by, bounds_by, Ready, NamedRuns}
-use Rattle.checking.proofs.Filled.{inside_by_ok}
+use Rattle.spans.specs.Spans.{sums}
+use Rattle.spans.proofs.Read.{ready}
+use Rattle.spans.proofs.Filled.{inside_by_ok}
+use Rattle.goal_rules.specs.Check.{entry, bounds}
+use Rattle.goal_rules.proofs.Check.{bounds_iff}
+use Rattle.intervals.specs.Splits.{split_by}
+use Rattle.intervals.proofs.Read.{split_tips}
+use Rattle.ranks.specs.Runs.{NamedRuns}
+use Rattle.checking.specs.Checking.{end_by, ends_by, tip_by, bounds_by, Held}
 
 -- the test of one number more
 pub every_more : (f : ℕ → Bool) (n : ℕ) → every f n ≡ true → f n ≡ true → every f (n + 1) ≡ true
@@ -75,33 +79,7 @@ every_next f n k r h g = none ∙ rw (h, g, add-one)
 pub every_stop : (f : ℕ → Bool) (n i : ℕ) → i < n → f i ≡ false → every f n ≡ false
 every_stop f n i l e = false_T (every f n) (not_T (every f n) (λ t. rw e at ((every_iff f n).0 t i l)))
 
--- the place of an interval with a tip is in the table
-pub place_lt : (m a w : ℕ) → 0 < w → a + w ≤ m → a * m + (a + (w - 1)) < m * m
-place_lt m a w some ends =
-    let g : suc a ≤ m = omega arith in
-    omega (arith, mul-le-mul_right m g)
-
--- and its entry is there
-pub entry_some : (m : ℕ) (tab : List ℕ) (a w : ℕ) → 0 < w → entry m tab a w ≡ get_or tab (a * m + (a + (w - 1))) 0
-unfolding entry
-entry_some m tab a zero h = absurd (omega arith)
-entry_some m tab a (suc w) h =
-    let e : w ≡ suc w - 1 = omega arith in
-    ap (λ k. get_or tab (a * m + (a + k)) 0) e
-
--- no count by the sums is above the number of lines
-pub inside_le : (m : ℕ) (lines : List ℕ) (a w c : ℕ) → a + w ≤ m → a ≤ c → c < a + w → inside_by m (sums m lines) a w c ≤ length lines
-unfolding inside_by
-inside_le m lines a w c e f g = omega (
-  arith,
-  sums_at m lines (c + 1) (a + w) (omega arith) (omega arith),
-  sums_at m lines a c (omega arith) (omega arith),
-  sums_at m lines a (a + w) (omega arith) (omega arith),
-  below_mono lines a c (a + w) (omega arith),
-  below_le lines (c + 1) (a + w),
-)
-
-module _ {names m : ℕ} {qs lines : List ℕ} (r : NamedRuns names m qs lines) where
+module _ {m : ℕ} {qs lines : List ℕ} (r : NamedRuns m qs lines) {names : ℕ} (all : names ≡ names_of lines) where
   -- the placements
   abbrev placed : List ℕ
   placed = repeated qs lines
@@ -110,30 +88,27 @@ module _ {names m : ℕ} {qs lines : List ℕ} (r : NamedRuns names m qs lines) 
   few = (good_placements r.good).few
 
   has_named : has names ≡ named lines
-  has_named = ap has r.named.all ∙ names-named lines
+  has_named = ap has all ∙ names-named lines
 
   -- the lines are runs of the named tips, and so are the placements
   pub named_runs : All (Line (has names) m) lines
-  named_runs = rw has_named (named-lines r.good.most r.good.domains r.named.runs)
+  named_runs = rw has_named (named-lines r.good.most r.good.domains r.runs)
 
   placed-lines : All (Line (named lines) m) placed
   placed-lines = all-repeated qs (rw has_named at named_runs)
 
   -- the sums of the placements can be read
-  pub ready : (tab : List ℕ) → m * m ≤ length tab → Ready m (sums m placed) tab
-  ready tab h = record {
-    rack = r.good.most;
-    size = h;
-    summed = λ a w c e f g. summed m placed a w c e f g few;
-    few = λ a w c e f g. omega (arith, few, inside_le m placed a w c e f g);
-  }
+  pub held : (tab : List ℕ) → m * m ≤ length tab → Held m (sums m placed) tab
+  held tab h = record { size = h; sums = ready m 0 placed r.good.most (omega (arith, few)) refl }
 
   module _ (tab : List ℕ) where
     -- the split at a named tip
     split_same : (a c b : ℕ) → a ≤ c → c ≤ b → b < m → T (named lines c)
-        → split_by m (sums m placed) tab a c b
+        → split_by m (sums m placed) tab 0 a (b + 1 - a) (c - a)
         ≡ choose2 (inside placed a (b + 1 - a) c) + (entry m tab a (c - a) + entry m tab (c + 1) (b - c))
-    split_same a c b f g e t = ap (λ p. choose2 p + (entry m tab a (c - a) + entry m tab (c + 1) (b - c)))
+    split_same a c b f g e t =
+        split_tips m (sums m placed) tab a c b f g
+        ∙ ap (λ p. choose2 p + (entry m tab a (c - a) + entry m tab (c + 1) (b - c)))
         (inside_by_ok placed r.good.most placed-lines a (b + 1 - a) c (omega arith) f (omega arith) t)
 
     -- every split at a named tip is at most its entry where the test passes
@@ -151,7 +126,7 @@ module _ {names m : ℕ} {qs lines : List ℕ} (r : NamedRuns names m qs lines) 
         let ei : c - a ≡ i = omega arith in
         let ej : b - c ≡ w - (i + 1) = omega arith in
         let t : T (end_by m (sums m placed) tab a c b) = rw eb at v in
-        let s = leb→le (split_by m (sums m placed) tab a c b) (entry m tab a (b + 1 - a)) t in
+        let s = leb→le (split_by m (sums m placed) tab 0 a (b + 1 - a) (c - a)) (entry m tab a (b + 1 - a)) t in
         rw (ew, ei, ej) at (rw (split_same a c b (omega arith) (omega arith) (omega arith) o) at s)
 
     bounds_in : Dominates (named lines) m placed (entry m tab) → T (bounds_by names m (sums m placed) tab)
@@ -166,7 +141,8 @@ module _ {names m : ℕ} {qs lines : List ℕ} (r : NamedRuns names m qs lines) 
         let w = b + 1 - a in
         let ec : a + i ≡ c = omega arith in
         let ej : w - (i + 1) ≡ b - c = omega arith in
-        le→leb (split_by m (sums m placed) tab a c b) (entry m tab a (b + 1 - a)) (rw (split_same a c b (omega arith) (omega arith) (omega arith) n)
+        le→leb (split_by m (sums m placed) tab 0 a (b + 1 - a) (c - a)) (entry m tab a (b + 1 - a))
+        (rw (split_same a c b (omega arith) (omega arith) (omega arith) n)
         (rw (ec, ej) at (d a w i (omega arith) (omega arith) (rw ec n))))))))
 
     -- THE BOUNDS by the sums are those of the definition

@@ -4,7 +4,7 @@ use Rattle.std.proofs.Common.{length, get_or, drop, ◌∙◌, add-one, arith, d
 use Rattle.model.specs.Plan.{has, pairs}
 use Rattle.placements.specs.Repeated.{repeated}
 use Rattle.refusal.specs.Refusal.{refuse, or_else, when}
-use Rattle.goals.specs.Check.{is_valid}
+use Rattle.goal_rules.specs.Check.{is_valid}
 use Rattle.checking.specs.Checking.{claim_refusal}
 
 -- the lines before i are on tips of their own

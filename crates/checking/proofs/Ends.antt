@@ -7,15 +7,17 @@ use Rattle.model.specs.Plan.{choose2}
 use Rattle.model.proofs.Loops.{part, part_length, part_at}
 use Rattle.model.proofs.Cong.{every_cong}
 use Rattle.spans.specs.Spans.{sum_at, inside_by}
-use Rattle.goals.specs.Check.{entry}
-use Rattle.checking.specs.Checking.{end_by, ends_by, ends_at, EndLists, Ready}
-use Rattle.checking.proofs.Bounds.{every_stop, every_first, entry_some}
+use Rattle.goal_rules.specs.Check.{entry}
+use Rattle.intervals.proofs.Read.{split_tips}
+use Rattle.checking.specs.Checking.{end_by, ends_by, ends_at, EndLists, Held}
+use Rattle.intervals.proofs.Entry.{entry_some}
+use Rattle.checking.proofs.Bounds.{every_stop, every_first}
 
 -- a difference that may be below zero, added
 shifted : (n s o h : ℕ) → (s + o) % 2 ^ 32 ≡ h → s < 2 ^ 32 → o ≤ n + h → n + h ≤ 4096 → (n + s) % 2 ^ 32 ≡ n + h - o
 shifted n s o h e l g k = omega arith
 
-module _ {m : ℕ} {xs tab : List ℕ} (r : Ready m xs tab) (a c : ℕ) (from : a ≤ c) (inside-rack : c < m) where
+module _ {m : ℕ} {xs tab : List ℕ} (r : Held m xs tab) (a c : ℕ) (from : a ≤ c) (inside-rack : c < m) where
   abbrev fits : ℕ → Bool
   fits j = end_by m xs tab a c (c + j)
 
@@ -27,7 +29,7 @@ module _ {m : ℕ} {xs tab : List ℕ} (r : Ready m xs tab) (a c : ℕ) (from : 
     first_end =
         let z : c + 0 ≡ c = omega arith in
         let n : c - c ≡ 0 = omega arith in
-        rw (z, n, add-zero, own, left, most)
+        rw (z, split_tips m xs tab a c c from (omega arith), n, add-zero, own, left, most)
 
     pub first_fits : x + y ≤ e → fits 0 ≡ true
     first_fits h = first_end ∙ le-leb (x + y) e h
@@ -53,7 +55,7 @@ module _ {m : ℕ} {xs tab : List ℕ} (r : Ready m xs tab) (a c : ℕ) (from : 
 
     pub rows : Rows
     rows =
-        let size = (r.summed a (c + 1 - a) c (omega arith) from (omega arith)).size in
+        let size = (r.sums.summed a (c + 1 - a) c (omega arith) from (omega arith)).size in
         let f : suc a ≤ m + 1 = omega arith in
         let n : suc (c + 1) ≤ m + 1 = omega arith in
         let g : suc a ≤ m = omega arith in
@@ -110,7 +112,7 @@ module _ {m : ℕ} {xs tab : List ℕ} (r : Ready m xs tab) (a c : ℕ) (from : 
       unfolding inside_by
       numbers j h =
           let w = c + suc j + 1 - a in
-          let s = r.summed a w c (omega arith) from (omega arith) in
+          let s = r.sums.summed a w c (omega arith) from (omega arith) in
           let n : get_or nexts j 0 ≡ sum_at m xs (c + 1) (a + w)
           = end_at (c + 1) j rows.next_sums (omega arith) ∙ ap (sum_at m xs (c + 1)) (omega arith) in
           let f : get_or firsts j 0 ≡ sum_at m xs a (a + w) = end_at a j rows.first-sums (omega arith) ∙ ap (sum_at m xs a) (omega arith) in
@@ -133,7 +135,7 @@ module _ {m : ℕ} {xs tab : List ℕ} (r : Ready m xs tab) (a c : ℕ) (from : 
           covers = λ j h. (numbers j (omega (arith, mosts-length))).covers;
           few = λ j h.
               let k : j < m - (c + 1) = omega (arith, mosts-length) in
-              omega (arith, (numbers j k).own, r.few a (c + suc j + 1 - a) c (omega arith) from (omega arith));
+              omega (arith, (numbers j k).own, r.sums.few a (c + suc j + 1 - a) c (omega arith) from (omega arith));
         }
 
         -- THE LISTS say what the definition says of the other ends
@@ -141,4 +143,4 @@ module _ {m : ℕ} {xs tab : List ℕ} (r : Ready m xs tab) (a c : ℕ) (from : 
         unfolding ends_at
         ends_same = rw mosts-length (every_cong _ _ (m - (c + 1)) (λ j h.
             let n = numbers j h in
-            rw (n.own, n.right, n.most, is_left)))
+            rw (n.own, n.right, n.most, is_left, split_tips m xs tab a c (c + suc j) from (omega arith))))

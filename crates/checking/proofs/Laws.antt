@@ -10,8 +10,8 @@ use Rattle.placements.specs.Good.{GoodLines}
 use Rattle.placements.specs.Plans.{best_plan_q}
 use Rattle.refusal.specs.Refusal.{none, or_else, when}
 use Rattle.refusal.proofs.Laws.{or_none, when-none}
-use Rattle.goals.specs.Check.{is_valid, entry, bounds, Accepted}
-use Rattle.goals.proofs.Check.{valid_iff, bounds_iff, accepted_best, own_accepted}
+use Rattle.goal_rules.specs.Check.{is_valid, entry, bounds, Accepted}
+use Rattle.goal_rules.proofs.Check.{valid_iff, bounds_iff, accepted_best, own_accepted}
 use Rattle.checking.specs.Checking.{claim_refusal, table_ok, check_refusal}
 
 -- the number is not given only where the test passes

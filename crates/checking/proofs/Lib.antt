@@ -1,4 +1,3 @@
-pub mod Filled
 pub mod Claim
 pub mod Bounds
 pub mod Ends

@@ -1,16 +1,15 @@
 -- A plan, a claim and a table from other software: what is refused, and how the sums of the placements tell it.
-use Rattle.std.specs.Prelude.{◌≡◌, ℕ, ◌+◌, ◌-◌, ◌*◌, ◌%◌, ◌^◌, ◌<◌, ◌≤◌, Bool, not, ◌&&◌, ◌||◌, T, leb, List, length, ◌==◌, nat_le, slice_index}
-use Rattle.model.specs.Limits.{most_tips, most_placements}
-use Rattle.model.specs.Count.{All, every}
+use Rattle.std.specs.Prelude.{◌≡◌, ℕ, ◌+◌, ◌-◌, ◌*◌, ◌%◌, ◌^◌, ◌<◌, ◌≤◌, Bool, not, ◌&&◌, ◌||◌, leb, List, length, ◌==◌, nat_le, slice_index}
+use Rattle.model.specs.Limits.{most_placements}
+use Rattle.model.specs.Count.{every}
 use Rattle.model.specs.Plan.{has, pairs, choose2}
-use Rattle.model.specs.Interval.{named, is_run_of}
-use Rattle.model.specs.Renumber.{names as names_of}
+use Rattle.model.specs.Interval.{named}
 use Rattle.placements.specs.Repeated.{repeated}
-use Rattle.placements.specs.Good.{GoodLines}
 use Rattle.refusal.specs.Told.{Refusal}
 use Rattle.refusal.specs.Refusal.{or_else, when}
-use Rattle.spans.specs.Spans.{inside_by, Summed}
-use Rattle.goals.specs.Check.{is_valid, entry, bounds}
+use Rattle.spans.specs.Spans.{Ready}
+use Rattle.goal_rules.specs.Check.{is_valid, entry, bounds}
+use Rattle.intervals.specs.Splits.{split_by}
 
 -- a line on a foreign tip, then a claim that is not the plan's count
 unfoldable pub claim_refusal : List ℕ → List ℕ → List ℕ → ℕ → Refusal
@@ -26,23 +25,9 @@ check_refusal m qs sets plan claim tab = or_else (claim_refusal qs sets plan cla
 
 -- ---- for proofs and leaf contracts: no call's contract speaks of these
 
--- each line is a run of the tips that they name; names is the set of these
-pub record Named (names : ℕ) (lines : List ℕ) : Type 0 where
-  pub runs : All (λ s. T (is_run_of (named lines) s)) lines
-  pub all : names ≡ names_of lines
-
--- and they are good lines
-pub record NamedRuns (names m : ℕ) (qs lines : List ℕ) : Type 0 where
-  pub good : GoodLines m qs lines
-  pub named : Named names lines
-
--- the pairs of the interval from tip a to tip b if tip c takes its lines, from the sums xs and the table
-abbrev pub split_by : ℕ → List ℕ → List ℕ → ℕ → ℕ → ℕ → ℕ
-split_by m xs tab a c b = choose2 (inside_by m xs a (b + 1 - a) c) + (entry m tab a (c - a) + entry m tab (c + 1) (b - c))
-
--- it is at most the entry of the interval
+-- the split at tip c of the interval from tip a to tip b, by the sums xs and the table, is at most the entry of the interval
 abbrev pub end_by : ℕ → List ℕ → List ℕ → ℕ → ℕ → ℕ → Bool
-end_by m xs tab a c b = nat_le (split_by m xs tab a c b) (entry m tab a (b + 1 - a))
+end_by m xs tab a c b = nat_le (split_by m xs tab 0 a (b + 1 - a) (c - a)) (entry m tab a (b + 1 - a))
 
 -- and so at each last tip, from c on
 unfoldable pub ends_by : ℕ → List ℕ → List ℕ → ℕ → ℕ → Bool
@@ -56,12 +41,10 @@ tip_by m xs tab c = every (λ a. ends_by m xs tab a c) (c + 1)
 unfoldable pub bounds_by : ℕ → ℕ → List ℕ → List ℕ → Bool
 bounds_by names m xs tab = every (λ c. not (has names c) || tip_by m xs tab c) m
 
--- the table has its m * m places, and of the sums each interval's counts can be read and are few
-pub record Ready (m : ℕ) (xs tab : List ℕ) : Type 0 where
-  pub rack : m ≤ most_tips
+-- the table has its m * m places, and the sums can be read
+pub record Held (m : ℕ) (xs tab : List ℕ) : Type 0 where
   pub size : m * m ≤ length tab
-  pub summed : (a w c : ℕ) → a + w ≤ m → a ≤ c → c < a + w → Summed m xs a w c
-  pub few : (a w c : ℕ) → a + w ≤ m → a ≤ c → c < a + w → inside_by m xs a w c ≤ most_placements
+  pub sums : Ready m 0 xs
 
 -- the split at place i of lists: the sums of the row after the tip, shifted, less those of the first tip's row; and the entries right of the tip
 abbrev pub split_at : ℕ → ℕ → List ℕ → List ℕ → List ℕ → ℕ → ℕ

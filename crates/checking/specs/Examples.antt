@@ -7,7 +7,7 @@ use Rattle.model.specs.Interval.{low, high, lies, inside, named}
 use Rattle.placements.specs.Repeated.{repeated}
 use Rattle.refusal.specs.Told.{Refusal}
 use Rattle.refusal.specs.Refusal.{none, refuse, or_else}
-use Rattle.goals.specs.Check.{is_valid, entry, bounds}
+use Rattle.goal_rules.specs.Check.{is_valid, entry, bounds}
 use Rattle.checking.specs.Checking.{claim_refusal, table_ok, check_refusal}
 
 abbrev sets7 : List ℕ

@@ -7,27 +7,14 @@ mod tabled;
 ghost use Rattle.std.specs.Prelude.{◌≡◌, ◌+◌, ◌*◌, ◌^◌, ◌<◌, ◌≤◌, length};
 ghost use Rattle.model.specs.Limits.{most_tips};
 ghost use Rattle.spans.specs.Spans.{sums_size};
-ghost use Rattle.goals.specs.Check.{entry};
+ghost use Rattle.goal_rules.specs.Check.{entry};
 ghost use Rattle.refusal.specs.Reasons.{refusal_of};
-ghost use Rattle.checking.specs.Checking.{check_refusal, Named};
+ghost use Rattle.ranks.specs.Runs.{RunsOf};
+ghost use Rattle.checking.specs.Checking.{check_refusal};
 
 use placements::Lines;
 use refusal::{Reason, Refused};
 use tabled::Foreign;
-
-// The table's entry for the interval of first tip a and width w. One of no tip has 0 pairs, and callers add or compare the number.
-pub fn entry_at(m: usize, a: usize, w: usize, table: &[u32]) -> u64
-    requires rack { m ≤ most_tips }
-    requires size { m * m ≤ length table.now }
-    requires inside { a + w ≤ m }
-    ensures entry { result ≡ entry m table.now a w }
-    ensures narrow { result < 2 ^ 32 }
-{
-    if w == 0 {
-        return 0;
-    }
-    u64::from(table[a * m + (a + (w - 1))])
-}
 
 // `ForeignTip`, `WrongClaim` or `WrongTable`, or nothing where all is accepted. `names` is the set of the tips that the lines name.
 // The clauses on lengths stay: they are sizes of two buffers of the caller.
@@ -38,7 +25,7 @@ pub fn check_plan(
     claim: u32,
     table: &[u32],
 ) -> Result<(), Refused>
-    requires named { Named names lines.sets.now }
+    requires named { RunsOf names lines.sets.now }
     requires planned { length plan.now ≡ length lines.sets.now }
     requires cells { lines.rack * lines.rack ≤ length table.now }
     ensures { refusal_of result ≡ check_refusal lines.entry.rack lines.entry.quantities.now lines.entry.sets.now plan.now claim table.now }

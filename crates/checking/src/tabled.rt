@@ -1,9 +1,9 @@
 // A table from other software: its entry for the rack, and each entry at least each of its splits at a named tip.
 ghost use Rattle.std.specs.Prelude.{◌≡◌, ◌≤◌, ◌<◌, ◌&&◌, ◌==◌};
-ghost use Rattle.goals.specs.Check.{entry};
-ghost use Rattle.checking.specs.Checking.{ends_at, ends_by, tip_by, bounds_by, EndLists, Ready};
+ghost use Rattle.goal_rules.specs.Check.{entry};
+ghost use Rattle.checking.specs.Checking.{ends_at, ends_by, tip_by, bounds_by, EndLists, Held};
 
-use crate::entry_at;
+use intervals::entry_at;
 
 // The splits of the intervals from one first tip at one tip before their last: the entry left of the tip, and of each last tip the two sums that
 // tell the pairs on the tip, the entry right of it and the entry of the interval.
@@ -41,7 +41,7 @@ pub struct Foreign<'a> {
     pub m: usize,
     pub sums: &'a [u32],
     pub table: &'a [u32],
-    ghost ready: { Ready m sums.now table.now },
+    ghost ready: { Held m sums.now table.now },
 }
 
 impl Foreign<'_> {

@@ -21,7 +21,7 @@ use Rattle.model.proofs.Occ.{top-length}
 use Rattle.model.proofs.CommonTip.{margin_pos, margin_neg}
 use Rattle.model.specs.Limits.{most_placements}
 use Rattle.placements.specs.Repeated.{total, repeated}
-use Rattle.placements.specs.Keep.{common_within, scarce, kept_q, prune_q}
+use Rattle.placements.specs.Keep.{V, scarce, kept_q, prune_q}
 use Rattle.placements.proofs.Repeated.{length-repeated, zip-map}
 use Rattle.placements.proofs.Totals.{all_one}
 use Rattle.placements.proofs.Scarce.{scarce_iff, scarce-margin, common_lt}
@@ -57,8 +57,8 @@ least_test n k c =
 
 -- the tips whose count is at least that are the common ones
 pub least_common : (m : ℕ) {lines planes : List ℕ} (k : ℕ) {least : ℕ} → Counts lines planes → least ≡ least_count (length lines) k
-    → set_of (λ t. leb least (count_at planes t)) m ≡ common_within m lines k
-unfolding common_within
+    → set_of (λ t. leb least (count_at planes t)) m ≡ V m lines k
+unfolding V
 least_common m {lines} k c e = set_of_cong _ _ m (λ t _. rw (c.counted t, e) (least_test (length lines) k (occ lines t)))
 
 -- s & v == v decides whether s has all of v
@@ -84,12 +84,12 @@ zip_cong f g h (q ∷ qs) (s ∷ sets) = ap₂ ◌∷◌ (h q s) (zip_cong f g h
 
 -- PRUNING by the margin and the tips common within k
 pub prune-by : (m : ℕ) (qs sets : List ℕ) (k : ℕ)
-    → zip_with (kept_by (common_within m (repeated qs sets) k) (margin m (repeated qs sets) k)) qs sets ≡ prune_q m qs sets k
+    → zip_with (kept_by (V m (repeated qs sets) k) (margin m (repeated qs sets) k)) qs sets ≡ prune_q m qs sets k
 unfolding prune_q kept_by kept_q
 prune-by m qs sets k =
     let lines = repeated qs sets in
     let below = common_lt m lines k in
-    zip_cong _ _ (λ q s. ap₂ (λ b w. cond b w s) (scarce-by m lines k q) (narrow-by m (common_within m lines k) s below)) qs sets
+    zip_cong _ _ (λ q s. ap₂ (λ b w. cond b w s) (scarce-by m lines k q) (narrow-by m (V m lines k) s below)) qs sets
 
 module _ (v : ℕ) (z : ℤ) {qs : List ℕ} (placed : All (λ q. 1 ≤ q) qs) (sets : List ℕ) (same : length qs ≡ length sets) where
   -- a margin below 1 is below every quantity: each line is narrowed

@@ -6,7 +6,7 @@ ghost use mathlib.Core.List.{map, zip_with};
 ghost use Rattle.model.specs.Count.{All};
 ghost use Rattle.model.specs.CommonTip.{top, W, margin as margin_of};
 ghost use Rattle.placements.specs.Repeated.{total, repeated};
-ghost use Rattle.placements.specs.Keep.{common_within};
+ghost use Rattle.placements.specs.Keep.{V};
 ghost use Rattle.model.specs.Limits.{most_placements};
 ghost use Rattle.counts.specs.Counts.{Countable};
 ghost use Rattle.common_tip.specs.Common.{margin_by, least_count, narrow_by, kept_by, kept_lines};
@@ -65,7 +65,7 @@ fn within(rack: usize, k: u16, lines: &[u64], quantities: &[u8]) -> Bound
     requires countable { Countable quantities.now lines.now }
     ensures margin { result.margin ≡ margin_of rack (repeated quantities.now lines.now) k }
     ensures n { result.n ≡ total quantities.now }
-    ensures tips { result.tips ≡ common_within rack (repeated quantities.now lines.now) k }
+    ensures tips { result.tips ≡ V rack (repeated quantities.now lines.now) k }
 {
     let planes = counts::count_tips(lines, quantities);
     let busiest = counts::busiest_tips(&planes, rack);
@@ -124,7 +124,9 @@ fn prune(margin: i32, n: usize, v: u64, lines: &mut [u64], quantities: &[u8])
 
 // Keep within k: gives the margin. Where it is not below zero the lines are pruned.
 pub fn keep_lines(rack: usize, lines: &mut [u64], quantities: &[u8], k: u16) -> i32
-    requires { (rack ≤ 64) × Countable quantities.now lines.old × All (λ q. 1 ≤ q) quantities.now }
+    requires rack { rack ≤ 64 }
+    requires countable { Countable quantities.now lines.old }
+    requires placed { All (λ q. 1 ≤ q) quantities.now }
     ensures margin { result ≡ margin_of rack (repeated quantities.now lines.old) k }
     ensures lines { lines.new ≡ kept_lines rack quantities.now lines.old k }
 {

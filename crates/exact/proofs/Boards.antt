@@ -20,12 +20,12 @@ use Rattle.model.proofs.Valid.{valid_all}
 use Rattle.placements.specs.Repeated.{repeated}
 use Rattle.ranks.specs.Listed.{Ranks, Named, RanksOf}
 use Rattle.ranks.proofs.Listed.{ranks_of}
-use Rattle.subsets.specs.Subsets.{tips_used, exact_plan_q}
-use Rattle.subsets.specs.Table.{exact_table, rank_table}
-use Rattle.subsets.proofs.Exact.{names_own}
-use Rattle.subsets.proofs.Placements.{exact_shared}
-use Rattle.subsets.proofs.Ranked.{plan-renumbered, pairs-renumbered, used_renumbered}
-use Rattle.subsets.proofs.Table.{table-renumbered}
+use Rattle.subset_rules.specs.Subsets.{tips_used, exact_plan_q}
+use Rattle.subset_rules.specs.Table.{exact_table, rank_table}
+use Rattle.subset_rules.proofs.Exact.{names_own}
+use Rattle.subset_rules.proofs.Placements.{exact_shared}
+use Rattle.subset_rules.proofs.Ranked.{plan-renumbered, pairs-renumbered, used_renumbered}
+use Rattle.subset_rules.proofs.Table.{table-renumbered}
 use Rattle.exact.specs.Leaf.{RanksLent, BoardLent, Renumbering}
 
 module _ {m : ℕ} {qs sets plan table : List ℕ} (b : BoardLent m qs sets plan table) where

@@ -21,9 +21,9 @@ use Rattle.model.proofs.Choice.{choice_attains}
 use Rattle.model.proofs.Sets.{has-below, set_of_cong}
 use Rattle.head.proofs.Chosen.{chosen-busiest}
 use Rattle.head.specs.OnHead.{chosen}
-use Rattle.subsets.specs.Subsets.{size, taking, score, worth, pick, order}
-use Rattle.subsets.proofs.Drop.{drop_lt, size-drop}
-use Rattle.subsets.proofs.Score.{worth-has, worth-not, picked-has, picked-score}
+use Rattle.subset_rules.specs.Subsets.{size, taking, score, worth, pick, order}
+use Rattle.subset_rules.proofs.Drop.{drop_lt, size-drop}
+use Rattle.subset_rules.proofs.Score.{worth-has, worth-not, picked-has, picked-score}
 use Rattle.subset_table.specs.Scores.{at, tied_at, Ready, Scored}
 use Rattle.subset_table.proofs.Scores.{score_few}
 

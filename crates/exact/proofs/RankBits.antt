@@ -14,7 +14,7 @@ use Rattle.model.specs.Renumber.{rank, tip_at, ranks}
 use Rattle.model.proofs.Tests.{test, false_T, false_not}
 use Rattle.model.proofs.Sets.{set_of_lt, set_of_cong}
 use Rattle.model.proofs.Rank.{rank_ok, rank_mono, rank_lt, tip-rank, tip_same, rank-more}
-use Rattle.subsets.specs.Exact.{most_named}
+use Rattle.subset_rules.specs.Exact.{most_named}
 use Rattle.exact.specs.Leaf.{Renumbering}
 use Rattle.exact.proofs.Picks.{set_of-more}
 

@@ -12,9 +12,9 @@ use lib.Seq.{drop-cons}
 use Rattle.model.specs.Limits.{most_pairs}
 use Rattle.model.specs.Plan.{has, choose2}
 use Rattle.model.proofs.Sets.{has-below}
-use Rattle.subsets.specs.Chains.{Chain, link, pairs_by, used_by}
-use Rattle.subsets.proofs.Drop.{drop_lt}
-use Rattle.subsets.specs.Exact.{most_named}
+use Rattle.subset_rules.specs.Chains.{Chain, link, pairs_by, used_by}
+use Rattle.subset_rules.proofs.Drop.{drop_lt}
+use Rattle.subset_rules.specs.Exact.{most_named}
 use Rattle.subset_table.specs.Scores.{at}
 use Rattle.exact.specs.Leaf.{Summable}
 

@@ -16,11 +16,11 @@ use Rattle.model.proofs.Rank.{rank_le}
 use Rattle.placements.specs.Repeated.{repeated}
 use Rattle.placements.proofs.Repeated.{length-repeated, all-repeated}
 use Rattle.placements.proofs.Bound.{pairs_bound}
-use Rattle.subsets.specs.Subsets.{tips_used, lying, order, exact_plan_q}
-use Rattle.subsets.specs.Chains.{pairs_by, used_by}
-use Rattle.subsets.proofs.Attain.{picked_chain}
-use Rattle.subsets.proofs.Score.{order-picked}
-use Rattle.subsets.proofs.Placements.{exact_by, exact_pairs-by, exact_used_by, length_exact}
+use Rattle.subset_rules.specs.Subsets.{tips_used, lying, order, exact_plan_q}
+use Rattle.subset_rules.specs.Chains.{pairs_by, used_by}
+use Rattle.subset_rules.proofs.Attain.{picked_chain}
+use Rattle.subset_rules.proofs.Score.{order-picked}
+use Rattle.subset_rules.proofs.Placements.{exact_by, exact_pairs-by, exact_used_by, length_exact}
 use Rattle.subset_table.specs.Counting.{NarrowLines}
 use Rattle.subset_table.specs.Scores.{at}
 use Rattle.subset_table.proofs.Scores.{counts-at, lines_counted, order_cong}

@@ -7,9 +7,9 @@ use Rattle.model.specs.Interval.{named}
 use Rattle.model.specs.Renumber.{rank}
 use Rattle.placements.specs.Good.{GoodLines}
 use Rattle.ranks.specs.Listed.{Ranks}
-use Rattle.subsets.specs.Exact.{most_named}
-use Rattle.subsets.specs.Table.{table_places}
-use Rattle.subsets.specs.Chains.{Chain, pairs_by}
+use Rattle.subset_rules.specs.Exact.{most_named}
+use Rattle.subset_rules.specs.Table.{table_places}
+use Rattle.subset_rules.specs.Chains.{Chain, pairs_by}
 use Rattle.subset_table.specs.Counting.{NarrowLines}
 use Rattle.subset_table.specs.Scores.{at, Counted}
 

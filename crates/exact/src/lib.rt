@@ -12,9 +12,9 @@ ghost use Rattle.model.specs.Interval.{named};
 ghost use Rattle.model.specs.Renumber.{rank};
 ghost use Rattle.placements.specs.Repeated.{repeated};
 ghost use Rattle.head.specs.OnHead.{on_head};
-ghost use Rattle.subsets.specs.Subsets.{tips_used, exact_plan_q};
-ghost use Rattle.subsets.specs.Exact.{most_named, capped, ExactShared};
-ghost use Rattle.subsets.specs.Table.{table_places, exact_table, rank_table};
+ghost use Rattle.subset_rules.specs.Subsets.{tips_used, exact_plan_q};
+ghost use Rattle.subset_rules.specs.Exact.{most_named, capped, ExactShared};
+ghost use Rattle.subset_rules.specs.Table.{table_places, exact_table, rank_table};
 ghost use Rattle.exact.specs.Leaf.{RanksLent, BoardLent};
 
 use picking::Tables;

@@ -2,8 +2,8 @@
 ghost use Rattle.std.specs.Prelude.{◌≡◌, ◌^◌, ◌≤◌, ◌<◌, length, take};
 ghost use Rattle.model.specs.CommonTip.{set_of};
 ghost use Rattle.head.specs.OnHead.{on_head};
-ghost use Rattle.subsets.specs.Subsets.{pick, order};
-ghost use Rattle.subsets.specs.Exact.{most_named};
+ghost use Rattle.subset_rules.specs.Subsets.{pick, order};
+ghost use Rattle.subset_rules.specs.Exact.{most_named};
 ghost use Rattle.subset_table.specs.Scores.{at, tied_at, Scored};
 
 // The price of a tip, and the count and the score of each set of m tips.

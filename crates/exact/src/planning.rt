@@ -3,7 +3,7 @@ ghost use Rattle.std.specs.Prelude.{◌≡◌, ◌<◌, map, length};
 ghost use Rattle.model.specs.Limits.{most_tips};
 ghost use Rattle.model.specs.Count.{All};
 ghost use Rattle.model.specs.Greedy.{first};
-ghost use Rattle.subsets.specs.Chains.{pairs_by, used_by};
+ghost use Rattle.subset_rules.specs.Chains.{pairs_by, used_by};
 ghost use Rattle.subset_table.specs.Scores.{at};
 ghost use Rattle.exact.specs.Leaf.{Summable};
 

@@ -6,12 +6,13 @@ use mathlib.Core.List.{List, append-nil}
 use native.Mathlib.Omega.{arith}
 use lib.ListN.{length, take, drop_of_length-le}
 use Rattle.placements.specs.Good.{GoodLines}
+use Rattle.file_calls.specs.Calls.{file_outcome}
 use Rattle.refusal.specs.Told.{Refusal}
 use Rattle.refusal.specs.declared.Refused.{Refused}
 use Rattle.refusal.specs.Reasons.{told_of}
 use Rattle.refusal.specs.Refusal.{none}
 use Rattle.refusal.proofs.Laws.{number_of, reason_not_0, accepted}
-use Rattle.goals.specs.Goal.{strike}
+use Rattle.goal_rules.specs.Goal.{strike}
 use Rattle.job.specs.Job.{Bytes, version_for, rack_in, sets_in, quantities_in, read_refusal, InShorterForm, ReadsAs}
 use Rattle.job.proofs.Reading.{read_good}
 use Rattle.line_calls.specs.Answers.{FileAnswer}
@@ -21,7 +22,7 @@ use Rattle.line_calls.proofs.PairGoal as laws
 use Rattle.line_calls.proofs.JobFile.{write_stopped}
 use Rattle.line_calls.proofs.Refused.{Same, goal_same, write_same, write_buffer_same}
 use Rattle.file_calls.specs.Outcomes.{Outcome, refused_outcome}
-use Rattle.file_calls.specs.Goal.{file_outcome, goal_refusal_in, struck_in, goal_in, goal_file_in, GoalRuleOf}
+use Rattle.file_calls.specs.Goal.{goal_refusal_in, struck_in, goal_in, goal_file_in, GoalRuleOf}
 use Rattle.file_calls.proofs.ReadLines.{AsRead}
 use Rattle.file_calls.proofs.WrittenFile.{same_number, decided, earlier_none, reads, shorter}
 

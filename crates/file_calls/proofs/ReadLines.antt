@@ -8,8 +8,8 @@ use Rattle.placements.specs.Good.{GoodLines}
 use Rattle.refusal.specs.Told.{Refusal}
 use Rattle.refusal.proofs.Laws.{number_of}
 use Rattle.job.specs.Job.{rack_in, sets_in, quantities_in, read_refusal}
-use Rattle.reading.specs.Reading.{LinesRead}
-use Rattle.reading.proofs.Lines.{first_sets, first_quantities}
+use Rattle.job_read.specs.Reading.{LinesRead}
+use Rattle.job_read.proofs.ReadLines.{first_sets, first_quantities}
 use Rattle.call_refusals.specs.Calls.{mounted_refusal}
 use Rattle.call_refusals.proofs.Calls.{mounted_none, mounted_same, plan_none, best_none}
 use Rattle.line_calls.specs.Answers.{CommonAnswer}

@@ -6,11 +6,14 @@ use lib.ListN.{length, take, drop}
 use lib.Seq.{take_at}
 use Rattle.placements.specs.Repeated.{total}
 use Rattle.placements.specs.Good.{GoodLines}
+use Rattle.file_calls.specs.Calls.{file_outcome}
+use Rattle.refusal.specs.Refusal.{or_else}
 use Rattle.refusal.specs.Told.{Refusal}
+use Rattle.refusal.specs.Refusal.{none}
 use Rattle.refusal.specs.declared.Refused.{Refused}
 use Rattle.refusal.specs.Reasons.{told_of}
-use Rattle.refusal.proofs.Laws.{number_of, or_first, or_none, accepted, reason_not_0}
-use Rattle.goals.proofs.Append.{all_append}
+use Rattle.refusal.proofs.Laws.{number_of, or_first, or_ok, or_none, accepted, reason_not_0}
+use Rattle.model.proofs.Append.{all_append}
 use Rattle.job.specs.Job.{Bytes, file_length, version_for, written_of, rack_in, sets_in, quantities_in, read_refusal, InShorterForm, ReadsAs}
 use Rattle.job.proofs.Reading.{bytes_quantities, read_good}
 use Rattle.job.proofs.Writing.{length-file_of, written_back}
@@ -19,25 +22,25 @@ use Rattle.call_refusals.proofs.Calls.{plan_none, write_none}
 use Rattle.line_calls.specs.Answers.{FileAnswer}
 use Rattle.line_calls.specs.Lines.{write_of, write_buffer}
 use Rattle.line_calls.proofs.JobFile.{write_stopped}
-use Rattle.line_calls.proofs.Refused.{Same, write_same, write_buffer_same}
 use Rattle.panel.specs.Answers.{AloneAnswer}
-use Rattle.panel.specs.Panel.{first_of, merge_refusal, merge_of, alone_of, alone_buffer}
+use Rattle.panel.specs.Panel.{merge_refusal, merge_of, alone_of, alone_buffer}
+use Rattle.panel.specs.Files.{merge_of_read}
 use Rattle.panel.specs.Rules.{PanelRule, AloneRule}
 use Rattle.panel.proofs.BothPlans.{alone_stopped, alone_refused}
 use Rattle.panel.proofs.Panel.{good_append, panel-rule}
-use Rattle.panel.proofs.Merged.{Mergeable, merge_none, known}
-use Rattle.panel.proofs.Refused.{merge_same, alone_same, alone_buffer_same, alone_rule_same}
+use Rattle.panel.proofs.Merged.{Mergeable, merge_none}
+use Rattle.panel.proofs.Refused.{alone_same, alone_buffer_same, alone_rule_same}
 use Rattle.file_calls.specs.Outcomes.{Outcome, refused_outcome}
-use Rattle.file_calls.specs.Panel.{reads_refusal, merge_refusal_in, file_outcome, merge_of_files, merge_file_in, MergeRuleOf}
+use Rattle.file_calls.specs.Panel.{reads_refusal, merge_refusal_in, merge_of_files, merge_file_in, MergeRuleOf}
 use Rattle.file_calls.specs.Panel.{alone_outcome, alone_in, alone_plan_in, AloneRuleOf}
 use Rattle.file_calls.proofs.ReadLines.{AsRead}
 use Rattle.file_calls.proofs.WrittenFile.{written_version}
 
-module _ (first second : List ℕ) {d e state : Refusal} (p : d ≡ read_refusal first) (q : e ≡ read_refusal second) (g : state ≡ first_of d e)
+module _ (first second : List ℕ) {d e state : Refusal} (p : d ≡ read_refusal first) (q : e ≡ read_refusal second) (g : state ≡ or_else d e)
     {m o : ℕ} {qs sets rs others : List ℕ} (same : d.number ≡ 0 → AsRead first m qs sets)
     (second-same : e.number ≡ 0 → AsRead second o rs others) where
   reads : state ≡ reads_refusal first second
-  reads = g ∙ ap₂ first_of p q
+  reads = g ∙ ap₂ or_else p q
 
   -- both are read where nothing is refused
   both : state.number ≡ 0 → (d.number ≡ 0) × (e.number ≡ 0)
@@ -69,41 +72,25 @@ module _ (first second : List ℕ) {d e state : Refusal} (p : d ≡ read_refusal
         ),
       )
 
-  -- the refusal of merging what was read is that of merging the files
-  pub told-in : {r : Refusal} → r ≡ merge_of state m qs sets o rs others → r ≡ merge_refusal_in first second
-  told-in h =
-      h ∙ merge_same state same_both
-      ∙ ap (λ x. merge_of x (rack_in first) (quantities_in first) (sets_in first) (rack_in second) (quantities_in second) (sets_in second)) reads
+-- merging two files that are read, from file to file
+module _ (first second : List ℕ) (p : none ≡ read_refusal first) (q : none ≡ read_refusal second) where
+  read-merged : merge_of_read first second ≡ merge_refusal_in first second
+  read-merged =
+      ap (λ r. merge_of r (rack_in first) (quantities_in first) (sets_in first) (rack_in second) (quantities_in second) (sets_in second))
+      (or_ok (read_refusal second) p q)
 
-  -- merging, then writing the lines of both
-  module _ {r : Refusal} (h : r ≡ merge_of state m qs sets o rs others) {last-qs last : List ℕ}
-      (s : r.number ≡ 0 → last ≡ sets ++ others) (t : r.number ≡ 0 → last-qs ≡ qs ++ rs) where
-    told_in : r ≡ merge_refusal_in first second
-    told_in =
-        h ∙ merge_same state same_both
-        ∙ ap (λ x. merge_of x (rack_in first) (quantities_in first) (sets_in first) (rack_in second) (quantities_in second) (sets_in second)) reads
-
-    same_merged : r.number ≡ 0
-        → Same m (rack_in first) last-qs (quantities_in first ++ quantities_in second) last
-        (sets_in first ++ sets_in second)
-    same_merged z =
-        let free = (known state qs sets rs others (number_of h z)).free in
-        let ((rack, quantities, read), (_, second-quantities, second-read)) = same_both free in (
-          rack,
-          t z ∙ rw (quantities, second-quantities) refl,
-          s z ∙ rw (read, second-read) refl,
-        )
-
-    pub merge_in : (out : List ℕ) {w : FileAnswer} {bytes : List ℕ} → w ≡ write_of r last-qs last (length out)
-        → bytes ≡ write_buffer r m last-qs last out
-        → (file_outcome w ≡ merge_of_files first second (length out)) × (bytes ≡ merge_file_in first second out)
-    unfolding merge_of_files merge_file_in
-    merge_in out u v =
-        let all-qs = quantities_in first ++ quantities_in second in
-        let all = sets_in first ++ sets_in second in (
-          ap file_outcome (u ∙ write_same r same_merged out) ∙ ap (λ x. file_outcome (write_of x all-qs all (length out))) told_in,
-          v ∙ write_buffer_same r same_merged out ∙ ap (λ x. write_buffer x (rack_in first) all-qs all out) told_in,
-        )
+  pub merge_in : (out : List ℕ) {w : FileAnswer} {bytes : List ℕ}
+      → w ≡ write_of (merge_of_read first second) (quantities_in first ++ quantities_in second) (sets_in first ++ sets_in second) (length out)
+      → bytes ≡ write_buffer (merge_of_read first second) (rack_in first) (quantities_in first ++ quantities_in second)
+      (sets_in first ++ sets_in second) out
+      → (file_outcome w ≡ merge_of_files first second (length out)) × (bytes ≡ merge_file_in first second out)
+  unfolding merge_of_files merge_file_in
+  merge_in out u v =
+      let qs = quantities_in first ++ quantities_in second in
+      let lines = sets_in first ++ sets_in second in (
+        ap file_outcome (u ∙ ap (λ r. write_of r qs lines (length out)) read-merged),
+        v ∙ ap (λ r. write_buffer r (rack_in first) qs lines out) read-merged,
+      )
 
 -- ---- the rule of the merge
 

@@ -54,6 +54,10 @@ best_plan_in file mounted plan places = best_buffer (mounted_in file mounted) (r
 unfoldable pub best_table_in : List ℕ → Mounted → ℕ → List ℕ → List ℕ
 best_table_in file mounted room cells = best_table (mounted_in file mounted) (rack_in file) (quantities_in file) (sets_in file) room cells
 
+-- the bytes of a file that is written
+abbrev pub file_outcome : FileAnswer → Outcome
+file_outcome w = record { refusal = w.refusal; first = w.bytes; second = 0; third = 0 }
+
 -- a refusal without counts
 abbrev pub check_outcome : Refusal → Outcome
 check_outcome r = record { refusal = r; first = 0; second = 0; third = 0 }

@@ -2,16 +2,12 @@
 use Rattle.std.specs.Prelude.{ℕ, ◌≡◌, List, take}
 use Rattle.refusal.specs.Told.{Refusal}
 use Rattle.refusal.specs.Refusal.{none}
-use Rattle.goals.specs.Goal.{strike}
+use Rattle.goal_rules.specs.Goal.{strike}
 use Rattle.job.specs.Job.{rack_in, sets_in, quantities_in, read_refusal, InShorterForm}
-use Rattle.line_calls.specs.Answers.{FileAnswer}
 use Rattle.line_calls.specs.Lines.{write_of, write_buffer}
 use Rattle.line_calls.specs.Goal.{goal_asked, goal_of, GoalRule}
 use Rattle.file_calls.specs.Outcomes.{Outcome}
-
--- the bytes of a file that is written
-abbrev pub file_outcome : FileAnswer → Outcome
-file_outcome w = record { refusal = w.refusal; first = w.bytes; second = 0; third = 0 }
+use Rattle.file_calls.specs.Calls.{file_outcome}
 
 -- the refusal of the goal, and the struck lines
 abbrev pub goal_refusal_in : List ℕ → ℕ → Refusal

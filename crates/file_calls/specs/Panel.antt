@@ -1,28 +1,24 @@
 -- What merging two job files and planning each alone give, and what that means of the number, the counts and the buffers that a caller sees.
 use Rattle.std.specs.Prelude.{ℕ, ◌≡◌, List, ◌++◌, take}
 use Rattle.refusal.specs.Told.{Refusal}
-use Rattle.refusal.specs.Refusal.{none}
+use Rattle.refusal.specs.Refusal.{none, or_else}
 use Rattle.job.specs.Job.{rack_in, sets_in, quantities_in, read_refusal, InShorterForm}
-use Rattle.line_calls.specs.Answers.{FileAnswer}
 use Rattle.line_calls.specs.Lines.{write_of, write_buffer}
 use Rattle.panel.specs.Answers.{AloneAnswer}
-use Rattle.panel.specs.Panel.{first_of, merge_of, alone_of, alone_buffer}
+use Rattle.panel.specs.Panel.{merge_of, alone_of, alone_buffer}
 use Rattle.panel.specs.Rules.{PanelRule, AloneRule}
 use Rattle.file_calls.specs.Outcomes.{Outcome}
+use Rattle.file_calls.specs.Calls.{file_outcome}
 
 -- the refusals of reading the first file, then those of reading the second
 abbrev pub reads_refusal : List ℕ → List ℕ → Refusal
-reads_refusal first second = first_of (read_refusal first) (read_refusal second)
+reads_refusal first second = or_else (read_refusal first) (read_refusal second)
 
 -- then those of merging their lines
 abbrev pub merge_refusal_in : List ℕ → List ℕ → Refusal
 merge_refusal_in first second =
     merge_of (reads_refusal first second) (rack_in first) (quantities_in first) (sets_in first) (rack_in second) (quantities_in second)
     (sets_in second)
-
--- the bytes of a file that is written
-abbrev pub file_outcome : FileAnswer → Outcome
-file_outcome a = record { refusal = a.refusal; first = a.bytes; second = 0; third = 0 }
 
 -- merge: the panel's lines with their quantities written to an output of room bytes
 unfoldable pub merge_of_files : List ℕ → List ℕ → ℕ → Outcome

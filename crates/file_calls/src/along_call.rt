@@ -8,7 +8,7 @@ ghost use Rattle.cases.specs.Cases.{Told};
 ghost use Rattle.file_calls.specs.Cases.{along_cases};
 
 use crate::Counts;
-use reading::Room;
+use job_read::Room;
 use refusal::Refused;
 
 // The counts are the plan's tip changes and its pairs.
@@ -25,7 +25,6 @@ pub fn along_outcome(
 {
     let mut room = Room::new();
     let lines = room.read(file)?;
-    call_refusals::mounted_refusal(lines.rack, mounted)?;
     let laid = line_calls::along(lines, mounted, plan)?;
     Ok(Counts {
         first: laid.changes as u64,

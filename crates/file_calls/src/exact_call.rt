@@ -8,7 +8,7 @@ ghost use Rattle.cases.specs.Cases.{Told};
 ghost use Rattle.file_calls.specs.Cases.{exact_cases};
 
 use crate::Counts;
-use reading::Room;
+use job_read::Room;
 use refusal::Refused;
 
 // The counts are the plan's pairs and its tips.
@@ -28,7 +28,6 @@ pub fn exact_outcome(
 {
     let mut room = Room::new();
     let lines = room.read(file)?;
-    call_refusals::mounted_refusal(lines.rack, mounted)?;
     let laid = line_calls::exact(lines, mounted, price, plan, table)?;
     Ok(Counts {
         first: u64::from(laid.pairs),

@@ -6,8 +6,8 @@ ghost use Rattle.cases.specs.Cases.{Told};
 ghost use Rattle.file_calls.specs.Cases.{goal_cases};
 
 use crate::Counts;
+use job_read::Room;
 use placements::Lines;
-use reading::Room;
 use refusal::Refused;
 
 // The struck sets have an array of their own.

@@ -2,29 +2,32 @@
 #![tactic(auto)]
 
 ghost use Rattle.std.specs.Prelude.{◌≡◌, ◌≤◌, length};
-ghost use Rattle.model.specs.Limits.{most_pairs};
+ghost use Rattle.model.specs.Limits.{most_lines, most_pairs};
 ghost use Rattle.head.specs.OnHead.{on_head};
 ghost use Rattle.file_calls.specs.Outcomes.{outcome_of, kept_outcome_of, twos_complement};
 ghost use Rattle.file_calls.specs.Calls.{read_in, common_in, keep_in, keep_file_in, quick_in, quick_plan_in, best_in, best_plan_in, best_table_in};
 ghost use Rattle.file_calls.specs.Calls.{check_in};
 ghost use Rattle.file_calls.specs.Rules.{CommonRuleOf, KeepRuleOf, HalfRuleOf, BestRuleOf, CheckRuleOf, ReadRuleOf, TableRuleOf, CheckAcceptsOf};
+ghost use Rattle.job_read.specs.Reading.{HasRoom};
 ghost use Rattle.cases.specs.Cases.{Told};
 ghost use Rattle.file_calls.specs.Cases.{read_cases, keep_cases, quick_cases, best_cases, check_cases};
 
+use job_read::{FEW, MOST, Room, RoomOf};
 use placements::Lines;
-use reading::Room;
 use refusal::{Refused, Unkept};
 
 mod along_call;
 mod exact_call;
 mod goal_call;
 mod junior_call;
+mod mend_call;
 mod panel_calls;
 
 pub use along_call::along_outcome;
 pub use exact_call::exact_outcome;
 pub use goal_call::goal_outcome;
 pub use junior_call::junior_outcome;
+pub use mend_call::mend_outcome;
 pub use panel_calls::{alone_outcome, merge_outcome};
 
 // Up to three counts that a call gives.
@@ -60,10 +63,10 @@ pub fn read_outcome(file: &[u8]) -> Result<Counts, Refused>
     ensures cases { Told (read_cases file.now) (outcome_of result).refusal }
     ensures rule { ReadRuleOf file.now (outcome_of result) }
 {
-    let opened = reading::open(file)?;
+    let opened = job_read::open(file)?;
     Ok(Counts {
-        first: opened.header.rack as u64,
-        second: opened.header.count as u64,
+        first: opened.file.header.rack as u64,
+        second: opened.file.header.count as u64,
         third: 0,
     })
 }
@@ -92,7 +95,7 @@ pub fn keep_outcome(file: &[u8], k: u16, out: &mut [u8]) -> Result<Counts, Unkep
 {
     let mut sets = [0u64; model::MOST_LINES];
     let mut quantities = [0u8; model::MOST_LINES];
-    let read = reading::read_lines(file, &mut sets, &mut quantities)?;
+    let read = job_read::read_lines(file, &mut sets, &mut quantities)?;
     let sets = &mut sets[..read.count];
     let quantities = &quantities[..read.count];
     let margin = line_calls::keep(read.rack, sets, quantities, k)?;
@@ -109,6 +112,27 @@ pub fn keep_outcome(file: &[u8], k: u16, out: &mut [u8]) -> Result<Counts, Unkep
     })
 }
 
+// A file of at most N lines.
+fn quick_in<const N: usize>(
+    file: &[u8],
+    mounted: Option<usize>,
+    plan: &mut [u8],
+) -> Result<Counts, Refused>
+    requires size { N ≤ most_lines }
+    requires room { HasRoom N file.now }
+    ensures outcome { outcome_of result ≡ quick_in file.now (on_head mounted) (length plan.old) }
+    ensures plan { plan.new ≡ quick_plan_in file.now (on_head mounted) plan.old }
+    ensures rule { HalfRuleOf file.now plan.new (outcome_of result) }
+    ensures cases { Told (quick_cases file.now (on_head mounted) (length plan.old)) (outcome_of result).refusal }
+    ensures few { (outcome_of result).first ≤ most_pairs }
+{
+    let mut room = RoomOf::<N>::new();
+    let lines = room.read_short(file)?;
+    let pairs = line_calls::quick(lines, mounted, plan)?;
+    Ok(Counts::one(u64::from(pairs)))
+}
+
+#[tactic(auto, using(job_read::proofs::ReadLines::most_room))]
 pub fn quick_outcome(
     file: &[u8],
     mounted: Option<usize>,
@@ -120,11 +144,11 @@ pub fn quick_outcome(
     ensures cases { Told (quick_cases file.now (on_head mounted) (length plan.old)) (outcome_of result).refusal }
     ensures few { (outcome_of result).first ≤ most_pairs }
 {
-    let mut room = Room::new();
-    let lines = room.read(file)?;
-    call_refusals::mounted_refusal(lines.rack, mounted)?;
-    let pairs = line_calls::quick(lines, mounted, plan)?;
-    Ok(Counts::one(u64::from(pairs)))
+    if job_read::is_short(file) {
+        quick_in::<FEW>(file, mounted, plan)
+    } else {
+        quick_in::<MOST>(file, mounted, plan)
+    }
 }
 
 pub fn best_outcome(
@@ -146,7 +170,6 @@ pub fn best_outcome(
 {
     let mut room = Room::new();
     let lines = room.read(file)?;
-    call_refusals::mounted_refusal(lines.rack, mounted)?;
     let pairs = line_calls::best(lines, mounted, plan, table)?;
     Ok(Counts::one(u64::from(pairs)))
 }

@@ -6,8 +6,8 @@ ghost use Rattle.report.specs.Report.{report_of};
 ghost use Rattle.text.specs.Buffer.{Printed};
 ghost use Rattle.file_report.specs.Summary.{facts_of, BestTold, text_of, text_room, summary_of, ReportRule};
 
+use job_read::Room;
 use placements::Lines;
-use reading::Room;
 
 // The bytes of a file that are taken: one more than the longest good file has, by which a longer one is seen.
 pub const TAKEN: usize = 4617;

@@ -6,7 +6,7 @@ use mathlib.Core.Logic.{⊎_elim}
 use mathlib.Core.Bool.{Bool, true, false, cond, ◌&&◌, ◌||◌}
 use mathlib.Core.List.{List}
 use lib.Dec.{ltb, eqb, T_not, eqb→eq, eqb_refl}
-use lib.ListN.{length, get_or, set, replicate, length-set, length-replicate, take}
+use lib.ListN.{length, get_or, set, replicate, length-set, take}
 use lib.Seq.{get_or-set_same, get_or-set_other, get_or-take}
 use borrow.Author.Tests.{lt-ltb, le-ltb, eq-eqb, ne_eqb}
 use Rattle.model.proofs.Tests.{le_or_lt, test, true_T, false_T}
@@ -32,13 +32,12 @@ row-none (suc n) (suc v) = row-none n v
 
 -- ---- each part at its place
 
-pub places_none : (place : ℕ → ℕ) (m : ℕ) → AtPlaces place m 0 (replicate m no_parts)
+pub places_none : (place : ℕ → ℕ) (m : ℕ) → AtPlaces place 0 (replicate m no_parts)
 places_none place m = record {
-  size = length-replicate {A = PartSet} m no_parts;
   each = λ w x l. rw (row-none m w) (first-none x ∙ rw (le-ltb x 0 (omega arith)));
 }
 
-module _ (place : ℕ → ℕ) (m i : ℕ) (rows : List PartSet) (at : ℕ) (e : at ≡ place i) (l : at < m) (p : AtPlaces place m i rows) where
+module _ (place : ℕ → ℕ) (i : ℕ) (rows : List PartSet) (at : ℕ) (e : at ≡ place i) (l : at < length rows) (p : AtPlaces place i rows) where
   abbrev f : ℕ → ℕ → Bool
   f w x = eqb (place x) w
 
@@ -73,22 +72,21 @@ module _ (place : ℕ → ℕ) (m i : ℕ) (rows : List PartSet) (at : ℕ) (e :
       (λ h. rw (lt-ltb x i h, lt-ltb x (i + 1) (omega arith)))
       (le_or_lt i x)
 
-  pub places_more : AtPlaces place m (i + 1) (set rows at (joined (row_at rows at) (single i)))
+  pub places_more : AtPlaces place (i + 1) (set rows at (joined (row_at rows at) (single i)))
   places_more =
       let row = joined (row_at rows at) (single i) in
       record {
-        size = length-set rows at row ∙ p.size;
-        each = λ w x h. ap (λ s. has_part s x) (row-set rows at w row (omega (arith, p.size))) ∙ ⊎_elim
+        each = λ w x h. let k : w < length rows = omega (arith, length-set rows at row) in
+            ap (λ s. has_part s x) (row-set rows at w row l) ∙ ⊎_elim
             (λ u. let z = eqb→eq at w u in rw (true_T (eqb at w) u)
-            (has-joined (row_at rows at) (single i) x ∙ rw (has-single i x, z, p.each w x h) (with w x z)))
-            (λ u. rw (false_T (eqb at w) u) (p.each w x h ∙ but w x (λ z. T_not (eqb at w) u (rw z (eqb_refl w)))))
+            (has-joined (row_at rows at) (single i) x ∙ rw (has-single i x, z, p.each w x k) (with w x z)))
+            (λ u. rw (false_T (eqb at w) u) (p.each w x k ∙ but w x (λ z. T_not (eqb at w) u (rw z (eqb_refl w)))))
             (test (eqb at w));
       }
 
 -- the parts by the first n positions
 pub parts_taken : (positions : List ℕ) (n : ℕ) (rows : List PartSet) → PartsAt (take n positions) n rows → PartsAt positions n rows
 parts_taken positions n rows p = record {
-  size = p.size;
   each = λ w x h. p.each w x h ∙ ⊎_elim
       (λ (l : n ≤ x). rw (le-ltb x n l))
       (λ (l : x < n). rw (get_or-take n positions x 0 l))
@@ -105,7 +103,7 @@ before-none positions n x = first-none x
     none true = refl
     none false = refl
 
-pub before_more : (positions : List ℕ) (rows : List PartSet) (n p : ℕ) (s : PartSet) → p + 1 < 130 → PartsAt positions n rows
+pub before_more : (positions : List ℕ) (rows : List PartSet) (n p : ℕ) (s : PartSet) → p + 1 < length rows → PartsAt positions n rows
     → ((x : ℕ) → has_part s x ≡ (ltb x n && ltb (get_or positions x 0) p))
     → (x : ℕ) → has_part (joined s (row_at rows (p + 1))) x ≡ (ltb x n && ltb (get_or positions x 0) (p + 1))
 before_more positions rows n p s l at h x =

@@ -8,8 +8,8 @@ use mathlib.Core.List.{List}
 use lib.ListN.{length, get_or, drop}
 use lib.Seq.{drop-cons, drop-length}
 use Rattle.model.specs.Choice.{Mounted}
-use Rattle.ordering.specs.Tips.{head_after, is_change, changes}
-use Rattle.ordering.proofs.Tips.{changes_front, changes_end}
+use Rattle.order_rules.specs.Tips.{head_after, is_change, changes}
+use Rattle.order_rules.proofs.Tips.{changes_front, changes_end}
 
 module _ (plan order : List ℕ) (head : Mounted) (i : ℕ) where
   -- one part more: its change, and those after it

@@ -10,8 +10,8 @@ use lib.ListN.{length, get_or, set, length-set}
 use lib.Seq.{get_or-set_same, get_or-set_other}
 use borrow.Author.Tests.{lt-ltb, le-ltb, lt-leb, le-leb, eq-eqb, ne_eqb}
 use Rattle.model.proofs.Tests.{le_or_lt, test, true_T, false_T}
-use Rattle.ordering.specs.Number.{number}
-use Rattle.ordering.proofs.Number.{number_cong, number-none}
+use Rattle.order_rules.specs.Number.{number}
+use Rattle.order_rules.proofs.Number.{number_cong, number-none}
 use Rattle.flat_order.specs.declared.sets.PartSet.{PartSet}
 use Rattle.flat_order.specs.Sets.{has_part, removed}
 use Rattle.flat_order.specs.Flat.{row_at, is_due, PartsAt}
@@ -21,16 +21,16 @@ use Rattle.flat_order.proofs.Waiting.{Waiting}
 
 -- up to place e stand the parts whose last positions are before it, after it those that ended just before it, and up to e stand the levels
 pub record Ended (all : PartSet) (lasts₀ lasts : List ℕ) (e : ℕ) (ends : List PartSet) (levels : List ℕ) : Type 0 where
-  pub size : length ends ≡ 130
-  pub level_size : length levels ≡ 128
+  pub size : length lasts₀ + 1 < length ends
+  pub level_size : length lasts₀ ≤ length levels
   pub done : (k x : ℕ) → k ≤ e → has_part (row_at ends k) x ≡ (ltb x (length lasts₀) && ltb (get_or lasts x 0) k)
-  pub rest : (k x : ℕ) → e < k → k < 130 → has_part (row_at ends k) x ≡ (ltb x (length lasts₀) && eqb (get_or lasts₀ x 0 + 1) k)
+  pub rest : (k x : ℕ) → e < k → k < length ends → has_part (row_at ends k) x ≡ (ltb x (length lasts₀) && eqb (get_or lasts₀ x 0 + 1) k)
   pub level : (k : ℕ) → k < e → get_or levels k 0 ≡ number (is_due all lasts k) (length lasts₀)
 
 pub ended-none : (all : PartSet) (lasts : List ℕ) (ends : List PartSet) (levels : List ℕ) → PartsAt lasts (length lasts) ends
-    → length levels ≡ 128 → Ended all lasts lasts 0 ends levels
-ended-none all lasts ends levels p s = record {
-  size = p.size;
+    → length lasts + 1 < length ends → length lasts ≤ length levels → Ended all lasts lasts 0 ends levels
+ended-none all lasts ends levels p r s = record {
+  size = r;
   level_size = s;
   done = λ k x l.
       let e : k ≡ 0 = omega arith in
@@ -81,7 +81,7 @@ module _ (all : PartSet) (lasts₀ lasts : List ℕ) (j e : ℕ) (ends : List Pa
     }
 
   -- all that end at e are settled
-  module _ (later : (x : ℕ) → T (has_part left x) → e < get_or lasts x 0) (few : n ≤ 128) (l : e < n) where
+  module _ (later : (x : ℕ) → T (has_part left x) → e < get_or lasts x 0) (l : e < n) where
     gone_at : (x : ℕ) → has_part (removed all left) x ≡ (ltb x n && ltb (get_or lasts x 0) (e + 1))
     gone_at x = has-removed all left x ∙ rw (is_all x) (⊎_elim
         (λ (h : n ≤ x). rw (le-ltb x n h))
@@ -105,13 +105,14 @@ module _ (all : PartSet) (lasts₀ lasts : List ℕ) (j e : ℕ) (ends : List Pa
         let at : (k x : ℕ) → has_part (row_at (set ends (e + 1) gone) k) x ≡ has_part (cond (eqb (e + 1) k) gone (row_at ends k)) x =
         λ k x. ap (λ s. has_part s x) (row-set ends (e + 1) k gone (omega (arith, d.size))) in
         record {
-          size = length-set ends (e + 1) gone ∙ d.size;
-          level_size = length-set levels e j ∙ d.level_size;
+          size = omega (arith, length-set ends (e + 1) gone, d.size);
+          level_size = omega (arith, length-set levels e j, d.level_size);
           done = λ k x h. at k x ∙ ⊎_elim
               (λ (u : e + 1 ≤ k). let z : e + 1 ≡ k = omega arith in rw (← z, eq-eqb (e + 1) (e + 1) refl, q) (gone_at x))
               (λ (u : k < e + 1). rw (ne_eqb (e + 1) k (λ z. omega arith)) (d.done k x (omega arith)))
               (le_or_lt (e + 1) k);
-          rest = λ k x h m. at k x ∙ rw (ne_eqb (e + 1) k (λ z. omega arith)) (d.rest k x (omega arith) m);
+          rest = λ k x h m. at k x ∙ rw (ne_eqb (e + 1) k (λ z. omega arith))
+              (d.rest k x (omega arith) (omega (arith, length-set ends (e + 1) gone)));
           level = λ k h. ⊎_elim
               (λ (u : e ≤ k). let z : k ≡ e = omega arith in rw z (get_or-set_same levels e j 0 (omega (arith, d.level_size)) ∙ level_is))
               (λ (u : k < e). get_or-set_other levels e k j 0 (λ z. omega arith) ∙ d.level k u)

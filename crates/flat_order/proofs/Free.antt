@@ -8,8 +8,8 @@ use mathlib.Core.List.{List}
 use lib.Dec.{T, ltb, eqb, ltb→lt, T_not, not_T, eqb→eq, eqb_refl}
 use lib.ListN.{set, replicate, length-set, length-replicate}
 use Rattle.model.proofs.Tests.{and_left, and_right, and_in, same_test, true_T, false_T, false_not, cond_case}
-use Rattle.ordering.specs.Number.{number, without}
-use Rattle.ordering.proofs.Number.{number_but, without-left, without_differs, without_in}
+use Rattle.order_rules.specs.Number.{number, without}
+use Rattle.order_rules.proofs.Number.{number_but, without-left, without_differs, without_in}
 use Rattle.flat_order.specs.declared.sets.PartSet.{PartSet}
 use Rattle.flat_order.specs.Sets.{has_part, single, joined, removed, met, apart, no_parts, IsLowest}
 use Rattle.flat_order.specs.Flat.{row_at, is_pick, Held, IsFirst}
@@ -102,19 +102,26 @@ module _ (left waiting : PartSet) (rows noted : List PartSet) (h : Held left wai
   }
 
   -- part x waits for part b
-  module _ (x b : ℕ) (k : b < 128) (m : T (has_part (met (row_at rows x) (removed left (single x))) b)) where
+  module _ (x b : ℕ) (m : T (has_part (met (row_at rows x) (removed left (single x))) b)) where
+    pub b_left : T (has_part left b)
+    b_left =
+        let others = removed left (single x) in
+        let row = row_at rows x in
+        let o = and_right (has_part row b) (has_part others b) (rw (has-met row others b) at m) in
+        without-left (has_part left) x b (rw (left-without left x b) at o)
+
     pub held_more : Held left (joined waiting (single x)) rows (set noted b (joined (row_at noted b) (single x)))
     held_more =
         let row = joined (row_at noted b) (single x) in
         let at : (c y : ℕ) → has_part (row_at (set noted b row) c) y ≡ has_part (cond (eqb b c) row (row_at noted c)) y =
-        λ c y. ap (λ s. has_part s y) (row-set noted b c row (omega (arith, h.size))) in
+        λ c y. ap (λ s. has_part s y) (row-set noted b c row (h.places b b_left)) in
         let kept : (c y : ℕ) → T (has_part (row_at noted c) y) → T (has_part (row_at (set noted b row) c) y) =
         λ c y t. rw (at c y) (cond_case (λ s. T (has_part s y)) (eqb b c)
         (λ u. rw (has-joined (row_at noted b) (single x) y)
         (or_first (has_part (row_at noted b) y) (has_part (single x) y) (rw (← eqb→eq b c u) at t)))
         (λ _. t)) in
         record {
-          size = length-set noted b row ∙ h.size;
+          places = λ y t. omega (arith, length-set noted b row, h.places y t);
           each = λ y t. some_or (has_part waiting y) (has_part (single x) y) (rw (has-joined waiting (single x) y) at t)
               (λ u. let (c, v, w) = h.each y u in (c, v, kept c y w))
               (λ u. let e = eqb→eq x y (rw (has-single x y) at u) in
@@ -129,7 +136,7 @@ module _ (left waiting : PartSet) (rows noted : List PartSet) (h : Held left wai
   -- part x is placed: those that wait for it wait no more
   pub held_less : (x : ℕ) → Held (removed left (single x)) (removed waiting (row_at noted x)) rows noted
   held_less x = record {
-    size = h.size;
+    places = λ y t. h.places y (without-left (has_part left) x y (rw (left-without left x y) at t));
     each = λ y t.
         let freed = row_at noted x in
         let k : T (has_part waiting y && not (has_part freed y)) = rw (has-removed waiting freed y) at t in
@@ -151,9 +158,10 @@ module _ (left waiting : PartSet) (rows noted : List PartSet) (h : Held left wai
         );
   }
 
-pub held_none : (left : PartSet) (rows : List PartSet) → Held left no_parts rows (replicate 128 no_parts)
-held_none left rows = record {
-  size = length-replicate {A = PartSet} 128 no_parts;
+pub held_none : (left : PartSet) (rows : List PartSet) (places : ℕ) → ((x : ℕ) → T (has_part left x) → x < places)
+    → Held left no_parts rows (replicate places no_parts)
+held_none left rows places inside = record {
+  places = λ x t. omega (arith, length-replicate {A = PartSet} places no_parts, inside x t);
   each = λ x t. absurd (let v : T (ltb x 0) = rw (first-none x) at t in omega (arith, ltb→lt x 0 v));
 }
 

@@ -10,8 +10,8 @@ use lib.ListN.{length, get_or, take}
 use lib.Seq.{get_or-take, length-take-le}
 use borrow.Author.Tests.{lt-leb, le-leb}
 use Rattle.model.proofs.Tests.{le_or_lt, eqb_T, and_left, and_in}
-use Rattle.ordering.specs.Number.{number, without}
-use Rattle.ordering.proofs.Number.{number_le, number_cong, number-without, lowest_is}
+use Rattle.order_rules.specs.Number.{number, without}
+use Rattle.order_rules.proofs.Number.{number_le, number_cong, number-without, lowest_is}
 use Rattle.flat_order.specs.declared.sets.PartSet.{PartSet}
 use Rattle.flat_order.specs.Sets.{has_part, single, removed}
 use Rattle.flat_order.specs.Flat.{is_due, Levels, Raised, IsEnd, tight_of, InPlace}
@@ -46,7 +46,7 @@ module _ (left : PartSet) (lasts levels : List ℕ) (p : ℕ) (at : Levels left 
 
     pub levels_next : (levels₂ : List ℕ) (r : Bool) → Raised (p + 1) last levels levels₂ r → Levels (removed left (single x)) lasts (p + 1) levels₂
     levels_next levels₂ r d = record {
-      size = d.size ∙ at.size;
+      size = omega (arith, d.size, at.size);
       each = λ v h k.
           let e = fewer v in
           let o = at.each v (omega arith) k in

@@ -14,13 +14,13 @@ use Rattle.std.proofs.lemmas.Nat.{and_le_l, and_le_r, xor_lt}
 use Rattle.model.specs.Count.{every}
 use borrow.Author.Tests.{lt-ltb}
 use Rattle.model.proofs.Tests.{le_or_lt, true_T, same_test, and_left, and_right, and_in, every_iff}
-use Rattle.ordering.specs.Number.{number, lowest, lowest_on, without}
-use Rattle.ordering.specs.Order.{Task}
-use Rattle.ordering.specs.Least.{due, tight, is_free_part, fits as part_fits, pick_by, prepend, greedy_by}
-use Rattle.ordering.proofs.Number.{lowest_is, without-left, number_cong, number-all, number-without}
-use Rattle.ordering.proofs.First.{on_found, on_other, on_cong}
-use Rattle.ordering.proofs.Agree.{greedy_cong}
-use Rattle.ordering.proofs.Loops.{prepend_all, prepend-none, prepend_end, placed-more, greedy_picks, greedy_stops}
+use Rattle.order_rules.specs.Number.{number, lowest, lowest_on, without}
+use Rattle.order_rules.specs.Order.{Task}
+use Rattle.order_rules.specs.Least.{due, tight, is_free_part, fits as part_fits, pick_by, prepend, greedy_by}
+use Rattle.order_rules.proofs.Number.{lowest_is, without-left, number_cong, number-all, number-without}
+use Rattle.order_rules.proofs.First.{on_found, on_other, on_cong}
+use Rattle.order_rules.proofs.Agree.{greedy_cong}
+use Rattle.order_rules.proofs.Loops.{prepend_all, prepend-none, prepend_end, placed-more, greedy_picks, greedy_stops}
 use Rattle.flat_order.specs.declared.sets.PartSet.{PartSet}
 use Rattle.flat_order.specs.Sets.{has_part, single, removed, met, apart}
 use Rattle.flat_order.specs.Flat.{row_at, flat_task, tight_of, candidates_at, is_pick, choose_ready, IsFirst, IsChosen, one_ready, none_ready}
@@ -186,79 +186,92 @@ and-true true = refl
 and-true false = refl
 
 -- from position p on with what is left and what is ready, as the best order goes on
-abbrev pub goes_on : List PartSet → Task → ℕ → ℕ → PartSet → (ℕ → Bool) → Option (List ℕ)
-goes_on after t k p on left = greedy_by choose_ready (row_at after) t k p on left
+abbrev pub goes_on : (ℕ → PartSet) → Task → ℕ → ℕ → PartSet → (ℕ → Bool) → Option (List ℕ)
+goes_on next t k p on left = greedy_by choose_ready next t k p on left
 
--- at position p: the parts before it are in the order, what is left to place, and what is ready
-pub record Placing (firsts lasts : List ℕ) (rows : List PartSet) (start : PartSet) (after : List PartSet) (p : ℕ) (order : List ℕ)
-    (left on : PartSet) : Type 0 where
+-- at position p: an order with room for all parts, and what is left to place
+pub record Kept (lasts : List ℕ) (p : ℕ) (order : List ℕ) (left : PartSet) : Type 0 where
   pub size : length lasts ≤ length order
   pub inside : (i : ℕ) → T (has_part left i) → i < length lasts
   pub count : number (has_part left) (length lasts) + p ≡ length lasts
-  pub same : prepend_all (take p order) (goes_on after (flat_task firsts lasts rows) (length lasts - p) p on (has_part left))
-      ≡ goes_on after (flat_task firsts lasts rows) (length lasts) 0 start (λ _. true)
 
-module _ (firsts lasts : List ℕ) (rows : List PartSet) (start : PartSet) (after : List PartSet) where
+module _ (lasts : List ℕ) (order : List ℕ) (left : PartSet) where
+  abbrev m : ℕ
+  m = length lasts
+
+  pub kept_none : m ≤ length order → ((x : ℕ) → has_part left x ≡ ltb x m) → Kept lasts 0 order left
+  kept_none e h = record {
+    size = e;
+    inside = λ i v. ltb→lt i m (rw (h i) at v);
+    count = omega (arith, number_cong (has_part left) (λ _. true) m (λ i l. h i ∙ true_T (ltb i m) (lt→ltb i m l)), number-all m);
+  }
+
+  -- one part placed
+  pub kept_more : (p : ℕ) → Kept lasts p order left → (x : ℕ) → x < m → T (has_part left x)
+      → Kept lasts (p + 1) (set order p x) (removed left (single x))
+  kept_more p k x h t = record {
+    size = omega (arith, length-set order p x, k.size);
+    inside = λ i v. k.inside i (without-left (has_part left) x i (rw (left-without left x i) at v));
+    count =
+        let f = number-without (has_part left) (λ _. true) x m h t in
+        let g = number_cong (λ i. without x (has_part left) i && true) (has_part (removed left (single x))) m
+        (λ i _. and-true (without x (has_part left) i) ∙ sym (left-without left x i)) in
+        omega (arith, f, g, number_cong (λ i. has_part left i && true) (has_part left) m (λ i _. and-true (has_part left i)), k.count);
+  }
+
+-- and the parts before it are in the order, so that what is left goes on as the best order does
+pub record Placing (firsts lasts : List ℕ) (rows : List PartSet) (start : PartSet) (next : ℕ → PartSet) (p : ℕ) (order : List ℕ)
+    (left on : PartSet) : Type 0 where
+  pub same : prepend_all (take p order) (goes_on next (flat_task firsts lasts rows) (length lasts - p) p on (has_part left))
+      ≡ goes_on next (flat_task firsts lasts rows) (length lasts) 0 start (λ _. true)
+
+module _ (firsts lasts : List ℕ) (rows : List PartSet) (start : PartSet) (next : ℕ → PartSet) where
   abbrev u : Task
   u = flat_task firsts lasts rows
 
   left_cong : (k p : ℕ) (on : PartSet) (left other : ℕ → Bool) → ((i : ℕ) → i < length lasts → left i ≡ other i)
-      → goes_on after u k p on left ≡ goes_on after u k p on other
-  left_cong k p on left other h = greedy_cong choose_ready (row_at after) (λ s. on_cong (has_part s)) u k p on left other h
+      → goes_on next u k p on left ≡ goes_on next u k p on other
+  left_cong k p on left other h = greedy_cong choose_ready next (λ s. on_cong (has_part s)) u k p on left other h
 
-  pub placing_none : (order : List ℕ) (left : PartSet) → length lasts ≤ length order → ((x : ℕ) → has_part left x ≡ ltb x (length lasts))
-      → Placing firsts lasts rows start after 0 order left start
-  placing_none order left e h = record {
-    size = e;
-    inside = λ i v. ltb→lt i (length lasts) (rw (h i) at v);
-    count =
-        let n = length lasts in
-        omega (arith, number_cong (has_part left) (λ _. true) n (λ i l. h i ∙ true_T (ltb i n) (lt→ltb i n l)), number-all n);
-    same =
-        let n = length lasts in
-        let z : n - 0 ≡ n = omega arith in
-        rw z (left_cong n 0 start (has_part left) (λ _. true) (λ i l. h i ∙ true_T (ltb i n) (lt→ltb i n l)));
-  }
+  pub placing_none : (order : List ℕ) (left : PartSet) → ((x : ℕ) → has_part left x ≡ ltb x (length lasts))
+      → Placing firsts lasts rows start next 0 order left start
+  placing_none order left h =
+      let n = length lasts in
+      let z : n - 0 ≡ n = omega arith in
+      record { same = rw z (left_cong n 0 start (has_part left) (λ _. true) (λ i l. h i ∙ true_T (ltb i n) (lt→ltb i n l))) }
 
-  module _ (order : List ℕ) (left on : PartSet) (p : ℕ) (l : p < length lasts) (s : Placing firsts lasts rows start after p order left on) where
-    pub placing_more : (x : ℕ) → x ≡ pick_by choose_ready u p on (has_part left) → x < length lasts → T (has_part left x)
-        → Placing firsts lasts rows start after (p + 1) (set order p x) (removed left (single x)) (row_at after x)
-    placing_more x e h t =
+  module _ (order : List ℕ) (left on : PartSet) (p : ℕ) (l : p < length lasts) (s : Placing firsts lasts rows start next p order left on) where
+    pub placing_more : length lasts ≤ length order → (x : ℕ) → x ≡ pick_by choose_ready u p on (has_part left) → x < length lasts
+        → Placing firsts lasts rows start next (p + 1) (set order p x) (removed left (single x)) (next x)
+    placing_more size x e h =
         let n = length lasts in
-        let next = row_at after x in
-        let more = greedy_picks choose_ready (row_at after) u on (has_part left) p l x e h in
+        let more = greedy_picks choose_ready next u on (has_part left) p l x e h in
         record {
-          size = omega (arith, length-set order p x, s.size);
-          inside = λ i v. s.inside i (without-left (has_part left) x i (rw (left-without left x i) at v));
-          count =
-              let f = number-without (has_part left) (λ _. true) x n h t in
-              let g = number_cong (λ i. without x (has_part left) i && true) (has_part (removed left (single x))) n
-              (λ i _. and-true (without x (has_part left) i) ∙ sym (left-without left x i)) in
-              omega (arith, f, g, number_cong (λ i. has_part left i && true) (has_part left) n (λ i _. and-true (has_part left i)), s.count);
-          same = placed-more order p x (goes_on after u (n - (p + 1)) (p + 1) next (has_part (removed left (single x)))) (omega (arith, s.size))
+          same = placed-more order p x (goes_on next u (n - (p + 1)) (p + 1) (next x) (has_part (removed left (single x)))) (omega (arith, size))
               ∙ ap (λ r. prepend_all (take p order) (prepend x r))
-              (left_cong (n - (p + 1)) (p + 1) next (has_part (removed left (single x))) (without x (has_part left)) (λ i _. left-without left x i))
+              (left_cong (n - (p + 1)) (p + 1) (next x) (has_part (removed left (single x))) (without x (has_part left))
+              (λ i _. left-without left x i))
               ∙ ap (prepend_all (take p order)) (sym more) ∙ s.same;
         }
 
     pub placing_stops : length lasts ≤ pick_by choose_ready u p on (has_part left)
-        → none ≡ goes_on after u (length lasts) 0 start (λ _. true)
+        → none ≡ goes_on next u (length lasts) 0 start (λ _. true)
     placing_stops h =
         sym (prepend-none (take p order))
-        ∙ ap (prepend_all (take p order)) (sym (greedy_stops choose_ready (row_at after) u on (has_part left) p l h)) ∙ s.same
+        ∙ ap (prepend_all (take p order)) (sym (greedy_stops choose_ready next u on (has_part left) p l h)) ∙ s.same
 
-  pub placing_all : (order : List ℕ) (left on : PartSet) (p : ℕ) → p ≡ length lasts → Placing firsts lasts rows start after p order left on
-      → some (take (length lasts) order) ≡ goes_on after u (length lasts) 0 start (λ _. true)
+  pub placing_all : (order : List ℕ) (left on : PartSet) (p : ℕ) → p ≡ length lasts → Placing firsts lasts rows start next p order left on
+      → some (take (length lasts) order) ≡ goes_on next u (length lasts) 0 start (λ _. true)
   unfolding greedy_by
   placing_all order left on p e s =
       let z : length lasts - p ≡ 0 = omega arith in
       ap (λ k. some (take k order)) (sym e) ∙ sym (prepend_end (take p order))
-      ∙ ap (λ k. prepend_all (take p order) (goes_on after u k p on (has_part left))) (sym z) ∙ s.same
+      ∙ ap (λ k. prepend_all (take p order) (goes_on next u k p on (has_part left))) (sym z) ∙ s.same
 
 -- ---- the part that is found at position p
 
-module _ (firsts lasts : List ℕ) (rows : List PartSet) (start : PartSet) (after ends : List PartSet) (p v : ℕ) (order levels : List ℕ)
-    (left on begun among : PartSet) (k : p < length lasts) (s : Placing firsts lasts rows start after p order left on)
+module _ (firsts lasts : List ℕ) (rows ends : List PartSet) (p v : ℕ) (order levels : List ℕ)
+    (left on begun among : PartSet) (k : p < length lasts) (s : Kept lasts p order left)
     (d : Levels left lasts p levels) (is : IsEnd (length lasts) p levels v) (low : left.low < 2 ^ 64) (high : left.high < 2 ^ 64)
     (within : InPlace (length lasts) lasts) (closes : Below lasts (length lasts) ends)
     (begins : (x : ℕ) → has_part begun x ≡ (ltb x (length lasts) && ltb (get_or firsts x 0) (p + 1)))
@@ -272,7 +285,8 @@ module _ (firsts lasts : List ℕ) (rows : List PartSet) (start : PartSet) (afte
       chosen_is firsts lasts rows left s.inside low high ends begun p begins closes on v k v_in (end_tight left lasts levels p d v is) x
       (rw e at f)
 
-  pub found_none : ((x : ℕ) → T (is_pick among left rows x) → ⊥)
-      → none ≡ goes_on after (flat_task firsts lasts rows) (length lasts) 0 start (λ _. true)
-  found_none f = placing_stops firsts lasts rows start after order left on p k s
+  pub found_none : (start : PartSet) (next : ℕ → PartSet) → Placing firsts lasts rows start next p order left on
+      → ((x : ℕ) → T (is_pick among left rows x) → ⊥)
+      → none ≡ goes_on next (flat_task firsts lasts rows) (length lasts) 0 start (λ _. true)
+  found_none start next q f = placing_stops firsts lasts rows start next order left on p k q
       (none_is firsts lasts rows left s.inside low high ends begun p begins closes on v k v_in (end_tight left lasts levels p d v is) (rw e at f))

@@ -9,11 +9,11 @@ use lib.ListN.{length, get_or}
 use Rattle.model.specs.Count.{list_of, lowest_at}
 use Rattle.model.proofs.Tests.{true_T}
 use Rattle.model.proofs.ListOf.{list_is, length-list_of}
-use Rattle.ordering.specs.Number.{without}
-use Rattle.ordering.specs.Order.{Task}
-use Rattle.ordering.specs.Least.{earliest, relax, settle, lasts_of, ending, greedy_by, best_order}
-use Rattle.ordering.proofs.Agree.{settle_cong}
-use Rattle.ordering.proofs.Loops.{settle-more}
+use Rattle.order_rules.specs.Number.{without}
+use Rattle.order_rules.specs.Order.{Task}
+use Rattle.order_rules.specs.Least.{earliest, relax, settle, lasts_of, ending, greedy_by, best_order}
+use Rattle.order_rules.proofs.Agree.{settle_cong}
+use Rattle.order_rules.proofs.Loops.{settle-more}
 use Rattle.flat_order.specs.declared.sets.PartSet.{PartSet}
 use Rattle.flat_order.specs.Sets.{has_part, single, removed}
 use Rattle.flat_order.specs.Flat.{row_at, flat_task, weight_of, cap_of, capped, choose_ready, ready_order}
@@ -82,13 +82,13 @@ settle-length t (suc k) left lasts e =
     settle-length t k (without b left) (relax t b lasts) (length-list_of _ t.size)
 
 -- the best order is the greedy order with the last positions settled
-pub best_settled : (firsts lasts : List ℕ) (rows : List PartSet) (start : PartSet) (after : List PartSet) (settled : List ℕ)
+pub best_settled : (firsts lasts : List ℕ) (rows : List PartSet) (start : PartSet) (next : ℕ → PartSet) (settled : List ℕ)
     → settled ≡ lasts_of (flat_task firsts lasts rows) → (length settled ≡ length lasts)
-    × (greedy_by choose_ready (row_at after) (flat_task firsts settled rows) (length settled) 0 start (λ _. true)
-    ≡ ready_order start after (flat_task firsts lasts rows))
+    × (greedy_by choose_ready next (flat_task firsts settled rows) (length settled) 0 start (λ _. true)
+    ≡ ready_order start next (flat_task firsts lasts rows))
 unfolding best_order lasts_of
-best_settled firsts lasts rows start after settled e =
+best_settled firsts lasts rows start next settled e =
     let t = flat_task firsts lasts rows in
     let n : length settled ≡ length lasts = ap length e
     ∙ settle-length t (length lasts) (λ _. true) (list_of t.last (length lasts)) (length-list_of t.last (length lasts)) in
-    (n, rw n (ap (λ l. greedy_by choose_ready (row_at after) (ending t l) (length lasts) 0 start (λ _. true)) e))
+    (n, rw n (ap (λ l. greedy_by choose_ready next (ending t l) (length lasts) 0 start (λ _. true)) e))

@@ -12,8 +12,8 @@ use Rattle.model.specs.Count.{list_of, lowest_at}
 use Rattle.model.proofs.Tests.{le_or_lt, test, true_T, false_T, and_left, and_right, and_in, same_test, eqb_T}
 use Rattle.model.proofs.ListOf.{length-list_of, list_of-at, list_of_cong, list_is}
 use Rattle.model.proofs.Largest.{lowest-only}
-use Rattle.ordering.specs.Number.{number, without}
-use Rattle.ordering.proofs.Number.{number_but, number_pos, without-left, without_differs, without_in, number-all, number_cong}
+use Rattle.order_rules.specs.Number.{number, without}
+use Rattle.order_rules.proofs.Number.{number_but, number_pos, without-left, without_differs, without_in, number-all, number_cong}
 use Rattle.flat_order.specs.declared.sets.PartSet.{PartSet}
 use Rattle.flat_order.specs.Sets.{has_part, single, joined, removed, met, no_parts, IsLowest}
 use Rattle.flat_order.specs.Flat.{row_at, weight_of, capped, InPlace}

@@ -1,11 +1,11 @@
 -- The task that flat arrays describe: first and last positions, and the rows of the parts that are to precede each part.
 use Rattle.std.proofs.Math.Option.{Option}
-use Rattle.std.specs.Prelude.{ℕ, suc, ◌+◌, ◌-◌, ◌≤◌, ◌<◌, min, ◌≡◌, Bool, false, cond, ◌&&◌, List, T, ltb, leb, eqb, length, get_or}
+use Rattle.std.specs.Prelude.{ℕ, suc, ◌+◌, ◌-◌, ◌*◌, ◌^◌, ◌≤◌, ◌<◌, min, ◌≡◌, Bool, false, cond, ◌&&◌, List, T, ltb, leb, eqb, length, get_or}
 use Rattle.model.specs.Count.{list_of}
-use Rattle.ordering.specs.Number.{number, lowest, comes_first, lowest_on}
-use Rattle.ordering.specs.Order.{Task}
-use Rattle.ordering.specs.Prefer.{Preference, Choice}
-use Rattle.ordering.specs.Least.{best_order}
+use Rattle.order_rules.specs.Number.{number, lowest, comes_first, lowest_on}
+use Rattle.order_rules.specs.Order.{Task}
+use Rattle.order_rules.specs.Prefer.{Preference, Choice}
+use Rattle.order_rules.specs.Least.{best_order}
 use Rattle.flat_order.specs.declared.sets.PartSet.{PartSet}
 use Rattle.flat_order.specs.Sets.{has_part, single, removed, met, apart, no_parts}
 
@@ -40,7 +40,7 @@ is_due left lasts v i = has_part left i && leb (get_or lasts i 0) v
 
 -- from position p on, the level of a position: how many parts are placed before p, or are left and due there
 pub record Levels (left : PartSet) (lasts : List ℕ) (p : ℕ) (levels : List ℕ) : Type 0 where
-  pub size : length levels ≡ 128
+  pub size : length lasts ≤ length levels
   pub each : (v : ℕ) → p ≤ v → v < length lasts → get_or levels v 0 ≡ number (is_due left lasts v) (length lasts) + p
 
 -- the levels from one position up to another are one higher, and r is false only where none was the number of its position before
@@ -82,9 +82,13 @@ by_ready ready = comes_first (has_part ready)
 abbrev pub choose_ready : Choice PartSet
 choose_ready ready = lowest_on (has_part ready)
 
--- the best order by it, from the parts ready at the start on; after part x the parts of its row are ready
-abbrev pub ready_order : PartSet → List PartSet → Task → Option (List ℕ)
-ready_order ready after t = best_order choose_ready (row_at after) ready t
+-- the best order by it, from the parts ready at the start on; after part x those of `next x` are ready
+abbrev pub ready_order : PartSet → (ℕ → PartSet) → Task → Option (List ℕ)
+ready_order ready next t = best_order choose_ready next ready t
+
+-- what a function answers for each of the first n parts is what is ready after it
+pub record Leaves (post : ℕ → PartSet → Type 0) (n : ℕ) (next : ℕ → PartSet) : Type 0 where
+  pub each : (x : ℕ) (s : PartSet) → x < n → post x s → s ≡ next x
 
 -- x is chosen: the least that passes both tests, or where none does the least that passes f
 pub data IsChosen (on f : ℕ → Bool) (x : ℕ) : Type 0 where
@@ -95,23 +99,21 @@ pub data IsChosen (on f : ℕ → Bool) (x : ℕ) : Type 0 where
 abbrev pub InPlace : ℕ → List ℕ → Type 0
 InPlace n positions = (i : ℕ) → i < n → get_or positions i 0 < n
 
--- each of the first n parts is at its place, one of m
-pub record AtPlaces (place : ℕ → ℕ) (m n : ℕ) (rows : List PartSet) : Type 0 where
-  pub size : length rows ≡ m
-  pub each : (w x : ℕ) → w < m → has_part (row_at rows w) x ≡ (ltb x n && eqb (place x) w)
+-- each of the first n parts is at its place
+pub record AtPlaces (place : ℕ → ℕ) (n : ℕ) (rows : List PartSet) : Type 0 where
+  pub each : (w x : ℕ) → w < length rows → has_part (row_at rows w) x ≡ (ltb x n && eqb (place x) w)
 
 -- each of the first n parts is at the place after its position
 abbrev pub PartsAt : List ℕ → ℕ → List PartSet → Type 0
-PartsAt positions n rows = AtPlaces (λ x. get_or positions x 0 + 1) 130 n rows
+PartsAt positions n rows = AtPlaces (λ x. get_or positions x 0 + 1) n rows
 
 -- at each place up to n are those of the first n parts whose positions are before it
 pub record Below (positions : List ℕ) (n : ℕ) (rows : List PartSet) : Type 0 where
-  pub size : length rows ≡ 130
   pub each : (w x : ℕ) → w ≤ n → has_part (row_at rows w) x ≡ (ltb x n && ltb (get_or positions x 0) w)
 
--- each part that waits is noted at a part left that is to precede it
+-- each part that waits is noted at a part left that is to precede it; each part left has a place there
 pub record Held (left waiting : PartSet) (rows noted : List PartSet) : Type 0 where
-  pub size : length noted ≡ 128
+  pub places : (x : ℕ) → T (has_part left x) → x < length noted
   pub each : (x : ℕ) → T (has_part waiting x)
       → (b : ℕ) × T (has_part (met (row_at rows x) (removed left (single x))) b) × T (has_part (row_at noted b) x)
 
@@ -120,6 +122,12 @@ pub record SizedFor (n : ℕ) (fs : List ℕ) (rs : List PartSet) : Type 0 where
   pub parts : n ≤ 128
   pub firsts : n ≤ length fs
   pub rows : n ≤ length rs
+
+-- a search for n parts has places enough, by part and by position, and they are few enough for an array
+pub record Room (places ends n : ℕ) : Type 0 where
+  pub parts : n ≤ places
+  pub positions : n + 2 ≤ ends
+  pub small : places * 17 + ends * 16 < 2 ^ 63
 
 -- each part of the order has a byte in the plan
 abbrev pub Tipped : List ℕ → List ℕ → Type 0

@@ -1,10 +1,10 @@
 // How often the head changes its tip along an order.
 ghost use Rattle.std.specs.Prelude.{◌≡◌};
 ghost use Rattle.head.specs.OnHead.{on_head};
-ghost use Rattle.ordering.specs.Tips.{has_other, changes};
+ghost use Rattle.order_rules.specs.Tips.{has_other, changes};
 ghost use Rattle.flat_order.specs.Flat.{Tipped};
 
-#[tactic(auto, unfolding(ordering::specs::Tips::has_other))]
+#[tactic(auto, unfolding(order_rules::specs::Tips::has_other))]
 fn has_other(head: Option<usize>, tip: usize) -> bool
     ensures { result ≡ has_other (on_head head) tip }
 {

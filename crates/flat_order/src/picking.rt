@@ -1,27 +1,19 @@
 // The best order by flat arrays, position by position. Slices have a place for each part.
-ghost use Rattle.std.specs.Prelude.{◌≡◌, true, false, ℕ, ◌≤◌, ◌<◌, ltb, length, get_or, take, T, IfSome, IfNone};
+ghost use Rattle.std.specs.Prelude.{◌≡◌, true, false, ℕ, ◌+◌, ◌≤◌, ◌<◌, ltb, length, get_or, take, T, IfSome, IfNone};
 ghost use Rattle.std.proofs.Math.Option.{some, none};
-ghost use Rattle.ordering.specs.Least.{greedy_by};
+ghost use Rattle.order_rules.specs.Least.{greedy_by};
 ghost use Rattle.flat_order.specs.Sets.{has_part};
-ghost use Rattle.flat_order.specs.Flat.{row_at, candidates_at, is_pick, flat_task, choose_ready, IsFirst, IsChosen};
-ghost use Rattle.flat_order.specs.Flat.{SizedFor, InPlace, Below, Levels, Raised, IsEnd, Held};
+ghost use Rattle.flat_order.specs.Flat.{candidates_at, is_pick, flat_task, choose_ready, IsFirst, IsChosen, Leaves};
+ghost use Rattle.flat_order.specs.Flat.{Room, SizedFor, InPlace, Below, Levels, Raised, IsEnd, Held};
 
-use crate::MOST_PARTS;
 use crate::positions::by_position;
 use crate::sets::PartSet;
-
-// The parts that wait for another, and by part those that wait for it.
-#[derive(Drop)]
-struct Waiting {
-    parts: PartSet,
-    noted: [PartSet; MOST_PARTS],
-}
 
 // Raises the levels from one position up to another by one, and returns whether one had the number of its position.
 // By place: of what a loop writes through the iter_mut of a part of a slice, the check keeps only the length.
 fn raise(from: usize, to: usize, levels: &mut [u8]) -> bool
-    requires to { to ≤ 128 }
-    requires size { length levels.old ≡ 128 }
+    requires few { to ≤ 128 }
+    requires to { to ≤ length levels.old }
     requires fits { (v : ℕ) → from ≤ v → v < to → get_or levels.old v 0 < 255 }
     ensures { Raised from to levels.old levels.new result }
 {
@@ -59,35 +51,36 @@ fn tight_end(reached: bool, end: usize, p: usize, levels: &[u8]) -> usize
 // The parts left that have begun at position p, have not ended before it, and have to stand at v or earlier.
 #[tactic(auto, unfolding(crate::specs::Flat::candidates_at))]
 fn candidates(p: usize, v: usize, begun: PartSet, ends: &[PartSet]) -> PartSet
-    requires from { p < 128 }
-    requires to { v < 128 }
-    requires size { length ends.now ≡ 130 }
+    requires from { p < length ends.now }
+    requires to { v + 1 < length ends.now }
     ensures { result ≡ candidates_at p v begun ends.now }
 {
     begun & (ends[v + 1] - ends[p])
 }
 
-// The lowest candidate that no other part left is to precede. One that another part is to precede waits for it.
+// The lowest candidate that no other part left is to precede. One that another part is to precede waits for it: it is one of `waiting`, and
+// noted at the part that it waits for.
 fn lowest_free(
     among: PartSet,
     left: PartSet,
     rows: &[PartSet],
-    waiting: &mut Waiting,
+    waiting: &mut PartSet,
+    noted: &mut [PartSet],
 ) -> Option<usize>
     requires inside { (x : ℕ) → T (has_part among x) → x < length rows.now }
-    requires held { Held left waiting.old.parts rows.now waiting.old.noted }
+    requires held { Held left waiting.old rows.now noted.old }
     ensures some { IfSome result (λ x. (x < 128) × IsFirst (is_pick among left rows.now) x) }
     ensures none { IfNone result ((x : ℕ) → T (is_pick among left rows.now x) → ⊥) }
-    ensures held { Held left waiting.new.parts rows.now waiting.new.noted }
+    ensures held { Held left waiting.new rows.now noted.new }
 {
-    let mut rest = among - waiting.parts;
+    let mut rest = among - *waiting;
     while let Some(x) = rest.lowest() {
         let one = PartSet::single(x);
         match (rows[x] & (left - one)).lowest() {
             None => return Some(x),
             Some(b) => {
-                waiting.noted[b] = waiting.noted[b] | one;
-                waiting.parts = waiting.parts | one;
+                noted[b] = noted[b] | one;
+                *waiting = *waiting | one;
                 rest = rest - one;
             }
         }
@@ -101,66 +94,68 @@ fn free_on(
     among: PartSet,
     left: PartSet,
     rows: &[PartSet],
-    waiting: &mut Waiting,
+    waiting: &mut PartSet,
+    noted: &mut [PartSet],
 ) -> Option<usize>
     requires inside { (x : ℕ) → T (has_part among x) → x < length rows.now }
-    requires held { Held left waiting.old.parts rows.now waiting.old.noted }
+    requires held { Held left waiting.old rows.now noted.old }
     ensures some { IfSome result (λ x. (x < 128) × IsChosen (has_part ready) (is_pick among left rows.now) x) }
     ensures none { IfNone result ((x : ℕ) → T (is_pick among left rows.now x) → ⊥) }
-    ensures held { Held left waiting.new.parts rows.now waiting.new.noted }
+    ensures held { Held left waiting.new rows.now noted.new }
 {
-    if let Some(x) = lowest_free(among & ready, left, rows, &mut *waiting) {
+    if let Some(x) = lowest_free(among & ready, left, rows, &mut *waiting, &mut *noted) {
         return Some(x);
     }
-    lowest_free(among, left, rows, waiting)
+    lowest_free(among, left, rows, waiting, noted)
 }
 
 // The pick for each position, in the first places; none where a position has no pick. At the start the parts of `start` are ready, and after
-// each part those of its set in `after`.
-pub fn greedy_order(
+// each part those of `after`.
+pub fn greedy_order<const PLACES: usize, const ENDS: usize, F: Fn(usize) -> PartSet>(
     all: PartSet,
-    firsts: &[usize],
-    lasts: &[usize],
+    firsts: &[u8],
+    lasts: &[u8],
     rows: &[PartSet],
     ends: &[PartSet],
     levels: &mut [u8],
     start: PartSet,
-    after: &[PartSet],
-) -> Option<[u8; MOST_PARTS]>
+    after: F,
+) -> Option<[u8; PLACES]>
+    requires room { Room PLACES ENDS (length lasts.now) }
     requires sized { SizedFor (length lasts.now) firsts.now rows.now }
     requires firsts { InPlace (length lasts.now) firsts.now }
     requires lasts { InPlace (length lasts.now) lasts.now }
     requires all { (x : ℕ) → has_part all x ≡ ltb x (length lasts.now) }
     requires ends { Below lasts.now (length lasts.now) ends.now }
+    requires places { length lasts.now + 1 < length ends.now }
     requires levels { Levels all lasts.now 0 levels.old }
-    requires after { length lasts.now ≤ length after.now }
-    ensures some { IfSome result (λ order. some (take (length lasts.now) order)
-        ≡ greedy_by choose_ready (row_at after.now) (flat_task firsts.now lasts.now rows.now) (length lasts.now) 0 start (λ _. true)) }
-    ensures none { IfNone result (none
-        ≡ greedy_by choose_ready (row_at after.now) (flat_task firsts.now lasts.now rows.now) (length lasts.now) 0 start (λ _. true)) }
+    requires after { (x : ℕ) → x < length lasts.now → F.pre after x }
+    ensures some { IfSome result (λ order. (next : ℕ → PartSet) → Leaves (F.post after) (length lasts.now) next → some (take (length lasts.now) order)
+        ≡ greedy_by choose_ready next (flat_task firsts.now lasts.now rows.now) (length lasts.now) 0 start (λ _. true)) }
+    ensures none { IfNone result ((next : ℕ → PartSet) → Leaves (F.post after) (length lasts.now) next → none
+        ≡ greedy_by choose_ready next (flat_task firsts.now lasts.now rows.now) (length lasts.now) 0 start (λ _. true)) }
 {
     let n = lasts.len();
-    let starts = by_position(&firsts[..n]);
-    let mut waiting = Waiting {
-        parts: PartSet::EMPTY,
-        noted: [PartSet::EMPTY; MOST_PARTS],
-    };
+    let starts = by_position::<ENDS>(&firsts[..n]);
+    let mut waiting = PartSet::EMPTY;
+    let mut noted = [PartSet::EMPTY; PLACES];
     let mut begun = PartSet::EMPTY;
     let mut left = all;
     let mut ready = start;
-    let mut order = [0; MOST_PARTS];
+    let mut order = [0u8; PLACES];
     let mut end = 0;
     let mut reached = true;
     for p in 0..n {
         begun = begun | starts[p + 1];
         end = tight_end(reached, end, p, &levels[..n]);
         let among = candidates(p, end, left & begun, ends);
-        let x = free_on(ready, among, left, rows, &mut waiting)?;
+        let x = free_on(ready, among, left, rows, &mut waiting, &mut noted)?;
         order[p] = x as u8;
-        waiting.parts = waiting.parts - waiting.noted[x];
+        waiting = waiting - noted[x];
         left = left - PartSet::single(x);
-        ready = after[x];
-        reached = raise(p + 1, lasts[x], &mut *levels);
+        ready = after(x);
+        let last = usize::from(lasts[x]);
+        reached = raise(p + 1, last, &mut *levels);
     }
     Some(order)
 }

@@ -1,9 +1,8 @@
 // The parts by their positions, as sets.
-ghost use Rattle.std.specs.Prelude.{◌≡◌, ℕ, ◌≤◌, ltb, length};
+ghost use Rattle.std.specs.Prelude.{◌≡◌, ℕ, ◌+◌, ◌*◌, ◌^◌, ◌≤◌, ◌<◌, ltb, length};
 ghost use Rattle.flat_order.specs.Sets.{has_part};
 ghost use Rattle.flat_order.specs.Flat.{PartsAt, InPlace};
 
-use crate::MOST_PARTS;
 use crate::sets::PartSet;
 
 // The set of the first n parts.
@@ -18,18 +17,18 @@ pub fn first_parts(n: usize) -> PartSet
     all
 }
 
-// There is a place for each position, and one before and one after them.
-const PLACES: usize = MOST_PARTS + 2;
-
-// The parts, each at the place after its position.
-pub fn by_position(positions: &[usize]) -> [PartSet; PLACES]
+// The parts, each at the place after its position. There is a place for each position, and one before and one after them.
+pub fn by_position<const ENDS: usize>(positions: &[u8]) -> [PartSet; ENDS]
     requires few { length positions.now ≤ 128 }
+    requires room { length positions.now + 2 ≤ ENDS }
+    requires small { ENDS * 16 < 2 ^ 63 }
     requires within { InPlace (length positions.now) positions.now }
-    ensures { PartsAt positions.now (length positions.now) result }
+    ensures size { length result ≡ ENDS }
+    ensures places { PartsAt positions.now (length positions.now) result }
 {
-    let mut sets = [PartSet::EMPTY; PLACES];
+    let mut sets = [PartSet::EMPTY; ENDS];
     for (i, &position) in positions.iter().enumerate() {
-        let at = position + 1;
+        let at = usize::from(position) + 1;
         sets[at] = sets[at] | PartSet::single(i);
     }
     sets

@@ -27,6 +27,19 @@ impl PartSet {
         }
     }
 
+    // Whether part x is in the set.
+    #[tactic(auto, unfolding(crate::specs::Sets::has_part))]
+    pub fn has(self, x: usize) -> bool
+        requires { x < 128 }
+        ensures { result ≡ has_part self x }
+    {
+        if x < 64 {
+            tips::has_tip(self.low, x)
+        } else {
+            tips::has_tip(self.high, x - 64)
+        }
+    }
+
     // The lowest part of the set.
     pub(crate) fn lowest(self) -> Option<usize>
         ensures some { IfSome result (λ x. (x < 128) × IsLowest self x) }

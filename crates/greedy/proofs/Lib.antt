@@ -3,3 +3,4 @@ pub mod Unplanned
 pub mod Gathered
 pub mod Lists
 pub mod Round
+pub mod FewTips

@@ -17,6 +17,8 @@ use Rattle.model.proofs.Choice.{choice_cong}
 use Rattle.model.proofs.Tests.{test, true_T, false_T}
 use Rattle.model.proofs.Lists.{all_get_d, all_map, all_same, count_pos}
 use Rattle.model.proofs.Pairs.{pairs_taken}
+use Rattle.model.specs.CommonTip.{top}
+use Rattle.model.proofs.Largest.{largest_cong}
 use Rattle.model.proofs.Limits.{pairs_few}
 use Rattle.model.proofs.Sets.{some_tip, not_empty}
 use Rattle.model.proofs.Occ.{occ_le, occ-length, top_le, top-length, busiest_lt}
@@ -32,7 +34,6 @@ use Rattle.unplanned.specs.Listed.{Unplanned}
 use Rattle.counts.specs.Counts.{count_at, busy_tips, Counts}
 use Rattle.head.specs.OnHead.{chosen}
 use Rattle.head.proofs.Chosen.{chosen-busiest}
-use Rattle.counts.proofs.Read.{largest-top}
 use Rattle.greedy.specs.Rounds.{Sizes, plan_by, cleared, placed, Taken, ListsFit, RoundReady}
 use Rattle.greedy.proofs.PlanBy.{length-plan_by, plan_by_same, plan_by-map, plan_by-twice}
 use Rattle.greedy.proofs.Unplanned.{unplanned, occ-unplanned, unplanned-all, unplanned-cleared, unplanned-none, none-unplanned}
@@ -133,6 +134,11 @@ filled_round t f g e s p =
 pub to_plan : List ℕ → List ℕ → List ℕ
 to_plan qs left = unplanned (repeated qs left)
 
+-- empty sets allow no tip
+pub occ-to_plan : (qs left : List ℕ) (t : ℕ) → occ (repeated qs left) t ≡ occ (to_plan qs left) t
+unfolding to_plan
+occ-to_plan qs left t = occ-unplanned (repeated qs left) t
+
 pub record State (mounted : Mounted) (m : ℕ) (qs lines left plan : List ℕ) (shared : ℕ) : Type 0 where
   pub domains : All (Domain m) (to_plan qs left)
   pub size : length left ≡ length lines
@@ -207,41 +213,45 @@ pub record Ongoing (mounted : Mounted) (m shared : ℕ) (qs lines left plan coun
   pub most : n ≤ length left
   pub unplanned : Unplanned n list left
 
--- a round begins: the largest count of a tip in the rack
-pub record Begun (mounted : Mounted) (m : ℕ) (qs lines left plan counts : List ℕ) (shared most : ℕ) : Type 0 where
+-- a round begins: each tip in the rack is counted, and the largest count is found
+pub record Begun (mounted : Mounted) (m : ℕ) (qs lines left plan : List ℕ) (count : ℕ → ℕ) (shared most : ℕ) : Type 0 where
   pub state : State mounted m qs lines left plan shared
-  pub counts_are : Counts (repeated qs left) counts
+  pub counted : (t : ℕ) → t < m → count t ≡ occ (repeated qs left) t
   pub good : GoodLines m qs lines
-  pub is_most : most ≡ largest (count_at counts) m
+  pub is_most : most ≡ largest count m
 
 pub begins : {mounted : Mounted} {m shared : ℕ} {qs lines left plan counts : List ℕ} {n : ℕ} {list : List ℕ} {most : ℕ}
     → Ongoing mounted m shared qs lines left plan counts n list → GoodLines m qs lines → most ≡ largest (count_at counts) m
-    → Begun mounted m qs lines left plan counts shared most
-begins o g e = record { state = o.state; counts_are = o.counts_are; good = g; is_most = e }
+    → Begun mounted m qs lines left plan (count_at counts) shared most
+begins o g e = record { state = o.state; counted = λ t _. o.counts_are.counted t; good = g; is_most = e }
 
-module _ {mounted : Mounted} {m : ℕ} {qs lines left plan counts : List ℕ} {shared most : ℕ}
-    (b : Begun mounted m qs lines left plan counts shared most) where
+-- the largest count is that of the lines that are counted
+largest-top : {m : ℕ} (lines : List ℕ) {count : ℕ → ℕ} → ((t : ℕ) → t < m → count t ≡ occ lines t) → largest count m ≡ top m lines
+unfolding top
+largest-top {m} lines c = largest_cong _ _ m c
+
+module _ {mounted : Mounted} {m : ℕ} {qs lines left plan : List ℕ} {count : ℕ → ℕ} {shared most : ℕ}
+    (b : Begun mounted m qs lines left plan count shared most) where
   st : State mounted m qs lines left plan shared
   st = b.state
 
   same : length qs ≡ length left
   same = b.good.same ∙ sym st.size
 
-  counted : Counts (to_plan qs left) counts
-  unfolding to_plan
-  counted = record { size = b.counts_are.size; counted = λ t. b.counts_are.counted t ∙ occ-unplanned (repeated qs left) t }
+  counted : (t : ℕ) → t < m → count t ≡ occ (to_plan qs left) t
+  counted t l = b.counted t l ∙ occ-to_plan qs left t
 
   -- a tip has at most all placements
   pub few_placements : most ≤ most_placements
   few_placements =
       let placements = length-repeated qs left same in
-      omega (arith, b.good.few, b.is_most, largest-top b.counts_are m, top-length m (repeated qs left), placements)
+      omega (arith, b.good.few, b.is_most, largest-top (repeated qs left) b.counted, top-length m (repeated qs left), placements)
 
   -- a busiest tip has them
   most_is : most ≡ occ (to_plan qs left) (busiest mounted (to_plan qs left) m)
   most_is =
       let below = occ_le st.domains (busiest mounted (to_plan qs left) m) in
-      omega (arith, b.is_most, largest-top counted m, top_le mounted m (to_plan qs left))
+      omega (arith, b.is_most, largest-top (to_plan qs left) counted, top_le mounted m (to_plan qs left))
 
   -- no tip has a placement: no line is left
   pub each_empty : most ≡ 0 → All (λ s. s ≡ 0) left
@@ -251,32 +261,35 @@ module _ {mounted : Mounted} {m : ℕ} {qs lines left plan counts : List ℕ} {s
       all_once b.good.placed left same (unplanned-none (repeated qs left) none)
 
 -- a round takes one of the tips that have the largest count: the mounted one, else the lowest
-pub record Chosen (mounted : Mounted) (m : ℕ) (qs lines left plan counts : List ℕ) (shared most tip : ℕ) : Type 0 where
-  pub begun : Begun mounted m qs lines left plan counts shared most
+pub record Chosen (mounted : Mounted) (m : ℕ) (qs lines left plan : List ℕ) (count : ℕ → ℕ) (shared most tip : ℕ) : Type 0 where
+  pub begun : Begun mounted m qs lines left plan count shared most
   pub lines_left : most ≡ 0 → ⊥
-  pub is_tip : tip ≡ chosen mounted (busy_tips (count_at counts) most m)
+  pub is_tip : tip ≡ chosen mounted (busy_tips count most m)
 
-pub chooses : {mounted : Mounted} {m : ℕ} {qs lines left plan counts : List ℕ} {shared most tips tip : ℕ}
-    → Begun mounted m qs lines left plan counts shared most → (most ≡ 0 → ⊥) → tips ≡ busy_tips (count_at counts) most m
-    → tip ≡ chosen mounted tips → Chosen mounted m qs lines left plan counts shared most tip
+pub chooses : {mounted : Mounted} {m : ℕ} {qs lines left plan : List ℕ} {count : ℕ → ℕ} {shared most tips tip : ℕ}
+    → Begun mounted m qs lines left plan count shared most → (most ≡ 0 → ⊥) → tips ≡ busy_tips count most m
+    → tip ≡ chosen mounted tips → Chosen mounted m qs lines left plan count shared most tip
 chooses {mounted} b s t e = record { begun = b; lines_left = s; is_tip = e ∙ ap (chosen mounted) t }
 
-module _ {mounted : Mounted} {m : ℕ} {qs lines left plan counts : List ℕ} {shared most tip : ℕ}
-    (r : Chosen mounted m qs lines left plan counts shared most tip) where
+module _ {mounted : Mounted} {m : ℕ} {qs lines left plan : List ℕ} {count : ℕ → ℕ} {shared most tip : ℕ}
+    (r : Chosen mounted m qs lines left plan count shared most tip) where
   was : State mounted m qs lines left plan shared
   was = r.begun.state
 
   busiest_is : tip ≡ busiest mounted (to_plan qs left) m
   unfolding busiest
   busiest_is =
-      r.is_tip ∙ chosen-busiest mounted (count_at counts) m most r.lines_left r.begun.is_most r.begun.good.most
-      ∙ choice_cong mounted _ _ m (λ t _. (counted r.begun).counted t)
+      r.is_tip ∙ chosen-busiest mounted count m most r.lines_left r.begun.is_most r.begun.good.most
+      ∙ choice_cong mounted _ _ m (counted r.begun)
 
-  pub round_ready : {n : ℕ} {list₀ places₀ sets₀ taken₀ list places sets taken : List ℕ}
+  pub tip_lt : tip < m
+  tip_lt = omega (arith, busiest_is, busiest_lt mounted m (to_plan qs left) r.begun.good.some)
+
+  pub round_ready : {n : ℕ} {counts list₀ places₀ sets₀ taken₀ list places sets taken : List ℕ}
       → Ongoing mounted m shared qs lines left plan counts n list → Sizes list₀ places₀ sets₀ taken₀ list places sets taken
       → ListsFit (length lines) list₀ places₀ sets₀ taken₀ → RoundReady tip n qs left plan counts list places sets taken
   round_ready o s f = record {
-    tip_inside = omega (arith, busiest_is, busiest_lt mounted m (to_plan qs left) r.begun.good.some, r.begun.good.most);
+    tip_inside = omega (arith, tip_lt, r.begun.good.most);
     same = same r.begun;
     few = r.begun.good.few;
     size = was.plan_size;

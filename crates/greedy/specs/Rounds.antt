@@ -34,6 +34,11 @@ pub record QuickShared (mounted : Mounted) (rack : ℕ) (qs lines : List ℕ) (r
   pub plan_is : plan ≡ quick_plan_q mounted rack qs lines
   pub left_is : left ≡ replicate (length lines) 0
 
+-- the same of the plan alone
+pub record Shared (mounted : Mounted) (rack : ℕ) (qs lines : List ℕ) (r : ℕ) (plan : List ℕ) : Type 0 where
+  pub pairs_are : r ≡ pairs (repeated qs (quick_plan_q mounted rack qs lines))
+  pub plan_is : plan ≡ quick_plan_q mounted rack qs lines
+
 -- room for n lines: in the list of those without a tip, for the places of those with a tip, and for their sets and quantities
 pub record ListsFit (n : ℕ) (list places sets taken : List ℕ) : Type 0 where
   pub for_lines : n ≤ length list

@@ -4,8 +4,10 @@
 ghost use Rattle.std.specs.Prelude.{◌≡◌, ◌≤◌, length};
 ghost use Rattle.model.specs.Limits.{most_lines};
 ghost use Rattle.head.specs.OnHead.{on_head};
-ghost use Rattle.greedy.specs.Rounds.{Shareable, QuickShared, TakeReady, ListTaken};
+ghost use Rattle.greedy.specs.Rounds.{Shareable, QuickShared, Shared, TakeReady, ListTaken};
 ghost use Rattle.greedy.specs.Rounds.{RoundReady, RoundDone, Sizes, RoundsReady};
+
+mod eight;
 
 // The lines of the longest board, and those of a short one: room for fewer lines is sooner made.
 const MOST: usize = model::MOST_LINES;
@@ -109,20 +111,23 @@ impl<const N: usize> Rooms<N> {
     }
 }
 
-// The rounds of a board of at most N lines, with the rooms that they need.
+// The rounds of a board of at most N lines, with the rooms that they need. At the end each set of the working copy is empty.
 fn plan_in<const N: usize>(
     rack: usize,
     mounted: Option<usize>,
+    sets: &[u64],
     quantities: &[u8],
-    left: &mut [u64],
     plan: &mut [u8],
 ) -> u32
-    requires shareable { Shareable rack quantities.now left.old plan.old }
-    requires room { length left.old ≤ N }
+    requires shareable { Shareable rack quantities.now sets.now plan.old }
+    requires room { length sets.now ≤ N }
     requires size { N ≤ most_lines }
-    ensures { QuickShared (on_head mounted) rack quantities.now left.old result plan.new left.new }
+    ensures { Shared (on_head mounted) rack quantities.now sets.now result plan.new }
 {
-    let counts = counts::count_tips(left, quantities);
+    let mut room = [0; N];
+    let left = &mut room[..sets.len()];
+    unplanned::copy_sets(sets, left);
+    let counts = counts::count_tips(sets, quantities);
     let mut rooms = Rooms::<N> {
         counts,
         unplanned: 0,
@@ -134,20 +139,22 @@ fn plan_in<const N: usize>(
     rooms.take_rounds(rack, mounted, quantities, left, plan)
 }
 
-// The plan of quick sharing, and its pairs. The lines are the caller's working copy: at the end each set is empty.
+// The plan of quick sharing, and its pairs.
 pub fn plan_lines(
     rack: usize,
     mounted: Option<usize>,
-    left: &mut [u64],
+    sets: &[u64],
     quantities: &[u8],
     plan: &mut [u8],
 ) -> u32
-    requires { Shareable rack quantities.now left.old plan.old }
-    ensures { QuickShared (on_head mounted) rack quantities.now left.old result plan.new left.new }
+    requires { Shareable rack quantities.now sets.now plan.old }
+    ensures { Shared (on_head mounted) rack quantities.now sets.now result plan.new }
 {
-    if left.len() <= FEW {
-        plan_in::<FEW>(rack, mounted, quantities, left, plan)
-    } else {
-        plan_in::<MOST>(rack, mounted, quantities, left, plan)
+    if sets.len() > FEW {
+        return plan_in::<MOST>(rack, mounted, sets, quantities, plan);
     }
+    if rack > few_tips::TIPS {
+        return plan_in::<FEW>(rack, mounted, sets, quantities, plan);
+    }
+    eight::plan_lines(rack, mounted, sets, quantities, plan)
 }

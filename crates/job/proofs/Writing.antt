@@ -1,5 +1,5 @@
 -- Writing a file, and both ways round: what is written is read back, and what is read is written again.
-use Prim.Native.Nat.{ℕ, ◌+◌, ◌*◌}
+use Prim.Native.Nat.{ℕ, ◌+◌, ◌*◌, ◌≤◌}
 use native.Mathlib.Omega.{arith}
 use native.Mathlib.Nat.{lt_of_lt_of_le}
 use mathlib.Core.Path.{◌≡◌, refl, sym, ap, ap₂, ◌∙◌}
@@ -10,15 +10,19 @@ use lib.ListN.{length, drop, length-append, length-drop, take-append-drop}
 use lib.Seq.{drop_at}
 use lib.Dec.{T, eqb, eqb→eq, lt→ltb}
 use lib.Pow.{pow_mono}
+use borrow.Author.Tests.{eqb-true, eqb-false}
 use Rattle.model.specs.Count.{All, each}
 use Rattle.model.proofs.Tests.{true_T, eqb_T}
 use Rattle.model.proofs.Lists.{all_map, all_drop, each_iff}
+use Rattle.placements.specs.Repeated.{total}
 use Rattle.placements.specs.Good.{GoodLines}
+use Rattle.placements.proofs.Repeated.{length-repeated, repeated_ones}
+use Rattle.placements.proofs.Totals.{all_one}
 use Rattle.refusal.specs.Refusal.{none}
 use Rattle.job.specs.Job.{Bytes, header_length, line_length, file_length, paired, header_of, bytes_of_lines, file_of, version_for, written_of}
 use Rattle.job.specs.Job.{version_in, rack_in, count_in, sets_in, quantities_in, header_number, read_refusal, GoodHeader, InShorterForm, ReadsAs}
 use Rattle.job.proofs.HeaderLaws.{header_good, header_again, length-header_of, mark_back, version_back, rack_back, count_back}
-use Rattle.job.proofs.Lines.{Held, length-paired, length-bytes_of_lines, sets_back, quantities_back, lines_again}
+use Rattle.job.proofs.Lines.{Held, length-paired, paired-append, lines-append, length-bytes_of_lines, sets_back, quantities_back, lines_again}
 use Rattle.job.proofs.Reading.{length-sets_in, length-quantities_in, sets_after, quantities_after, bytes_quantities, plain_quantities}
 use Rattle.job.proofs.Reading.{read_good, read_iff, read_none}
 
@@ -54,6 +58,19 @@ one_version qs = by (each (λ q. eqb q 1) qs) (each_iff (λ q. eqb q 1) qs).0
     by true f e = all_map (λ q t. eqb→eq q 1 t) (f tt)
     by false f e = absurd (omega (arith, e))
 
+-- where no quantity is 0, their total tells it: it is the number of lines exactly where each is 1
+pub version_by_total : (qs : List ℕ) → All (λ q. 1 ≤ q) qs → cond (eqb (total qs) (length qs)) 1 2 ≡ version_for qs
+version_by_total qs placed = by (eqb (total qs) (length qs)) refl
+  where
+    by : (b : Bool) → eqb (total qs) (length qs) ≡ b → cond b 1 2 ≡ version_for qs
+    by true e = let few : total qs ≤ length qs = omega (arith, eqb-true _ _ e) in sym (version_one (all_one placed few))
+    by false e =
+        ⊎_elim
+        (λ v. absurd (eqb-false _ _ e
+        (sym (length-repeated qs qs refl) ∙ ap length (repeated_ones (one_version qs v) qs refl))))
+        sym
+        (version-for qs)
+
 -- ---- what is written is read back
 
 pub length-file_of : (v m : ℕ) (qs sets : List ℕ) → length qs ≡ length sets → length (file_of v m (paired sets qs)) ≡ file_length v (length sets)
@@ -63,6 +80,18 @@ length-file_of v m qs sets e =
     let n = length-paired sets qs e in
     length-append (header_of v m (length lines)) (bytes_of_lines v lines)
     ∙ ap₂ ◌+◌ (length-header_of v m (length lines)) (length-bytes_of_lines v lines ∙ ap (λ k. line_length v * k) n)
+
+-- the file of two lists of lines, one after the other
+pub file-append : (v m : ℕ) (sets others qs rs : List ℕ) → length qs ≡ length sets → length rs ≡ length others
+    → file_of v m (paired (sets ++ others) (qs ++ rs))
+    ≡ header_of v m (length sets + length others) ++ (bytes_of_lines v (paired sets qs) ++ bytes_of_lines v (paired others rs))
+unfolding file_of
+file-append v m sets others qs rs e f =
+    let lines = paired sets qs in
+    let more = paired others rs in
+    let count = length-append lines more ∙ ap₂ ◌+◌ (length-paired sets qs e) (length-paired others rs f) in
+    ap (λ l. header_of v m (length l) ++ bytes_of_lines v l) (paired-append sets others qs rs e)
+    ∙ ap₂ (λ n l. header_of v m n ++ l) count (lines-append v lines more)
 
 -- in either version that can hold the quantities
 module _ (v m : ℕ) (qs sets : List ℕ) (ok : (v ≡ 1) ⊎ (v ≡ 2)) (g : GoodLines m qs sets) (held : All (Held v) qs) where
@@ -144,17 +173,23 @@ module _ (m : ℕ) (qs sets : List ℕ) (g : GoodLines m qs sets) (small : Bytes
 
 -- ---- what is read is written again
 
+-- lines in its own version are its bytes
+pub own_lines : (file : List ℕ) → Bytes (drop header_length file) → GoodHeader file
+    → bytes_of_lines (version_in file) (paired (sets_in file) (quantities_in file)) ≡ drop header_length file
+own_lines file bytes g =
+    let v = version_in file in
+    ap₂ (λ s q. bytes_of_lines v (paired s q)) (sets_after file) (quantities_after file)
+    ∙ lines_again v (count_in file) (drop header_length file) bytes (simp length-drop (omega (arith, g.whole)))
+
 module _ (file : List ℕ) (bytes : Bytes file) where
-  -- in its own version
+  -- the whole in its own version
   pub form_again : GoodHeader file → file_of (version_in file) (rack_in file) (paired (sets_in file) (quantities_in file)) ≡ file
   unfolding file_of
   form_again g =
       let v = version_in file in
       let n = length-paired (sets_in file) (quantities_in file) (length-quantities_in file ∙ sym (length-sets_in file)) ∙ length-sets_in file in
-      ap₂ ◌++◌
-      (ap (header_of v (rack_in file)) n ∙ header_again file bytes g.start)
-      (ap₂ (λ s q. bytes_of_lines v (paired s q)) (sets_after file) (quantities_after file)
-      ∙ lines_again v (count_in file) (drop header_length file) (all_drop header_length bytes) (simp length-drop (omega (arith, g.whole))))
+      ap₂ ◌++◌ (ap (header_of v (rack_in file)) n ∙ header_again file bytes g.start)
+      (own_lines file (all_drop header_length bytes) g)
       ∙ take-append-drop header_length file
 
   -- a file in the shorter form that is read and written again is the same file

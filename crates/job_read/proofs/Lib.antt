@@ -1,2 +1,3 @@
 pub mod Swapped
 pub mod There
+pub mod ReadLines

@@ -1,18 +1,23 @@
-// The lines of a job file, each with its set and its quantity, read from its bytes, and whether they are good.
+// A job file read from its bytes: its refusal, and the sets and quantities of its lines.
 #![tactic(auto)]
 
+mod reading;
+
 ghost use Rattle.std.specs.Prelude.{◌≡◌, cond, ◌&&◌, ◌+◌, ◌*◌, ◌<◌, ◌≤◌, ◌^◌, eqb, leb, length, get_or, bit_or, IfOk};
+ghost use Rattle.std.specs.Bool.{then_some};
 ghost use Rattle.model.specs.Plan.{is_empty, in_rack};
 ghost use Rattle.model.specs.Limits.{most_lines, most_placements};
+ghost use Rattle.placements.specs.Repeated.{total};
 ghost use Rattle.placements.specs.Totals.{first_over};
 ghost use Rattle.job.specs.Job.{number_of, set_length, file_length, count_in, set_from, quantity_from, set_in, quantity_in};
-ghost use Rattle.job.specs.Job.{sets_in, quantities_in, line_numbers, good_lines, header_number};
+ghost use Rattle.job.specs.Job.{sets_in, quantities_in, line_numbers, good_lines, header_number, read_refusal};
 ghost use Rattle.job.specs.Header.{version_number, IsHeaderOf};
 ghost use Rattle.refusal.specs.Refusal.{scan, refuse_at};
 ghost use Rattle.refusal.specs.Reasons.{refusal_of, number_in};
 ghost use Rattle.job.specs.declared.Version.TheVariants.{Plain, Counted};
 
 use job::{Header, Version};
+pub use reading::{FEW, FileLines, MOST, Room, RoomOf, is_short, open, read_lines};
 use refusal::{Reason, Refused};
 
 // The eight bytes of the set of line `i` in a file of that version. They are a slice: `first_chunk` tests the length in each turn of a loop,
@@ -113,6 +118,15 @@ pub struct JobFile<'a> {
     ghost few_lines: { header.count ≤ most_lines },
 }
 
+// A file that is accepted, with the placements of its lines.
+#[derive(Clone, Copy)]
+pub struct GoodFile<'a> {
+    pub file: JobFile<'a>,
+    pub placements: usize,
+    ghost accepted: { (read_refusal file.bytes.now).number ≡ 0 },
+    ghost placements_are: { placements ≡ total (quantities_in file.bytes.now) },
+}
+
 impl<'a> JobFile<'a> {
     // Opens a file. It is refused by its first bytes, then by the number of its lines, then by its length.
     pub fn open(file: &'a [u8]) -> Result<JobFile<'a>, Reason>
@@ -142,11 +156,11 @@ impl<'a> JobFile<'a> {
         line_of(self.bytes, self.header.version, i)
     }
 
-    // The lines are good. The loop has no branch, so that it is quick where they are: the version stays, and the compiler makes a loop
-    // of each. The union is that of the sets with their bytes the other way round, and is swapped once.
+    // The placements of the lines, if they are good. The loop has no branch, so that it is quick where they are: the version stays, and the
+    // compiler makes a loop of each. The union is that of the sets with their bytes the other way round, and is swapped once.
     #[tactic(auto, using(job::proofs::Lines::file_few, crate::proofs::There::line_there))]
-    pub fn good_lines(self) -> bool
-        ensures { result ≡ good_lines self.entry.bytes.now }
+    pub fn good_total(self) -> Option<usize>
+        ensures { result ≡ then_some (good_lines self.entry.bytes.now) (total (quantities_in self.entry.bytes.now)) }
     {
         let version = self.header.version;
         let mut swapped = NONE;
@@ -158,7 +172,14 @@ impl<'a> JobFile<'a> {
             union: swapped.union.swap_bytes(),
             ..swapped
         };
-        gathered.is_good(self.header.rack)
+        gathered.is_good(self.header.rack).then_some(gathered.total)
+    }
+
+    // The lines are good.
+    pub fn good_lines(self) -> bool
+        ensures { result ≡ good_lines self.entry.bytes.now }
+    {
+        self.good_total().is_some()
     }
 
     // Reads the sets of a file without quantities, and tells in the same pass whether the lines are good.

@@ -6,6 +6,9 @@ ghost use Rattle.job.specs.Job.{header_length, set_length, counted, line_length,
 ghost use Rattle.job.specs.Job.{version_for, written_of};
 ghost use Rattle.job.specs.Header.{version_number};
 
+mod file_lines;
+
+pub use file_lines::put_file_lines;
 use job::{Header, Version};
 
 // The version that the quantities are written in. The loop has no branch: it gathers the bits in which some quantity is not 1.
@@ -86,6 +89,17 @@ fn put_lines(version: Version, quantities: &[u8], sets: &[u64], out: &mut [u8])
         let at = version.file_length(i);
         put_quantity(version, quantities[i], at, out);
         put_set_by_bytes(sets[i], at, out);
+    }
+}
+
+// The version of good lines, by their number and that of their placements: each line has at least one.
+pub fn version_of(count: usize, placements: usize) -> Version
+    ensures { version_number result ≡ cond (eqb placements count) 1 2 }
+{
+    if placements == count {
+        Version::Plain
+    } else {
+        Version::Counted
     }
 }
 

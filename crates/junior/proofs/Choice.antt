@@ -7,7 +7,7 @@ use mathlib.Core.List.{List}
 use lib.Arith.{digits_div, digits_mod}
 use Rattle.std.specs.Prelude.{Option, Some, None}
 use Rattle.model.specs.Plan.{pairs}
-use Rattle.holders.specs.Holders.{to_first, two_plan, is_choice, score}
+use Rattle.holder_rules.specs.Holders.{to_first, two_plan, is_choice, score}
 use Rattle.junior.specs.declared.Tips.{Tips}
 use Rattle.junior.specs.Found.{tips_on, score_is}
 

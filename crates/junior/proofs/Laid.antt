@@ -10,8 +10,9 @@ use Rattle.model.specs.Plan.{pairs}
 use Rattle.model.proofs.Tests.{T_true}
 use Rattle.placements.specs.Repeated.{repeated}
 use Rattle.placements.specs.Good.{GoodLines}
-use Rattle.holders.specs.Holders.{gathered, to_first, two_plan, is_choice, is_served, score, chosen, line_plan, first_tip, second_tip, junior_plan}
-use Rattle.holders.proofs.Junior.{junior_score, junior_rack}
+use Rattle.holder_rules.specs.Holders.{gathered, to_first, two_plan, is_choice, is_served, score, chosen}
+use Rattle.holder_rules.specs.Holders.{line_plan, first_tip, second_tip, junior_plan}
+use Rattle.holder_rules.proofs.Junior.{junior_score, junior_rack}
 use Rattle.junior.specs.declared.Tips.{Tips}
 use Rattle.junior.specs.Found.{tips_on, score_is, tips_of, found_of, plan_of}
 use Rattle.junior.proofs.Choice.{tips_with, score_on}

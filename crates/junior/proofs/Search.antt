@@ -6,32 +6,17 @@ use native.Mathlib.Numerals.{add-one}
 use mathlib.Core.Path.{◌≡◌, refl, sym, ap, ◌∙◌}
 use mathlib.Core.Logic.{⊎_elim}
 use Rattle.std.specs.Prelude.{Option, None}
-use mathlib.Core.Bool.{Bool, true, false, cond}
-use mathlib.Core.List.{List, [], ◌∷◌}
+use mathlib.Core.List.{List}
 use lib.Arith.{digits_lt, digits_div, digits_mod}
-use lib.ListN.{take}
 use Rattle.model.specs.Count.{largest, lowest_at}
 use Rattle.model.proofs.Tests.{le_or_lt}
 use Rattle.model.proofs.Largest.{largest-more, lowest-stays, lowest_moves, lowest_attains, lowest-largest}
-use Rattle.placements.specs.Repeated.{repeated, total, weighted}
-use Rattle.holders.specs.Holders.{score, chosen, first_tip, second_tip}
-use Rattle.holders.proofs.Counts.{score-below}
+use Rattle.placements.specs.Repeated.{repeated}
+use Rattle.holder_rules.specs.Holders.{score, chosen, first_tip, second_tip}
+use Rattle.holder_rules.proofs.Counts.{score-below}
 use Rattle.junior.specs.declared.Tips.{Tips}
 use Rattle.junior.specs.Found.{tips_on, score_is, tips_of}
 use Rattle.junior.proofs.Choice.{score_on, none_scored}
-
--- the sum of some of the first quantities is at most the total
-pub part_le : (f : ℕ → Bool) (qs xs : List ℕ) (i : ℕ) → weighted f (take i qs) (take i xs) ≤ total qs
-unfolding weighted total
-part_le f [] xs zero = omega arith
-part_le f [] xs (suc i) = omega arith
-part_le f (q ∷ qs) xs zero = omega arith
-part_le f (q ∷ qs) [] (suc i) = omega arith
-part_le f (q ∷ qs) (x ∷ xs) (suc i) = omega (arith, part (f x), part_le f qs xs i)
-  where
-    part : (b : Bool) → cond b q 0 ≤ q
-    part true = le_refl q
-    part false = omega arith
 
 -- of the numbers of tips below k, the choice with the largest score, and of these the lowest number
 pub record Sought (m : ℕ) (qs sets : List ℕ) (k : ℕ) (best : Option Tips) : Type 0 where

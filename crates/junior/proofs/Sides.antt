@@ -6,7 +6,7 @@ use mathlib.Core.Bool.{Bool, true, false, ◌&&◌, ◌||◌}
 use lib.Dec.{ltb}
 use Rattle.model.specs.Limits.{most_placements, most_pairs}
 use Rattle.model.proofs.Limits.{choose2_few}
-use Rattle.holders.specs.Holders.{side_pairs, score_by}
+use Rattle.holder_rules.specs.Holders.{side_pairs, score_by}
 
 pub side_few : (n x : ℕ) → x ≤ n → n ≤ most_placements → side_pairs n x ≤ most_pairs + most_pairs
 unfolding side_pairs

@@ -1,10 +1,15 @@
 -- What the search for the Junior's tips finds, and what it leaves in the plan.
-use Rattle.std.specs.Prelude.{ℕ, ◌+◌, cond, List, Option, Some, None}
+use Rattle.std.specs.Prelude.{ℕ, ◌+◌, ◌≤◌, ◌≡◌, cond, List, length, drop, Option, Some, None}
+use Rattle.model.specs.Count.{All}
 use Rattle.model.specs.Plan.{pairs}
 use Rattle.placements.specs.Repeated.{repeated}
-use Rattle.holders.specs.Holders.{to_first, two_plan, is_choice, is_served, first_tip, second_tip, junior_plan}
+use Rattle.holder_rules.specs.Holders.{to_first, two_plan, is_choice, is_served, first_tip, second_tip, junior_plan}
 use Rattle.junior.specs.declared.Tips.{Tips}
 use Rattle.junior.specs.declared.Found.{Found}
+
+-- each of the places behind the first n has the eight lowest tips
+abbrev pub Padded : ℕ → List ℕ → Type 0
+Padded n sets = (n ≤ length sets) × All (λ s. s ≡ 255) (drop n sets)
 
 -- the tips u and v with the pairs of their plan and the side for the lines that have both, where they are a choice
 unfoldable pub tips_on : List ℕ → ℕ → ℕ → Option Tips

@@ -1,16 +1,22 @@
 // The Junior with two holders over slices: the search for its one tip or two, and its plan.
 #![tactic(auto)]
 
-ghost use Rattle.std.specs.Prelude.{◌≡◌, cond, ◌&&◌, ◌||◌, ◌≤◌, ◌<◌, ltb, length};
-ghost use Rattle.model.specs.Limits.{most_tips, most_placements};
+ghost use Rattle.std.specs.Prelude.{◌≡◌, cond, not, ◌&&◌, ◌||◌, ◌^◌, ◌≤◌, ◌<◌, ltb, length, take};
+ghost use Rattle.model.specs.Limits.{most_placements};
 ghost use Rattle.model.specs.Plan.{has};
-ghost use Rattle.placements.specs.Repeated.{total, repeated};
+ghost use Rattle.placements.specs.Repeated.{total, weighted, repeated};
 ghost use Rattle.model.specs.Count.{All};
 ghost use Rattle.placements.specs.Good.{GoodLines};
-ghost use Rattle.holders.specs.Holders.{gathered, side_pairs};
-ghost use Rattle.junior.specs.Found.{tips_on, score_is, tips_of, found_of, plan_of};
+ghost use Rattle.holder_rules.specs.Holders.{serves, gathered, side_pairs};
+ghost use Rattle.junior.specs.Found.{Padded, tips_on, score_is, tips_of, found_of, plan_of};
 
 use placements::Lines;
+
+// The lines of the longest board. A set is one byte, and the places behind the last line have every tip.
+const LINES: usize = 64;
+
+// The lines that are asked together.
+const BLOCK: usize = 16;
 
 // The plan's pairs, and its tips u and v.
 #[derive(Clone, Copy, Debug, PartialEq, Eq)]
@@ -28,25 +34,53 @@ struct Tips {
     first: bool,
 }
 
-// The placements of a line that has the tip.
-// `tip < most_tips` stays a clause here and below: it bounds a number that is passed.
-fn placed(set: u64, tip: usize, quantity: u8) -> u32
-    requires { tip < most_tips }
-    ensures { result ≡ cond (has set tip) quantity 0 }
-{
-    if tips::has_tip(set, tip) {
-        u32::from(quantity)
-    } else {
-        0
-    }
-}
-
-fn has_one(set: u64, u: usize, v: usize) -> bool
-    requires u { u < most_tips }
-    requires v { v < most_tips }
+fn has_one(set: u8, u: usize, v: usize) -> bool
+    requires u { u < 8 }
+    requires v { v < 8 }
     ensures { result ≡ (has set u || has set v) }
 {
-    tips::has_tip(set, u) || tips::has_tip(set, v)
+    few_tips::has_tip(set, u) || few_tips::has_tip(set, v)
+}
+
+// Some line of a block has neither: all are asked, because a branch at each would often be mispredicted.
+fn misses(block: &[u8], u: usize, v: usize) -> bool
+    requires u { u < 8 }
+    requires v { v < 8 }
+    ensures { result ≡ not (serves block.now u v) }
+{
+    let mut missed = false;
+    for &set in block {
+        missed |= !has_one(set, u, v);
+    }
+    missed
+}
+
+// Each line has u or v: given up at the first block in which one has neither.
+fn serve_all(u: usize, v: usize, sets: &[u8; LINES]) -> bool
+    requires u { u < 8 }
+    requires v { v < 8 }
+    ensures { result ≡ serves sets.now u v }
+{
+    for i in 0..LINES / BLOCK {
+        if misses(&sets[BLOCK * i..BLOCK * i + BLOCK], u, v) {
+            return false;
+        }
+    }
+    true
+}
+
+// The placements of the lines that have the tip, summed in 16 bits, which hold them.
+fn with_tip(tip: usize, lines: &[u8], quantities: &[u8]) -> u32
+    requires tip { tip < 8 }
+    requires same { length quantities.now ≡ length lines.now }
+    requires few { total quantities.now ≤ most_placements }
+    ensures { result ≡ weighted (λ s. has s tip) quantities.now lines.now }
+{
+    let mut sum = 0;
+    for (i, &set) in lines.iter().enumerate() {
+        sum += few_tips::placed(set, tip, quantities[i]);
+    }
+    u32::from(sum)
 }
 
 // The pairs where `on` of all the placements are on one tip and the others on another.
@@ -66,24 +100,21 @@ fn each_used(same: bool, all: u32, with_u: u32, with_v: u32) -> bool
 }
 
 // The tips u and v with their plan's pairs. They are no choice where a line has neither, or where one of two different tips gets no line.
-fn on_tips(u: usize, v: usize, lines: &[u64], quantities: &[u8], all: u32) -> Option<Tips>
+fn on_tips(u: usize, v: usize, sets: &[u8; LINES], quantities: &[u8], all: u32) -> Option<Tips>
     requires ordered { u ≤ v }
-    requires inside { v < most_tips }
-    requires same { length quantities.now ≡ length lines.now }
+    requires inside { v < 8 }
+    requires padded { Padded (length quantities.now) sets.now }
     requires placed { All (λ q. 1 ≤ q) quantities.now }
     requires all { all ≡ total quantities.now }
     requires few { all ≤ most_placements }
-    ensures { result ≡ tips_on (repeated quantities.now lines.now) u v }
+    ensures { result ≡ tips_on (repeated quantities.now (take (length quantities.now) sets.now)) u v }
 {
-    let mut with_u = 0;
-    let mut with_v = 0;
-    for (&set, &quantity) in lines.iter().zip(quantities) {
-        if !has_one(set, u, v) {
-            return None;
-        }
-        with_u += placed(set, u, quantity);
-        with_v += placed(set, v, quantity);
+    if !serve_all(u, v, sets) {
+        return None;
     }
+    let lines = &sets[..quantities.len()];
+    let with_u = with_tip(u, lines, quantities);
+    let with_v = with_tip(v, lines, quantities);
     if !each_used(u == v, all, with_u, with_v) {
         return None;
     }
@@ -113,15 +144,17 @@ fn better(first: Option<Tips>, next: Tips) -> Option<Tips>
 
 // The tips with the most pairs, of these the lowest u, then the lowest v.
 // The rack stands beside the lines: it is not their length.
-fn choose_tips(m: usize, lines: &[u64], quantities: &[u8], all: u32) -> Option<Tips>
-    requires good { GoodLines m quantities.now lines.now }
+fn choose_tips(m: usize, sets: &[u8; LINES], quantities: &[u8], all: u32) -> Option<Tips>
+    requires narrow { m ≤ 8 }
+    requires padded { Padded (length quantities.now) sets.now }
+    requires good { GoodLines m quantities.now (take (length quantities.now) sets.now) }
     requires all { all ≡ total quantities.now }
-    ensures { result ≡ tips_of m quantities.now lines.now }
+    ensures { result ≡ tips_of m quantities.now (take (length quantities.now) sets.now) }
 {
     let mut best = None;
     for u in 0..m {
         for v in u..m {
-            if let Some(next) = on_tips(u, v, lines, quantities, all) {
+            if let Some(next) = on_tips(u, v, sets, quantities, all) {
                 best = better(best, next);
             }
         }
@@ -129,12 +162,12 @@ fn choose_tips(m: usize, lines: &[u64], quantities: &[u8], all: u32) -> Option<T
     best
 }
 
-fn tip_for(set: u64, tip: usize, other: usize) -> u8
-    requires tip { tip < most_tips }
-    requires other { other < most_tips }
+fn tip_for(set: u8, tip: usize, other: usize) -> u8
+    requires tip { tip < 8 }
+    requires other { other < 8 }
     ensures { result ≡ cond (has set tip) tip other }
 {
-    if tips::has_tip(set, tip) {
+    if few_tips::has_tip(set, tip) {
         tip as u8
     } else {
         other as u8
@@ -143,9 +176,9 @@ fn tip_for(set: u64, tip: usize, other: usize) -> u8
 
 // The lines that have the tip on it, and the others on the other one.
 // The clause on the plan's length stays here and below: it is the size of a buffer that is written.
-fn lay_lines(tip: usize, other: usize, lines: &[u64], plan: &mut [u8])
-    requires tip { tip < most_tips }
-    requires other { other < most_tips }
+fn lay_lines(tip: usize, other: usize, lines: &[u8], plan: &mut [u8])
+    requires tip { tip < 8 }
+    requires other { other < 8 }
     requires size { length plan.old ≡ length lines.now }
     ensures { plan.new ≡ gathered lines.now tip other }
 {
@@ -156,9 +189,9 @@ fn lay_lines(tip: usize, other: usize, lines: &[u64], plan: &mut [u8])
 }
 
 // The lines that have both go to their side.
-fn lay_tips(tips: Tips, lines: &[u64], plan: &mut [u8])
-    requires u { tips.found.u < most_tips }
-    requires v { tips.found.v < most_tips }
+fn lay_tips(tips: Tips, lines: &[u8], plan: &mut [u8])
+    requires u { tips.found.u < 8 }
+    requires v { tips.found.v < 8 }
     requires size { length plan.old ≡ length lines.now }
     ensures { plan.new ≡ cond tips.first (gathered lines.now tips.found.u tips.found.v)
         (gathered lines.now tips.found.v tips.found.u) }
@@ -171,14 +204,29 @@ fn lay_tips(tips: Tips, lines: &[u64], plan: &mut [u8])
     }
 }
 
+// The sets in bytes, with every tip in the places behind them.
+fn pad_sets(sets: &[u64]) -> [u8; LINES]
+    requires short { length sets.now ≤ 64 }
+    requires narrow { All (λ s. s < 2 ^ 8) sets.now }
+    ensures front { take (length sets.now) result ≡ sets.now }
+    ensures padded { Padded (length sets.now) result }
+{
+    let mut padded = [u8::MAX; LINES];
+    few_tips::narrow_sets(sets, &mut padded[..sets.len()]);
+    padded
+}
+
 // The plan is laid where some tips serve every line; else it stays as it was.
 pub fn plan_lines(lines: Lines<'_>, plan: &mut [u8]) -> Option<Found>
-    requires { length plan.old ≡ length lines.sets.now }
+    requires size { length plan.old ≡ length lines.sets.now }
+    requires short { length lines.sets.now ≤ 64 }
+    requires narrow { lines.rack ≤ 8 }
     ensures answer { result ≡ found_of lines.entry.rack lines.entry.quantities.now lines.entry.sets.now }
     ensures plan { plan.new ≡ plan_of lines.entry.rack lines.entry.quantities.now lines.entry.sets.now plan.old }
 {
     let all = lines.total() as u32;
-    let tips = choose_tips(lines.rack, lines.sets, lines.quantities, all)?;
-    lay_tips(tips, lines.sets, plan);
+    let sets = pad_sets(lines.sets);
+    let tips = choose_tips(lines.rack, &sets, lines.quantities, all)?;
+    lay_tips(tips, &sets[..lines.len()], plan);
     Some(tips.found)
 }

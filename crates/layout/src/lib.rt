@@ -4,10 +4,14 @@
 ghost use Rattle.std.specs.Prelude.{◌≡◌, ℕ, ◌+◌, ◌*◌, ◌≤◌, ◌<◌, List, map, T, length};
 ghost use Rattle.model.specs.Count.{All};
 ghost use Rattle.model.specs.Plan.{Domain};
-ghost use Rattle.model.specs.Interval.{any, is_run, plan_for};
+ghost use Rattle.model.specs.Interval.{any, is_run, plan_for, table as table_of};
 ghost use Rattle.head.specs.OnHead.{on_head};
-ghost use Rattle.layout.specs.Picks.{most_by, split_by, lowest_by, pick_by, Ready, Searchable};
+ghost use Rattle.spans.specs.Spans.{RunSums};
+ghost use Rattle.intervals.specs.Splits.{split_by};
+ghost use Rattle.layout.specs.Picks.{lowest_by, pick_by, Searchable};
 ghost use Rattle.layout.specs.Owners.{owner_of, owned, laid};
+
+use intervals::{Interval, Lines};
 
 // The lines of a rack of m tips, counted: their sums, the most pairs of each interval of tips, and the tip that is mounted.
 #[derive(Clone, Copy)]
@@ -20,29 +24,20 @@ pub struct Counted<'a> {
 }
 
 impl Counted<'_> {
-    // The most pairs of the interval of first tip a and width w, from the table. No tip has 0 pairs: callers add or compare the number.
+    // The pairs of the interval of first tip a and width w if tip a + i takes its lines.
     // `a + w ≤ m` stays a clause here and below: it bounds two numbers that are passed, and no value holds them with the rack.
-    // They are no struct as in striking: `split` and `lay` would make two more for the halves, and the clauses would name its fields.
-    #[tactic(auto, unfolding(crate::specs::Picks::most_by))]
-    fn most(&self, a: usize, w: usize) -> u32
-        requires { a + w ≤ self.now.m }
-        ensures { result ≡ most_by self.now.m self.now.table.now a w }
-    {
-        if w == 0 {
-            return 0;
-        }
-        self.table[a * self.m + (a + w - 1)]
-    }
-
-    // The pairs of the interval if tip a + i takes its lines.
-    fn split(&self, a: usize, w: usize, i: usize) -> u32
+    // They are no struct as in striking: `lay` would make two more for the halves, and the clauses would name its fields.
+    fn split(&self, a: usize, w: usize, i: usize) -> u64
         requires inside { a + w ≤ self.now.m }
         requires own { i < w }
-        ensures { result ≡ split_by self.now.m self.now.sums.now self.now.table.now a w i }
+        ensures { result ≡ split_by self.now.m self.now.sums.now self.now.table.now 0 a w i }
     {
-        let inside = spans::inside_at(self.m, self.sums, a, w, a + i);
-        let here = pair_count::pairs_among(inside);
-        here + (self.most(a, i) + self.most(a + i + 1, w - (i + 1)))
+        let lines = Lines {
+            m: self.m,
+            added: 0,
+            sums: self.sums,
+        };
+        lines.split_at(Interval { first: a, width: w }, i, 0, self.table)
     }
 
     // The lowest tip of the interval, less a, that attains the most pairs.
@@ -51,7 +46,7 @@ impl Counted<'_> {
         requires wide { 0 < w }
         ensures { result ≡ lowest_by self.now.m self.now.sums.now self.now.table.now a w }
     {
-        let most = self.most(a, w);
+        let most = intervals::entry_at(self.m, a, w, self.table);
         (0..w).find(|i| most <= self.split(a, w, *i)).unwrap()
     }
 
@@ -63,7 +58,11 @@ impl Counted<'_> {
         ensures is { result ≡ pick_by (on_head self.now.mounted) self.now.m self.now.sums.now self.now.table.now a w }
     {
         match self.mounted {
-            Some(t) if a <= t && t - a < w && self.most(a, w) <= self.split(a, w, t - a) => t - a,
+            Some(t)
+                if a <= t
+                    && t - a < w
+                    && intervals::entry_at(self.m, a, w, self.table) <= self.split(a, w, t - a) => t
+                - a,
             _ => self.lowest(a, w),
         }
     }
@@ -126,7 +125,7 @@ impl Counted<'_> {
         requires runs { All (λ s. T (is_run s)) sets.now }
         requires places { self.now.m * self.now.m ≤ length owner.old }
         requires size { length plan.old ≡ length sets.now }
-        ensures { (lines : List ℕ) → Ready self.now.m lines self.now.sums.now self.now.table.now
+        ensures { (lines : List ℕ) → RunSums self.now.m 0 lines self.now.sums.now → self.now.table.now ≡ table_of self.now.m lines
             → plan.new ≡ plan_for (on_head self.now.mounted) any self.now.m lines sets.now }
     {
         self.lay(0, self.m, owner);

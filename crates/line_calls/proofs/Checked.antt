@@ -17,10 +17,10 @@ use Rattle.refusal.specs.Refusal.{none}
 use Rattle.refusal.proofs.Laws.{or_first, or_next, or_none, lent_accepted}
 use Rattle.call_refusals.specs.Calls.{best_refusal}
 use Rattle.call_refusals.proofs.Calls.{best_none}
-use Rattle.goals.specs.Check.{entry, Accepted}
-use Rattle.goals.proofs.Check.{own_accepted}
+use Rattle.goal_rules.specs.Check.{entry, Accepted}
+use Rattle.goal_rules.proofs.Check.{own_accepted}
 use Rattle.checking.specs.Checking.{check_refusal}
-use Rattle.checking.proofs.Bounds.{place_lt}
+use Rattle.intervals.proofs.Entry.{place_lt}
 use Rattle.checking.proofs.Laws.{refused_none, accepted_none, checked-best}
 use Rattle.line_calls.specs.Lines.{best_buffer, best_table, check_of}
 use Rattle.line_calls.specs.Rules.{CheckRule}

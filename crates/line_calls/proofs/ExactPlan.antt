@@ -1,7 +1,7 @@
 -- Exact sharing: what it answers and leaves, refused and accepted; the rule of its plan, and its few pairs.
 use Prim.Native.Nat.{ℕ, ◌≤◌, zero-le}
 use native.Mathlib.Omega.{arith}
-use mathlib.Core.Path.{◌≡◌, refl, sym, ◌∙◌}
+use mathlib.Core.Path.{◌≡◌, refl, sym, ap, ◌∙◌}
 use mathlib.Core.Bool.{Bool, true, false}
 use mathlib.Core.List.{List, ◌++◌}
 use borrow.Author.Tests.{eqb-true, eqb-false, ltb-false}
@@ -20,10 +20,10 @@ use Rattle.refusal.specs.Refusal.{accepts, or_else, when}
 use Rattle.refusal.proofs.Laws.{or_first, or_none, when-none, refused, accepted, lent_refused, lent_accepted}
 use Rattle.call_refusals.specs.Calls.{plan_refusal}
 use Rattle.call_refusals.proofs.Calls.{plan_first, plan_none}
-use Rattle.subsets.specs.Subsets.{tips_used, exact_plan_q}
-use Rattle.subsets.specs.Exact.{most_named, capped}
-use Rattle.subsets.specs.Table.{table_places, exact_table}
-use Rattle.subsets.proofs.Placements.{exact-capped}
+use Rattle.subset_rules.specs.Subsets.{tips_used, exact_plan_q}
+use Rattle.subset_rules.specs.Exact.{most_named, capped}
+use Rattle.subset_rules.specs.Table.{table_places, exact_table}
+use Rattle.subset_rules.proofs.Placements.{exact-capped}
 use Rattle.line_calls.specs.Answers.{ExactAnswer}
 use Rattle.line_calls.specs.Exact.{count_named, exact_refusal, exact_of, exact_buffer, exact_cells, ExactRule}
 
@@ -55,6 +55,15 @@ module _ (earlier : Refusal) (m : ℕ) (lines : List ℕ) (room places : ℕ) wh
   pub exact_first : (earlier.number ≡ 0 → ⊥) → earlier ≡ exact_refusal earlier m lines room places
   unfolding exact_refusal
   exact_first n = or_first (plan_first earlier n (length lines) room) _ n
+
+pub exact_later : {d earlier : Refusal} → d ≡ earlier → (d.number ≡ 0 → ⊥) → (m : ℕ) (lines : List ℕ) (room places : ℕ)
+    → d ≡ exact_refusal earlier m lines room places
+exact_later {d} e n m lines room places = exact_first d m lines room places n ∙ ap (λ r. exact_refusal r m lines room places) e
+
+-- the same after the same refusal
+pub exact_as : (m : ℕ) (lines : List ℕ) (room places : ℕ) {d first earlier : Refusal}
+    → d ≡ exact_refusal first m lines room places → first ≡ earlier → d ≡ exact_refusal earlier m lines room places
+exact_as m lines room places p e = p ∙ ap (λ r. exact_refusal r m lines room places) e
 
 module _ (earlier : Refusal) (m : ℕ) (mounted : Mounted) (price : ℕ) (qs lines old cells : List ℕ) where
   abbrev laid : List ℕ

@@ -19,8 +19,8 @@ use Rattle.refusal.specs.Refusal.{none, refuse, accepts, when}
 use Rattle.refusal.proofs.Laws.{or_first, or_next, or_same, refused, accepted, lent_refused, lent_accepted}
 use Rattle.call_refusals.specs.Junior
 use Rattle.call_refusals.proofs.Junior.{junior_none}
-use Rattle.holders.specs.Holders.{is_served, first_tip, second_tip, junior_plan, NoneOnTips}
-use Rattle.holders.proofs.Junior.{junior, unserved}
+use Rattle.holder_rules.specs.Holders.{is_served, first_tip, second_tip, junior_plan, NoneOnTips}
+use Rattle.holder_rules.proofs.Junior.{junior, unserved}
 use Rattle.junior.specs.declared.Found.{Found}
 use Rattle.junior.specs.Found.{found_of, plan_of}
 use Rattle.line_calls.specs.Answers.{JuniorAnswer}

@@ -27,12 +27,12 @@ use Rattle.common_tip.proofs.Laws.{margin_small}
 use Rattle.common_tip.proofs.Signed.{zero_fits}
 use Rattle.refusal.specs.Told.{Refusal}
 use Rattle.refusal.specs.Refusal.{none, accepts, or_else, lent_by}
-use Rattle.refusal.proofs.Laws.{when_taken}
+use Rattle.refusal.proofs.Laws.{when_taken, number_of, accepted}
 use Rattle.call_refusals.specs.Calls.{is_negative, keep_refusal}
 use Rattle.call_refusals.proofs.Calls.{keep-none}
 use Rattle.line_calls.specs.Answers.{KeepAnswer}
 use Rattle.line_calls.specs.Lines.{keep_of, sets_kept}
-use Rattle.line_calls.specs.Rules.{NoneWithin}
+use Rattle.line_calls.specs.Rules.{NoneWithin, KeepRule}
 
 module _ (m : ℕ) (lines : List ℕ) (k : ℕ) where
   -- below zero exactly when there are more placements than top + k
@@ -144,3 +144,18 @@ module _ (m : ℕ) (qs lines : List ℕ) (k : ℕ) where
       let through = keep-through none m qs lines k lines refl {n = length lines} refl whole e f h in
       let last : kept ++ drop (length lines) lines ≡ kept = ap (λ l. kept ++ l) (drop-length lines) ∙ append-nil kept in
       (rw g through.0, sym last ∙ through.1)
+
+  -- THE KEEP RULE of what the code answers and leaves
+  pub keep-rule : GoodLines m qs lines → {r : KeepAnswer} {last : List ℕ} → Keeps none m qs lines k lines r last
+      → KeepRule none.number m qs lines k last r.refusal.number
+  unfolding keep_of sets_kept
+  keep-rule good {r} {last} (answer, left) =
+      let told : r.refusal ≡ keep_refusal none (margin m (repeated qs lines) k) = ap (λ a. a.refusal) answer in
+      let (there, back) = keep-refuses none k (λ _. good) refl in
+      record {
+        exact = λ z.
+            let kept : last ≡ prune_q m qs lines k =
+            left ∙ accepted _ lines told z ∙ rw (drop-length lines) (append-nil (prune_q m qs lines k)) in
+            rw kept (keep_exact none k (λ _. good) (number_of told z));
+        refuses = λ _. (λ e. there (ap (λ x. x.number) (sym told) ∙ e), λ f. ap (λ x. x.number) told ∙ back f);
+      }

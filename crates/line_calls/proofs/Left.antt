@@ -25,7 +25,7 @@ use Rattle.refusal.proofs.Laws.{or_none, accepted, lent_accepted}
 use Rattle.call_refusals.specs.Calls.{mounted_refusal, plan_refusal, best_refusal}
 use Rattle.call_refusals.proofs.Calls.{mounted_none, mounted_inside, plan_none, best_none}
 use Rattle.call_refusals.proofs.Junior.{junior_none}
-use Rattle.holders.specs.Holders.{junior_plan}
+use Rattle.holder_rules.specs.Holders.{junior_plan}
 use Rattle.line_calls.specs.Lines.{quick_of, best_of, best_buffer, best_table, check_of}
 use Rattle.line_calls.specs.Junior.{junior_refusal, junior_of}
 use Rattle.line_calls.specs.Rules.{HandedOut}

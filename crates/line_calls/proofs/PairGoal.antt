@@ -16,9 +16,9 @@ use Rattle.model.proofs.Run.{run_misses}
 use Rattle.placements.specs.Good.{GoodLines}
 use Rattle.refusal.specs.Told.{Refusal}
 use Rattle.refusal.specs.Refusal.{none, accepts, or_else, lent_by}
-use Rattle.refusal.proofs.Laws.{or_first, or_next, or_none, scan-none, lent_refused, lent_accepted}
+use Rattle.refusal.proofs.Laws.{or_first, or_next, or_none, scan-none, accepted, lent_refused, lent_accepted}
 use Rattle.call_refusals.specs.Calls.{run_refusal}
-use Rattle.goals.specs.Goal.{strike, Struck}
+use Rattle.goal_rules.specs.Goal.{strike, Struck}
 use Rattle.striking.specs.Striking.{goal_refusal, struck_by}
 use Rattle.striking.proofs.Laws.{struck_exact, refused_iff}
 use Rattle.line_calls.specs.Goal.{goal_asked, goal_of, struck_sets, NoneMeets, GoalRule}
@@ -136,3 +136,18 @@ module _ (m : ℕ) (qs lines : List ℕ) (K : ℕ) (sets : List ℕ) (size : len
       let (answer, left) = goal-through none m qs lines K sets e refl {n = length sets} size f (rw whole g) in
       let same : last ++ drop (length sets) sets ≡ last = ap (λ l. last ++ l) (drop-length sets) ∙ append-nil last in
       (answer, sym same ∙ left)
+
+-- the rule of what the code answers and leaves
+pub goal-ruled : (m : ℕ) (qs lines : List ℕ) (K : ℕ) (sets : List ℕ) → length sets ≡ length lines → GoodLines m qs lines
+    → {r : Refusal} {last : List ℕ} → Strikes none m qs lines K sets r last
+    → GoalRule (goal_asked none lines).number m qs lines K last r.number
+unfolding struck_sets
+goal-ruled m qs lines K sets size good {r} {last} (told, left) =
+    let rule = goal-rule none K (λ _. good) in
+    let struck : r.number ≡ 0 → last ≡ strike m qs lines K = λ z.
+    left ∙ accepted _ sets told z ∙ rw (← size, drop-length sets) (append-nil (strike m qs lines K)) in
+    rw (ap (λ x. x.number) told) (record {
+      runs = rule.runs;
+      exact = λ z. rw (struck (ap (λ x. x.number) told ∙ z)) (rule.exact z);
+      refuses = rule.refuses;
+    })

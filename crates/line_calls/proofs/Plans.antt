@@ -1,12 +1,12 @@
 -- Quick and best sharing of lines: what they answer and leave, refused and accepted, and the rules of the plans handed out.
 use Prim.Native.Nat.{ℕ, ◌*◌}
-use mathlib.Core.Path.{◌≡◌, refl, sym, ◌∙◌}
+use mathlib.Core.Path.{◌≡◌, refl, sym, ap, ◌∙◌}
 use mathlib.Core.List.{List, ◌++◌}
 use lib.Dec.{T}
 use lib.ListN.{length, drop}
 use lib.Seq.{take_at}
 use Rattle.model.specs.Plan.{Valid, pairs}
-use Rattle.model.specs.Choice.{Mounted}
+use Rattle.model.specs.Choice.{Mounted, bare}
 use Rattle.model.specs.Count.{All}
 use Rattle.model.specs.Interval.{named, is_run_of, C, table}
 use Rattle.model.proofs.Valid.{valid_length}
@@ -17,12 +17,35 @@ use Rattle.placements.specs.Good.{GoodLines}
 use Rattle.placements.specs.Plans.{quick_plan_q, best_plan_q}
 use Rattle.placements.proofs.Plans.{quick_valid_lines, quick_half_placements, best_valid_lines, best-pairs-placements, best-placements}
 use Rattle.refusal.specs.Told.{Refusal}
+use Rattle.refusal.specs.Refusal.{none}
 use Rattle.refusal.proofs.Laws.{number_of, or_same, refused, accepted, lent_refused, lent_accepted}
-use Rattle.call_refusals.specs.Calls.{plan_refusal, best_refusal}
-use Rattle.call_refusals.proofs.Calls.{best_none}
+use Rattle.call_refusals.specs.Calls.{mounted_refusal, plan_refusal, best_refusal}
+use Rattle.call_refusals.proofs.Calls.{plan_first, best_first, best_none}
 use Rattle.line_calls.specs.Answers.{PlanAnswer}
 use Rattle.line_calls.specs.Lines.{plan_answer, quick_of, quick_buffer, best_of, best_buffer, best_table}
 use Rattle.line_calls.specs.Rules.{HandedOut, HalfRule, BestRule}
+
+-- without a mounted tip nothing is asked
+pub bare_none : (m : ℕ) → mounted_refusal none m bare ≡ none
+unfolding mounted_refusal
+bare_none m = refl
+
+-- an earlier refusal stays
+module _ {d earlier : Refusal} (e : d ≡ earlier) (n : d.number ≡ 0 → ⊥) where
+  pub plan_later : (count room : ℕ) → d ≡ plan_refusal earlier count room
+  plan_later count room = plan_first d n count room ∙ ap (λ r. plan_refusal r count room) e
+
+  pub best_later : (m : ℕ) (lines : List ℕ) (room places : ℕ) → d ≡ best_refusal earlier m lines room places
+  best_later m lines room places = best_first d n m lines room places ∙ ap (λ r. best_refusal r m lines room places) e
+
+-- the same after the same refusal
+pub plan_as : (count room : ℕ) {d first earlier : Refusal} → d ≡ plan_refusal first count room → first ≡ earlier
+    → d ≡ plan_refusal earlier count room
+plan_as count room p e = p ∙ ap (λ r. plan_refusal r count room) e
+
+pub best_as : (m : ℕ) (lines : List ℕ) (room places : ℕ) {d first earlier : Refusal}
+    → d ≡ best_refusal first m lines room places → first ≡ earlier → d ≡ best_refusal earlier m lines room places
+best_as m lines room places p e = p ∙ ap (λ r. best_refusal r m lines room places) e
 
 -- the answer where the call is refused, and where it is accepted
 module _ {d r : Refusal} (e : d ≡ r) where

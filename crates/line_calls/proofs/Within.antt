@@ -23,8 +23,8 @@ use Rattle.placements.specs.Repeated.{repeated}
 use Rattle.placements.specs.Good.{GoodLines}
 use Rattle.placements.proofs.Repeated.{all-repeated, repeated-map}
 use Rattle.placements.proofs.Valid.{valid_repeated, valid_once}
-use Rattle.goals.specs.Tables.{Solved}
-use Rattle.goals.proofs.Solved.{C_solved, solved_le, whole_le}
+use Rattle.goal_rules.specs.Tables.{Solved}
+use Rattle.goal_rules.proofs.Solved.{C_solved, solved_le, whole_le}
 use Rattle.line_calls.specs.Table.{sets_within, quantities_within, MostPairs}
 
 module _ (a w : ℕ) where

@@ -8,9 +8,9 @@ use Rattle.placements.specs.Repeated.{repeated}
 use Rattle.refusal.specs.Told.{Refusal}
 use Rattle.refusal.specs.Refusal.{or_else, when, told, lent_by}
 use Rattle.call_refusals.specs.Calls.{plan_refusal}
-use Rattle.subsets.specs.Subsets.{tips_used, exact_plan_q}
-use Rattle.subsets.specs.Exact.{most_named, capped}
-use Rattle.subsets.specs.Table.{table_places, exact_table}
+use Rattle.subset_rules.specs.Subsets.{tips_used, exact_plan_q}
+use Rattle.subset_rules.specs.Exact.{most_named, capped}
+use Rattle.subset_rules.specs.Table.{table_places, exact_table}
 use Rattle.line_calls.specs.Answers.{ExactAnswer}
 use Rattle.line_calls.specs.Rules.{HandedOut}
 

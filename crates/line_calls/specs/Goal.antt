@@ -7,7 +7,7 @@ use Rattle.placements.specs.Repeated.{repeated}
 use Rattle.refusal.specs.Told.{Refusal}
 use Rattle.refusal.specs.Refusal.{or_else, lent_by}
 use Rattle.call_refusals.specs.Calls.{run_refusal}
-use Rattle.goals.specs.Goal.{strike, Struck}
+use Rattle.goal_rules.specs.Goal.{strike, Struck}
 use Rattle.striking.specs.Striking.{goal_refusal}
 
 -- what is refused before the goal is looked at: the earlier refusal, then 25 at the first line that is no run

@@ -5,7 +5,7 @@ use Rattle.placements.specs.Repeated.{repeated}
 use Rattle.refusal.specs.Told.{Refusal}
 use Rattle.refusal.specs.Refusal.{or_else, when, told, lent_by}
 use Rattle.call_refusals.specs.Junior
-use Rattle.holders.specs.Holders.{is_served, first_tip, second_tip, junior_plan, OnTips, NoneOnTips}
+use Rattle.holder_rules.specs.Holders.{is_served, first_tip, second_tip, junior_plan, OnTips, NoneOnTips}
 use Rattle.line_calls.specs.Answers.{JuniorAnswer}
 use Rattle.line_calls.specs.Rules.{HandedOut}
 

@@ -4,8 +4,8 @@ use Rattle.model.specs.Count.{All}
 use Rattle.model.specs.Plan.{has, occ, Valid, pairs}
 use Rattle.model.specs.Interval.{Misses}
 use Rattle.placements.specs.Repeated.{repeated}
-use Rattle.placements.specs.Keep.{WithinQ, LeastOffQ}
-use Rattle.goals.specs.Check.{Accepted}
+use Rattle.placements.specs.Keep.{WithinQ, LeastOffQ, ExactQ}
+use Rattle.goal_rules.specs.Check.{Accepted}
 
 -- an accepted common tip: off is the least over all valid plans, and the set has the tips in some line that as many placements allow as top
 pub record CommonRule (m : ℕ) (qs lines : List ℕ) (number top off tips : ℕ) : Type 0 where
@@ -15,6 +15,12 @@ pub record CommonRule (m : ℕ) (qs lines : List ℕ) (number top off tips : ℕ
 -- no valid plan is within k placements
 abbrev pub NoneWithin : ℕ → List ℕ → List ℕ → ℕ → Type 0
 NoneWithin m qs lines k = (plan : List ℕ) → Valid lines plan → WithinQ m qs k plan → ⊥
+
+-- the keep rule, where asked is the number refused before keep and kept are the sets left: a tip stays on a line exactly when some valid plan within
+-- k placements uses it there, and 26 exactly when no valid plan is within k
+pub record KeepRule (asked m : ℕ) (qs lines : List ℕ) (k : ℕ) (kept : List ℕ) (number : ℕ) : Type 0 where
+  pub exact : number ≡ 0 → ExactQ m qs lines k kept
+  pub refuses : asked ≡ 0 → (number ≡ 26) ↔ NoneWithin m qs lines k
 
 -- a plan handed out, as its bytes stand in the buffer: each line is on a tip of its own set, and the placement pairs counted in it are those reported
 pub record HandedOut (qs lines buffer : List ℕ) (shared : ℕ) : Type 0 where

@@ -4,10 +4,10 @@ ghost use Rattle.model.specs.Limits.{most_tips};
 ghost use Rattle.head.specs.OnHead.{on_head};
 ghost use Rattle.refusal.specs.Refusal.{none};
 ghost use Rattle.refusal.specs.Reasons.{refusal_of};
+ghost use Rattle.call_refusals.specs.Calls.{mounted_refusal};
 ghost use Rattle.line_calls.specs.Answers.{exact_told};
 ghost use Rattle.line_calls.specs.Exact.{exact_refusal, exact_of, exact_buffer, exact_cells};
 
-use crate::copy_sets;
 use exact::Shared;
 use placements::Lines;
 use refusal::{Reason, Refused};
@@ -31,19 +31,20 @@ pub fn exact(
     plan: &mut [u8],
     table: &mut [u32],
 ) -> Result<Shared, Refused>
-    ensures answer { exact_told result ≡ exact_of none lines.entry.rack (on_head mounted) price
-        lines.entry.quantities.now lines.entry.sets.now (length plan.old) (length table.old) }
-    ensures plan { plan.new ≡ exact_buffer none lines.entry.rack (on_head mounted) price
-        lines.entry.quantities.now lines.entry.sets.now plan.old (length table.old) }
-    ensures table { table.new ≡ exact_cells none lines.entry.rack price
-        lines.entry.quantities.now lines.entry.sets.now (length plan.old) table.old }
+    ensures answer { exact_told result ≡ exact_of (mounted_refusal none lines.entry.rack (on_head mounted))
+        lines.entry.rack (on_head mounted) price lines.entry.quantities.now lines.entry.sets.now (length plan.old) (length table.old) }
+    ensures plan { plan.new ≡ exact_buffer (mounted_refusal none lines.entry.rack (on_head mounted))
+        lines.entry.rack (on_head mounted) price lines.entry.quantities.now lines.entry.sets.now plan.old (length table.old) }
+    ensures table { table.new ≡ exact_cells (mounted_refusal none lines.entry.rack (on_head mounted))
+        lines.entry.rack price lines.entry.quantities.now lines.entry.sets.now (length plan.old) table.old }
 {
+    call_refusals::mounted_refusal(lines.rack, mounted)?;
     exact_refusal(lines.rack, lines.sets, plan.len(), table.len())?;
     let count = lines.len();
     let places = exact::table_places(exact::count_named(lines.rack, lines.sets));
     let mut room = [0u64; model::MOST_LINES];
     let left = &mut room[..count];
-    copy_sets(lines.sets, left);
+    unplanned::copy_sets(lines.sets, left);
     Ok(exact::plan_board(
         lines.rack,
         mounted,

@@ -2,7 +2,7 @@
 ghost use Rattle.std.specs.Prelude.{◌≡◌, length};
 ghost use Rattle.refusal.specs.Refusal.{none};
 ghost use Rattle.refusal.specs.Reasons.{refusal_of};
-ghost use Rattle.line_calls.specs.Goal.{goal_of, struck_sets};
+ghost use Rattle.line_calls.specs.Goal.{goal_asked, goal_of, struck_sets, GoalRule};
 
 use placements::Lines;
 use refusal::Refused;
@@ -14,6 +14,9 @@ pub fn goal(lines: Lines<'_>, goal: u32, struck: &mut [u64]) -> Result<(), Refus
         ≡ goal_of none lines.entry.rack lines.entry.quantities.now lines.entry.sets.now goal }
     ensures sets { struck.new
         ≡ struck_sets none lines.entry.rack lines.entry.quantities.now lines.entry.sets.now goal struck.old }
+    ensures rule { GoalRule (goal_asked none lines.entry.sets.now).number
+        lines.entry.rack lines.entry.quantities.now lines.entry.sets.now goal
+        struck.new (refusal_of result).number }
 {
     call_refusals::run_refusal(lines.sets)?;
     striking::strike(lines, ranks::names_of(lines.sets), goal, struck)

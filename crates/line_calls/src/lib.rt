@@ -5,12 +5,12 @@ ghost use Rattle.std.specs.Prelude.{◌≡◌, Ok, length};
 ghost use Rattle.placements.specs.Good.{GoodLines};
 ghost use Rattle.head.specs.OnHead.{on_head};
 ghost use Rattle.refusal.specs.Refusal.{none};
-ghost use Rattle.refusal.specs.Reasons.{refusal_of};
-ghost use Rattle.call_refusals.specs.Calls.{best_refusal};
+ghost use Rattle.refusal.specs.Reasons.{refusal_of, unkept_of};
+ghost use Rattle.call_refusals.specs.Calls.{mounted_refusal, best_refusal};
 ghost use Rattle.line_calls.specs.Answers.{common_told, keep_told, plan_told, file_told};
 ghost use Rattle.line_calls.specs.Lines.{common_of, keep_of, sets_kept, quick_of, quick_buffer};
 ghost use Rattle.line_calls.specs.Lines.{best_of, best_buffer, best_table, check_of, write_of, write_buffer};
-ghost use Rattle.line_calls.specs.Rules.{CommonRule, HalfRule, BestRule, CheckRule};
+ghost use Rattle.line_calls.specs.Rules.{CommonRule, KeepRule, HalfRule, BestRule, CheckRule};
 
 use common_tip::Common;
 use placements::Lines;
@@ -42,39 +42,30 @@ pub fn keep(rack: usize, lines: &mut [u64], quantities: &[u8], k: u16) -> Result
     requires { GoodLines rack quantities.now lines.old }
     ensures answer { keep_told result ≡ keep_of none rack quantities.now lines.old k }
     ensures sets { lines.new ≡ sets_kept none rack quantities.now lines.old k lines.old }
+    ensures rule { KeepRule none.number rack quantities.now lines.old k lines.new (unkept_of result).number }
 {
     let margin = common_tip::keep_lines(rack, lines, quantities, k);
     call_refusals::keep_refusal(margin)
 }
 
-// Set by set: of `copy_from_slice` the compiler makes memmove here, which the header does not name.
-fn copy_sets(sets: &[u64], left: &mut [u64])
-    requires { length left.old ≡ length sets.now }
-    ensures { left.new ≡ sets.now }
-{
-    for (i, set) in left.iter_mut().enumerate() {
-        *set = sets[i];
-    }
-}
-
-// The pairs of the plan of quick sharing, which uses up a working copy of the sets.
+// The pairs of the plan of quick sharing. This and each other call on a mounted tip ask first whether the rack has the tip.
 pub fn quick(lines: Lines<'_>, mounted: Option<usize>, plan: &mut [u8]) -> Result<u32, Refused>
     ensures answer { plan_told result
-        ≡ quick_of none lines.entry.rack (on_head mounted) lines.entry.quantities.now lines.entry.sets.now (length plan.old) }
+        ≡ quick_of (mounted_refusal none lines.entry.rack (on_head mounted)) lines.entry.rack (on_head mounted)
+        lines.entry.quantities.now lines.entry.sets.now (length plan.old) }
     ensures plan { plan.new
-        ≡ quick_buffer none lines.entry.rack (on_head mounted) lines.entry.quantities.now lines.entry.sets.now plan.old }
+        ≡ quick_buffer (mounted_refusal none lines.entry.rack (on_head mounted)) lines.entry.rack (on_head mounted)
+        lines.entry.quantities.now lines.entry.sets.now plan.old }
     ensures rule { HalfRule lines.entry.quantities.now lines.entry.sets.now
         plan.new (refusal_of result).number (plan_told result).pairs }
 {
+    call_refusals::mounted_refusal(lines.rack, mounted)?;
     let count = lines.len();
     call_refusals::plan_refusal(count, plan.len())?;
-    let mut room = [0u64; model::MOST_LINES];
-    let left = &mut room[..count];
-    copy_sets(lines.sets, left);
     Ok(greedy::plan_lines(
         lines.rack,
         mounted,
-        left,
+        lines.sets,
         lines.quantities,
         &mut plan[..count],
     ))
@@ -87,21 +78,22 @@ pub fn best(
     plan: &mut [u8],
     table: &mut [u32],
 ) -> Result<u32, Refused>
-    ensures answer { plan_told result ≡ best_of none lines.entry.rack lines.entry.quantities.now lines.entry.sets.now
-        (length plan.old) (length table.old) }
-    ensures plan { plan.new ≡ best_buffer none lines.entry.rack (on_head mounted) lines.entry.quantities.now
-        lines.entry.sets.now plan.old (length table.old) }
-    ensures table { table.new ≡ best_table none lines.entry.rack lines.entry.quantities.now lines.entry.sets.now
-        (length plan.old) table.old }
+    ensures answer { plan_told result ≡ best_of (mounted_refusal none lines.entry.rack (on_head mounted)) lines.entry.rack
+        lines.entry.quantities.now lines.entry.sets.now (length plan.old) (length table.old) }
+    ensures plan { plan.new ≡ best_buffer (mounted_refusal none lines.entry.rack (on_head mounted)) lines.entry.rack (on_head mounted)
+        lines.entry.quantities.now lines.entry.sets.now plan.old (length table.old) }
+    ensures table { table.new ≡ best_table (mounted_refusal none lines.entry.rack (on_head mounted)) lines.entry.rack
+        lines.entry.quantities.now lines.entry.sets.now (length plan.old) table.old }
     ensures rule { BestRule lines.entry.quantities.now lines.entry.sets.now
         plan.new (refusal_of result).number (plan_told result).pairs }
 {
+    call_refusals::mounted_refusal(lines.rack, mounted)?;
     call_refusals::best_refusal(lines.rack, lines.sets, plan.len(), table.len())?;
     let count = lines.len();
     let square = lines.rack * lines.rack;
     let mut room = [0u64; model::MOST_LINES];
     let left = &mut room[..count];
-    copy_sets(lines.sets, left);
+    unplanned::copy_sets(lines.sets, left);
     Ok(best::plan_lines(
         lines.rack,
         mounted,

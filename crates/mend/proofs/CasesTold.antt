@@ -13,7 +13,7 @@ use Rattle.cases.proofs.Laws.{told_or, told_when}
 use Rattle.call_cases.specs.Reading.{start_cases}
 use Rattle.call_cases.proofs.Tests.{less_iff}
 use Rattle.call_cases.proofs.Reading.{start_told}
-use Rattle.mending.specs.Mending.{mended_file, mended_report, mend_refusal}
+use Rattle.mend_rules.specs.Mending.{mended_file, mended_report, mend_refusal}
 use Rattle.mend.specs.Cases.{mend_cases}
 
 either_iff : (a b : Bool) {P Q : Type 0} → T a ↔ P → T b ↔ Q → T (a || b) ↔ (P ⊎ Q)

@@ -2,15 +2,15 @@
 use Prim.Native.Nat.{ℕ, ◌+◌, ◌/◌, ◌%◌}
 use native.Mathlib.Omega.{arith}
 use native.Mathlib.Nat.{div-one}
-use mathlib.Core.Path.{◌≡◌, refl, sym, ap, ◌∙◌}
+use mathlib.Core.Path.{◌≡◌, refl, ap, ◌∙◌}
 use mathlib.Core.Bool.{Bool, true, false, cond}
 use mathlib.Core.List.{List, [], ◌∷◌, ◌++◌, append_assoc}
 use lib.ListN.{length}
 use Rattle.job.specs.Job.{bytes_of, JobLine}
-use Rattle.mending.specs.Mending.{noted, is_cleared, is_emptied, is_raised, is_dropped, codes, on_line, whole_file, recounted, has_more_bytes}
-use Rattle.mending.specs.Mending.{changes_in, bytes_of_changes, mended_report}
-use Rattle.mending.proofs.Steps.{report_append}
-use Rattle.mend.specs.Mend.{line_changes, change}
+use Rattle.mend_rules.specs.Mending.{noted, is_cleared, is_emptied, is_raised, is_dropped, codes, on_line, whole_file, recounted, has_more_bytes}
+use Rattle.mend_rules.specs.Mending.{changes_in, bytes_of_changes, mended_report}
+use Rattle.mend_rules.proofs.Steps.{report_append}
+use Rattle.mend.specs.Mend.{line_changes, change, whole_report}
 
 -- one more where the test passes
 pub length-noted : {A : Type 0} (b : Bool) (x : A) (xs : List A) → length (noted b x xs) ≡ cond b 1 0 + length xs
@@ -83,11 +83,8 @@ two-changes true b i j k = refl
 two-changes false b i j k = refl
 
 -- the report of a file: the changes of its lines, and the two of the file
-pub report_parts : (file : List ℕ) {a b : Bool} → a ≡ recounted file → b ≡ has_more_bytes file
-    → mended_report file ≡ bytes_of_changes (line_changes file) ++ change a whole_file 5 ++ change b whole_file 6
+pub report_parts : (file : List ℕ) → mended_report file ≡ bytes_of_changes (line_changes file) ++ whole_report file
 unfolding changes_in
-report_parts file e f =
-    rw (e, f)
-    (report_append (line_changes file) _
+report_parts file =
+    report_append (line_changes file) _
     ∙ ap (λ l. bytes_of_changes (line_changes file) ++ l) (two-changes (recounted file) (has_more_bytes file) whole_file 5 6)
-    ∙ sym (append_assoc (bytes_of_changes (line_changes file)) (change (recounted file) whole_file 5) (change (has_more_bytes file) whole_file 6)))

@@ -2,6 +2,8 @@ pub mod There
 pub mod Codes
 pub mod Filled
 pub mod Pass
+pub mod Inside
+pub mod One
 pub mod Room
 pub mod Answer
 pub mod Starred

@@ -7,12 +7,12 @@ use mathlib.Core.List.{List, [], ◌++◌}
 use lib.ListN.{length, take, get_or, length-append, length-map}
 use lib.Seq.{take_all}
 use Rattle.job.specs.Job.{JobLine, line_of, bytes_of_lines, rack_in, set_in, quantity_in}
-use Rattle.mending.specs.Mending.{mended_line, after, stays, codes, running, kept, on_line, changes, read_count, read_lines, bytes_of_changes}
-use Rattle.mending.proofs.Steps.{running_more, length-kept-more, written-more, report_more}
-use Rattle.mending.proofs.Lengths.{length_report}
-use Rattle.mending.specs.Rules.{no_line}
-use Rattle.mending.proofs.Lines.{line_at}
-use Rattle.mending.proofs.Files.{length-read_lines}
+use Rattle.mend_rules.specs.Mending.{mended_line, after, stays, codes, running, kept, on_line, changes, read_count, read_lines, bytes_of_changes}
+use Rattle.mend_rules.proofs.Steps.{running_more, length-kept-more, written-more, report_more}
+use Rattle.mend_rules.proofs.Lengths.{length_report}
+use Rattle.mend_rules.specs.Rules.{no_line}
+use Rattle.mend_rules.proofs.Lines.{line_at}
+use Rattle.mend_rules.proofs.Files.{length-read_lines}
 use Rattle.mend.specs.Mend.{line_with}
 
 -- what is known before line i of a file: the rack, the number of lines read, and the running total

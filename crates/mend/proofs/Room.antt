@@ -1,16 +1,20 @@
 -- The length of the report, and that what the first lines give is no longer than what all lines give.
 use Prim.Native.Nat.{ℕ, ◌≤◌, ◌+◌, ◌*◌}
 use native.Mathlib.Omega.{arith}
-use mathlib.Core.Path.{◌≡◌, sym, ap, ◌∙◌}
-use mathlib.Core.Bool.{cond}
+use native.Mathlib.Nat.{mul-le-mul_left}
+use mathlib.Core.Path.{◌≡◌, refl, sym, ap, ◌∙◌}
+use mathlib.Core.Bool.{Bool, true, false, cond, ◌||◌}
 use mathlib.Core.List.{List, [], ◌++◌}
 use lib.ListN.{length, take, drop, length-append, take-append-drop}
-use Rattle.job.specs.Job.{header_length, bytes_of_lines, version_in, rack_in}
-use Rattle.mending.specs.Mending.{noted, running, kept, changes, read_lines, lines_kept_in, mended_file, whole_file}
-use Rattle.mending.specs.Mending.{recounted, has_more_bytes, changes_in, bytes_of_changes, mended_report}
+use lib.Dec.{ltb}
+use borrow.Author.Tests.{le-ltb, ltb-false}
+use Rattle.job.specs.Job.{header_length, line_length, file_length, bytes_of_lines, version_in, rack_in}
+use Rattle.mend_rules.specs.Mending.{noted, running, kept, changes, read_count, read_lines, lines_kept_in, mended_file, whole_file}
+use Rattle.mend_rules.specs.Mending.{recounted, has_more_bytes, changes_in, bytes_of_changes, mended_report}
 use Rattle.job.proofs.Lines.{length-bytes_of_lines, lines-append}
-use Rattle.mending.proofs.Steps.{kept_append, changes-append, report_append}
-use Rattle.mending.proofs.Lengths.{length_report, length_mended}
+use Rattle.mend_rules.proofs.Steps.{kept_append, changes-append, report_append}
+use Rattle.mend_rules.proofs.Files.{kept_few}
+use Rattle.mend_rules.proofs.Lengths.{length_report, report_bound, length_mended}
 use Rattle.mend.specs.Mend.{line_changes}
 use Rattle.mend.proofs.Codes.{length-noted}
 use Rattle.mend.proofs.Pass.{kept_to, changes_to}
@@ -55,3 +59,21 @@ module _ (file : List ℕ) where
   -- the mended file has its header, and its lines
   pub mended_parts : length (mended_file file) ≡ header_length + length (bytes_of_lines (version_in file) (lines_kept_in file))
   mended_parts = omega (arith, length_mended file, length-bytes_of_lines (version_in file) (lines_kept_in file))
+
+  -- where the most that can be written fits, so do both
+  pub never_short : (room space : ℕ) → file_length (version_in file) (read_count file) ≤ room → 3 * (2 * read_count file + 3) ≤ space
+      → (ltb room (length (mended_file file)) || ltb space (length (mended_report file))) ≡ false
+  never_short room space f g =
+      let few = mul-le-mul_left (line_length (version_in file)) (kept_few file) in
+      rw (
+        le-ltb room (length (mended_file file)) (omega (arith, f, length_mended file, few)),
+        le-ltb space (length (mended_report file)) (omega (arith, g, report_bound file)),
+      ) refl
+
+-- neither of two tests, that a length is above a room
+pub both-fit : (a b c d : ℕ) → (ltb a b || ltb c d) ≡ false → (b ≤ a) × (d ≤ c)
+both-fit a b c d e = let (f, g) = neither (ltb a b) (ltb c d) e in (ltb-false a b f, ltb-false c d g)
+  where
+    neither : (x y : Bool) → (x || y) ≡ false → (x ≡ false) × (y ≡ false)
+    neither false y e = (refl, e)
+    neither true y e = cc

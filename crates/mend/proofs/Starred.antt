@@ -4,8 +4,8 @@ use Rattle.model.specs.Count.{All, none, more, list_of}
 use Rattle.model.specs.Plan.{in_rack, rack_ok}
 use Rattle.refusal.specs.Refusal.{or_else}
 use Rattle.job.specs.Job.{bytes_of, number_of, number_at, line_length, paired, header_of, line_of, bytes_of_lines, file_of, version_ok, start_number}
-use Rattle.mending.specs.Mending.{lines_in, read_count, mended_line, left_empty, after, stays, codes, kept, changes, mended_file, changes_in}
-use Rattle.mending.specs.Mending.{bytes_of_changes, mend_refusal}
+use Rattle.mend_rules.specs.Mending.{lines_in, read_count, mended_line, left_empty, after, stays, codes, kept, changes, mended_file, changes_in}
+use Rattle.mend_rules.specs.Mending.{bytes_of_changes, mend_refusal}
 use Rattle.mend.specs.Call.{mend_of, out_after, report_after}
 use Rattle.mend.specs.Rows.{run, rows, Gives}
 use Rattle.mend.specs.Rows.{B75_plain, B75_counted, B76_3, B76_65535, B77_1, B77_0, B78, B79_more, B79_less, B79_counted, B80, B81_plain}

@@ -7,8 +7,8 @@ use mathlib.Core.List.{List}
 use lib.ListN.{length}
 use Rattle.job.specs.Job.{header_length, line_length, file_length, version_in, start_number}
 use Rattle.job.proofs.HeaderLaws.{start_good}
-use Rattle.mending.specs.Mending.{read_count}
-use Rattle.mending.proofs.Lengths.{read_whole}
+use Rattle.mend_rules.specs.Mending.{read_count}
+use Rattle.mend_rules.proofs.Lengths.{read_whole}
 
 module _ (file : List ℕ) (s : start_number file ≡ 0) where
   pub start_long : header_length ≤ length file

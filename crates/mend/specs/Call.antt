@@ -1,8 +1,8 @@
 -- What a call of mending answers, what it leaves in both buffers, and what it promises of their bytes.
 use Rattle.std.specs.Prelude.{ℕ, ◌≡◌, List, length, take}
 use Rattle.refusal.specs.Refusal.{refuse, told, lent_by}
-use Rattle.mending.specs.Mending.{mended_file, mended_report, mend_refusal}
-use Rattle.mending.specs.Rules.{MendRule}
+use Rattle.mend_rules.specs.Mending.{mended_file, mended_report, mend_refusal}
+use Rattle.mend_rules.specs.Rules.{MendRule}
 use Rattle.mend.specs.Answers.{Mended}
 
 -- the answer of a call that is refused by n

@@ -3,7 +3,7 @@ use Rattle.std.specs.Prelude.{ℕ, ◌<◌, ◌⊎◌, List, [], ◌∷◌, ◌+
 use Rattle.refusal.specs.declared.Reason.TheVariants.{ShortOutput}
 use Rattle.cases.specs.Cases.{Case, plain}
 use Rattle.call_cases.specs.Reading.{start_cases}
-use Rattle.mending.specs.Mending.{mended_file, mended_report}
+use Rattle.mend_rules.specs.Mending.{mended_file, mended_report}
 
 -- 6, 7, 8, 1, then 11: the output has fewer bytes than the mended file, or the one for the report than the report
 abbrev pub mend_cases : List ℕ → ℕ → ℕ → List Case

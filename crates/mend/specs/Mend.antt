@@ -1,8 +1,9 @@
 -- The parts of the mended file and of the report that the contracts of the passes cite.
-use Rattle.std.specs.Prelude.{ℕ, ◌+◌, Bool, cond, List, []}
+use Rattle.std.specs.Prelude.{ℕ, ◌+◌, Bool, cond, List, [], ◌++◌}
 use Rattle.model.specs.Limits.{most_placements}
 use Rattle.job.specs.Job.{JobLine, line_of, bytes_of_lines, version_in, rack_in}
-use Rattle.mending.specs.Mending.{mended_line, stays, noted, codes, on_line, changes, read_lines, lines_kept_in, bytes_of_changes}
+use Rattle.mend_rules.specs.Mending.{mended_line, stays, noted, codes, on_line, changes, read_lines, lines_kept_in, bytes_of_changes}
+use Rattle.mend_rules.specs.Mending.{whole_file, recounted, has_more_bytes}
 
 -- the line of a set and a quantity
 abbrev pub line_with : ℕ → ℕ → JobLine
@@ -31,3 +32,7 @@ line_report i m t l = bytes_of_changes (on_line i (codes m t l))
 -- the bytes of a change of line i, where its test passes
 abbrev pub change : Bool → ℕ → ℕ → List ℕ
 change test i code = bytes_of_changes (noted test (i, code) [])
+
+-- the bytes of the changes of the whole file
+abbrev pub whole_report : List ℕ → List ℕ
+whole_report file = change (recounted file) whole_file 5 ++ change (has_more_bytes file) whole_file 6

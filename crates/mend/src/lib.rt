@@ -1,4 +1,4 @@
-// Mending a job file over slices: a first pass counts what is kept and what is reported, a second writes both. A good file is copied.
+// Mending a job file over slices: one pass writes the mended file and the report. A good file is copied.
 #![tactic(auto)]
 
 mod change;
@@ -43,16 +43,8 @@ pub fn mend(file: &[u8], out: &mut [u8], report: &mut [u8]) -> Result<Sizes, Ref
             report_bytes: 0,
         });
     }
-    let measured = measure::measure(started);
-    let bytes = measured.mended_length();
-    let report_bytes = measured.report_length();
-    if out.len() < bytes || report.len() < report_bytes {
+    if measure::is_short(started, out.len(), report.len()) {
         return Err(Reason::ShortOutput.at(0));
     }
-    write::write_file(measured, out);
-    report::write_report(measured, report);
-    Ok(Sizes {
-        bytes,
-        report_bytes,
-    })
+    Ok(write::write_both(started, out, report))
 }

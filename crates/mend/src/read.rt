@@ -1,9 +1,9 @@
 // The lines that mending reads of a file.
-ghost use Rattle.std.specs.Prelude.{◌≡◌, ◌<◌, eqb, IfOk};
-ghost use Rattle.job.specs.Job.{set_in, quantity_in, start_number, read_refusal};
+ghost use Rattle.std.specs.Prelude.{◌≡◌, ◌<◌, ◌+◌, ◌*◌, not, eqb, IfOk};
+ghost use Rattle.job.specs.Job.{set_in, quantity_in, start_number, read_refusal, version_in, count_in, file_length};
 ghost use Rattle.job.specs.Header.{IsHeaderOf};
 ghost use Rattle.refusal.specs.Reasons.{number_in};
-ghost use Rattle.mending.specs.Mending.{read_count, has_more_bytes};
+ghost use Rattle.mend_rules.specs.Mending.{read_count, has_more_bytes};
 
 use crate::line::Line;
 use job::Header;
@@ -29,7 +29,7 @@ pub struct Started<'a> {
 }
 
 impl<'a> Started<'a> {
-    #[tactic(auto, using(job::proofs::Lines::line_long), unfolding(mending::specs::Mending::read_count))]
+    #[tactic(auto, using(job::proofs::Lines::line_long), unfolding(mend_rules::specs::Mending::read_count))]
     pub fn open(file: &'a [u8]) -> Result<Started<'a>, Reason>
         ensures refusal { number_in result ≡ start_number file.now }
         ensures same { IfOk result (λ started. started.bytes.now ≡ file.now) }
@@ -54,11 +54,25 @@ impl<'a> Started<'a> {
         Line { set, quantity }
     }
 
-    // Bytes follow the last line read.
+    // The bytes of the header and of all lines read: the mended file has no more.
     #[tactic(auto, using(crate::proofs::There::lines_there))]
+    pub fn whole_length(self) -> usize
+        ensures { result ≡ file_length (version_in self.entry.bytes.now) (read_count self.entry.bytes.now) }
+    {
+        self.header.version.file_length(self.count)
+    }
+
+    // Bytes follow the last line read.
     pub fn has_more(self) -> bool
         ensures { result ≡ has_more_bytes self.entry.bytes.now }
     {
-        self.header.version.file_length(self.count) < self.bytes.len()
+        self.whole_length() < self.bytes.len()
+    }
+
+    // The count written, which is that of the lines kept, differs from the count found.
+    pub fn is_recounted(self, kept: usize) -> bool
+        ensures { result ≡ not (eqb kept (count_in self.entry.bytes.now)) }
+    {
+        kept != self.header.count
     }
 }

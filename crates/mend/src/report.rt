@@ -1,13 +1,12 @@
-// The second pass, second part: the report. Each `put_` function returns the place after what it wrote.
-ghost use Rattle.std.specs.Prelude.{◌≡◌, ◌++◌, ◌≤◌, length, drop};
+// The report. Each `put_` function returns the place after what it wrote.
+ghost use Rattle.std.specs.Prelude.{◌≡◌, length};
 ghost use Rattle.text.specs.Buffer.{Room, Put};
-ghost use Rattle.mending.specs.Mending.{codes, bytes_of_changes, mended_report};
-ghost use Rattle.mend.specs.Mend.{line_changes, line_report, change};
+ghost use Rattle.mend_rules.specs.Mending.{lines_kept_in, codes};
+ghost use Rattle.mend.specs.Mend.{line_report, whole_report, change};
 ghost use Rattle.mend.specs.Parts.{read_as, code_of};
 
 use crate::change::Change;
 use crate::line::Line;
-use crate::measure::Measured;
 use crate::read::Started;
 use crate::running::Running;
 
@@ -27,8 +26,22 @@ fn put_change(made: bool, index: usize, kind: Change, at: usize, report: &mut [u
     at
 }
 
-// Writes the changes of one line from `at` on; most lines have none.
-fn put_codes(
+// Writes the changes of one line from `at` on. Few lines have any: out of line, they leave the registers to the loop over the lines.
+#[cold]
+#[inline(never)]
+fn put_changed(index: usize, running: Running, line: Line, at: usize, report: &mut [u8]) -> usize
+    requires { Room report.old at (line_report index running.rack running.total (read_as line)) }
+    ensures { Put report.old at (line_report index running.rack running.total (read_as line)) result report.new }
+{
+    let changed = running.changed(line);
+    let at = put_change(changed.cleared, index, Change::Cleared, at, report);
+    let at = put_change(changed.emptied, index, Change::Emptied, at, report);
+    let at = put_change(changed.raised, index, Change::Raised, at, report);
+    put_change(changed.dropped, index, Change::Dropped, at, report)
+}
+
+// The same, where the line has changes; most lines have none.
+pub fn put_codes(
     index: usize,
     running: Running,
     line: Line,
@@ -41,40 +54,24 @@ fn put_codes(
     ensures { Put report.old at (line_report index running.rack running.total (read_as line)) result report.new }
 {
     if changes == 0 {
-        return at;
+        at
+    } else {
+        put_changed(index, running, line, at, report)
     }
-    let changed = running.changed(line);
-    let at = put_change(changed.cleared, index, Change::Cleared, at, report);
-    let at = put_change(changed.emptied, index, Change::Emptied, at, report);
-    let at = put_change(changed.raised, index, Change::Raised, at, report);
-    put_change(changed.dropped, index, Change::Dropped, at, report)
 }
 
-// Writes the changes of the lines to the front of the report.
-fn put_changes(file: Started<'_>, report: &mut [u8]) -> usize
-    requires { Room report.old 0 (bytes_of_changes (line_changes file.bytes.now)) }
-    ensures { Put report.old 0 (bytes_of_changes (line_changes file.entry.bytes.now)) result report.new }
+// Writes the changes of the whole file from `at` on.
+pub fn put_whole(file: Started<'_>, kept: usize, at: usize, report: &mut [u8]) -> usize
+    requires kept_is { kept ≡ length (lines_kept_in file.bytes.now) }
+    requires room { Room report.old at (whole_report file.bytes.now) }
+    ensures { Put report.old at (whole_report file.entry.bytes.now) result report.new }
 {
-    let mut running = Running::new(file.header.rack);
-    let mut at = 0;
-    for i in 0..file.count {
-        let line = file.line(i);
-        let step = running.step(line);
-        at = put_codes(i, running, line, step.changes, at, report);
-        running = step.next;
-    }
-    at
-}
-
-// Writes the report to the front of its buffer.
-pub fn write_report(measured: Measured<'_>, report: &mut [u8])
-    requires { length (mended_report measured.file.bytes.now) ≤ length report.old }
-    ensures { report.new ≡ mended_report measured.entry.file.bytes.now
-        ++ drop (length (mended_report measured.entry.file.bytes.now)) report.old }
-{
-    let recounted = measured.is_recounted();
-    let more = measured.file.has_more();
-    let at = put_changes(measured.file, report);
-    let at = put_change(recounted, WHOLE, Change::Recounted, at, report);
-    put_change(more, WHOLE, Change::MoreBytes, at, report);
+    let at = put_change(
+        file.is_recounted(kept),
+        WHOLE,
+        Change::Recounted,
+        at,
+        report,
+    );
+    put_change(file.has_more(), WHOLE, Change::MoreBytes, at, report)
 }

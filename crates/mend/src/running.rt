@@ -2,7 +2,7 @@
 ghost use Rattle.std.specs.Prelude.{◌≡◌, cond, ◌&&◌, eqb, leb, ◌+◌, ◌≤◌, length};
 ghost use Rattle.model.specs.Limits.{most_placements};
 ghost use Rattle.job.specs.Job.{line_number};
-ghost use Rattle.mending.specs.Mending.{over, after, stays, is_cleared, is_emptied, is_raised, is_dropped, codes};
+ghost use Rattle.mend_rules.specs.Mending.{over, after, stays, is_cleared, is_emptied, is_raised, is_dropped, codes};
 ghost use Rattle.mend.specs.Mend.{most_running};
 ghost use Rattle.mend.specs.Parts.{read_as};
 
@@ -40,7 +40,7 @@ impl Running {
         model::MOST_PLACEMENTS < self.total
     }
 
-    #[tactic(auto, unfolding(mending::specs::Mending::after, mending::specs::Mending::mended_line))]
+    #[tactic(auto, unfolding(mend_rules::specs::Mending::after, mend_rules::specs::Mending::mended_line))]
     pub fn after(self, line: Line) -> Running
         ensures rack { result.rack ≡ self.rack }
         ensures total { result.total ≡ after self.rack self.total (read_as line) }
@@ -55,7 +55,7 @@ impl Running {
     }
 
     // The line is kept.
-    #[tactic(auto, unfolding(mending::specs::Mending::stays))]
+    #[tactic(auto, unfolding(mend_rules::specs::Mending::stays))]
     pub fn keeps(self, line: Line) -> bool
         ensures { result ≡ stays self.rack self.total (read_as line) }
     {
@@ -82,12 +82,21 @@ impl Running {
     fn is_good(self, line: Line) -> bool
         ensures { result ≡ (eqb (line_number self.rack line.set line.quantity) 0 && leb (self.total + line.quantity) most_placements) }
     {
-        job::check_line(self.rack, line.set, line.quantity).is_ok()
-            && self.total + usize::from(line.quantity) <= model::MOST_PLACEMENTS
+        line.is_good(self.rack) && self.total + usize::from(line.quantity) <= model::MOST_PLACEMENTS
+    }
+
+    // The number of changes of a line. Few lines have any: out of line, they leave the registers to the loops over the lines.
+    #[cold]
+    #[inline(never)]
+    #[tactic(auto, using(crate::proofs::Codes::codes_count))]
+    fn changes(self, line: Line) -> usize
+        ensures count { result ≡ length (codes self.rack self.total (read_as line)) }
+        ensures few { result ≤ 4 }
+    {
+        self.changed(line).count()
     }
 
     // Most lines are good, and need no other test.
-    #[tactic(auto, using(crate::proofs::Codes::codes_count))]
     pub fn step(self, line: Line) -> Step
         ensures kept { result.kept ≡ stays self.rack self.total (read_as line) }
         ensures changes { result.changes ≡ length (codes self.rack self.total (read_as line)) }
@@ -107,7 +116,7 @@ impl Running {
         }
         Step {
             kept: self.keeps(line),
-            changes: self.changed(line).count(),
+            changes: self.changes(line),
             next: self.after(line),
         }
     }

@@ -5,6 +5,7 @@ pub mod Fails
 pub mod ListOf
 pub mod Mix
 pub mod Pairs
+pub mod Append
 pub mod Largest
 pub mod Sets
 pub mod Choice

@@ -22,19 +22,19 @@ use Rattle.refusal.specs.declared.Reason.{Reason}
 use Rattle.refusal.specs.Reasons.{reason_number}
 use Rattle.cases.specs.Cases.{Told, plain, placed}
 use Rattle.cases.proofs.Laws.{told_or, told_when, told_at}
-use Rattle.ordering.specs.declared.Part.{Part}
-use Rattle.ordering.specs.declared.Rule.{Rule}
-use Rattle.ordering.specs.Order.{Task, Obeys, Least, found, absent}
-use Rattle.ordering.specs.Parts.{no_part, no_rule, part_at, window_ok, rule_ok, placing_order}
-use Rattle.ordering.specs.Call as Call
-use Rattle.ordering.specs.Call.{given_refusal, order_refusal}
-use Rattle.ordering.proofs.Parts.{placing-order}
-use Rattle.ordering.proofs.Ruling.{windows_passed}
-use Rattle.ordering.specs.Prefer as Prefer
-use Rattle.ordering.specs.Prefer.{Preference, Best}
-use Rattle.ordering.specs.Tips.{placing_by_tips}
-use Rattle.ordering.specs.TipCall.{tip_ok, head_ok, tips_refusal, given_by_tips, refusal_by_tips}
-use Rattle.ordering.proofs.Tips.{placing-by-tips}
+use Rattle.order_rules.specs.declared.Part.{Part}
+use Rattle.order_rules.specs.declared.Rule.{Rule}
+use Rattle.order_rules.specs.Order.{Task, Obeys, Least, found, absent}
+use Rattle.order_rules.specs.Parts.{no_part, no_rule, part_at, window_ok, rule_ok, placing_order}
+use Rattle.order_rules.specs.Call as Call
+use Rattle.order_rules.specs.Call.{given_refusal, order_refusal}
+use Rattle.order_rules.proofs.Parts.{placing-order}
+use Rattle.order_rules.proofs.Ruling.{windows_passed}
+use Rattle.order_rules.specs.Prefer as Prefer
+use Rattle.order_rules.specs.Prefer.{Preference, Best}
+use Rattle.order_rules.specs.Tips.{placing_by_tips}
+use Rattle.order_rules.specs.TipCall.{tip_ok, head_ok, tips_refusal, given_by_tips, refusal_by_tips}
+use Rattle.order_rules.proofs.Tips.{placing-by-tips}
 use Rattle.order_cases.specs.Cases.{WrongPart, WrongRule, NoHead, given_cases, lost_cases, tips_cases, order_cases, tip_order_cases}
 
 -- the first element that fails does so, and those before it pass

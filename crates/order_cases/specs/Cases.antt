@@ -5,10 +5,10 @@ use Rattle.model.specs.Choice.{Mounted, bare, tip}
 use Rattle.refusal.specs.declared.Reason.TheVariants.{BadWindow, BadRule, ShortOrder, NoOrder}
 use Rattle.refusal.specs.declared.Reason.TheVariants.{ShortPlan, TipOutside, MountedOutside}
 use Rattle.cases.specs.Cases.{Case, plain, placed}
-use Rattle.ordering.specs.declared.Part.{Part}
-use Rattle.ordering.specs.declared.Rule.{Rule}
-use Rattle.ordering.specs.Order.{Obeys}
-use Rattle.ordering.specs.Parts.{no_rule, part_at, task_of}
+use Rattle.order_rules.specs.declared.Part.{Part}
+use Rattle.order_rules.specs.declared.Rule.{Rule}
+use Rattle.order_rules.specs.Order.{Obeys}
+use Rattle.order_rules.specs.Parts.{no_rule, part_at, task_of}
 
 -- the first position of a part is after its last, or its last is not one of n
 abbrev pub WrongPart : ℕ → Part → Type 0

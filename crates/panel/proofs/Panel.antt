@@ -19,7 +19,7 @@ use Rattle.placements.specs.Keep.{LeastOffQ}
 use Rattle.placements.proofs.Repeated.{length-repeated, repeated-append}
 use Rattle.placements.proofs.Totals.{total-append}
 use Rattle.placements.proofs.CommonTip.{least_off-placements}
-use Rattle.goals.proofs.Append.{mix_append, all_append, valid_append}
+use Rattle.model.proofs.Append.{mix_append, all_append, valid_append}
 use Rattle.line_calls.specs.Table.{MostPairs}
 use Rattle.panel.specs.Rules.{PanelRule}
 

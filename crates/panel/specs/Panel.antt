@@ -10,10 +10,6 @@ use Rattle.refusal.specs.Refusal.{or_else, when, told, lent_by}
 use Rattle.call_refusals.specs.Calls.{plan_refusal}
 use Rattle.panel.specs.Answers.{AloneAnswer}
 
--- the refusal of the first board, else that of the second
-abbrev pub first_of : Refusal → Refusal → Refusal
-first_of first second = or_else first second
-
 -- merge: racks that differ, then too many lines together, then too many placements together
 unfoldable pub merge_refusal : Refusal → ℕ → ℕ → ℕ → ℕ → Refusal
 merge_refusal earlier m o lines placements =

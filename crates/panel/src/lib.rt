@@ -2,9 +2,11 @@
 #![tactic(auto)]
 
 mod alone_lines;
+mod files;
 mod merge_lines;
 
 pub use alone_lines::alone;
+pub use files::merge_files;
 pub use merge_lines::merge;
 
 // The pairs of placements on one tip in each of the two plans.

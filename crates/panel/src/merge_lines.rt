@@ -3,23 +3,22 @@ ghost use Rattle.std.specs.Prelude.{◌≡◌, length};
 ghost use Rattle.model.specs.Limits.{most_lines};
 ghost use Rattle.refusal.specs.Refusal.{none};
 ghost use Rattle.refusal.specs.Reasons.{refusal_of};
-ghost use Rattle.panel.specs.Panel.{merge_of, merged_by};
+ghost use Rattle.panel.specs.Panel.{merge_refusal, merge_of, merged_by};
 
 use placements::Lines;
 use refusal::{Reason, Refused};
 
-// The totals are worked out last, where nothing else is refused.
-fn merge_refusal(first: Lines<'_>, second: Lines<'_>) -> Result<(), Refused>
-    ensures { refusal_of result ≡ merge_of none
-        first.entry.rack first.entry.quantities.now first.entry.sets.now
-        second.entry.rack second.entry.quantities.now second.entry.sets.now }
+// Racks that differ, then too many lines together, then too many placements.
+pub fn merge_refusal(
+    rack: usize,
+    other: usize,
+    lines: usize,
+    placements: usize,
+) -> Result<(), Refused>
+    ensures { refusal_of result ≡ merge_refusal none rack other lines placements }
 {
-    refusal::refuse_when(first.rack != second.rack, Reason::RacksDiffer)?;
-    refusal::refuse_when(
-        model::MOST_LINES < first.len() + second.len(),
-        Reason::TooManyLines,
-    )?;
-    let placements = first.total() + second.total();
+    refusal::refuse_when(rack != other, Reason::RacksDiffer)?;
+    refusal::refuse_when(model::MOST_LINES < lines, Reason::TooManyLines)?;
     refusal::refuse_when(
         model::MOST_PLACEMENTS < placements,
         Reason::TooManyPlacements,
@@ -43,9 +42,9 @@ pub fn merge(
     ensures quantities { quantities.new
         ≡ merged_by (refusal_of result) first.entry.quantities.now second.entry.quantities.now quantities.old }
 {
-    merge_refusal(first, second)?;
     let count = first.len();
     let end = count + second.len();
+    merge_refusal(first.rack, second.rack, end, first.total() + second.total())?;
     sets[..count].copy_from_slice(first.sets);
     sets[count..end].copy_from_slice(second.sets);
     quantities[..count].copy_from_slice(first.quantities);

@@ -13,13 +13,13 @@ use Rattle.model.proofs.ListOf.{length-list_of, list_of-at}
 use Rattle.refusal.specs.Told.{Refusal}
 use Rattle.refusal.specs.Refusal as R
 use Rattle.refusal.proofs.Laws.{refused, accepted, lent_refused, lent_accepted}
-use Rattle.ordering.specs.declared.Part.{Part}
-use Rattle.ordering.specs.declared.Rule.{Rule}
-use Rattle.ordering.specs.Parts.{window_ok, task_of, placing_order}
-use Rattle.ordering.specs.Call.{absent, given_refusal, order_refusal}
-use Rattle.ordering.proofs.Parts.{last-below}
-use Rattle.ordering.proofs.Refused.{given_refused, no_order, one_order}
-use Rattle.ordering.proofs.Ruling.{windows_passed, order_obeys, order_none}
+use Rattle.order_rules.specs.declared.Part.{Part}
+use Rattle.order_rules.specs.declared.Rule.{Rule}
+use Rattle.order_rules.specs.Parts.{window_ok, task_of, placing_order}
+use Rattle.order_rules.specs.Call.{absent, given_refusal, order_refusal}
+use Rattle.order_rules.proofs.Parts.{last-below}
+use Rattle.order_rules.proofs.Refused.{given_refused, no_order, one_order}
+use Rattle.order_rules.proofs.Ruling.{windows_passed, order_obeys, order_none}
 use Rattle.placing.specs.Numbers.{parts_in, rules_in, numbers_refusal, order_in}
 use Rattle.placing.proofs.Numbered.{fit_in}
 use Rattle.windows.specs.Bounds.{solvable, soonest, latest}

@@ -2,11 +2,11 @@
 use mathlib.Core.Path.{refl}
 use Rattle.model.specs.Count.{All, none, more, first_fail, every, list_of, lowest_at}
 use Rattle.refusal.specs.Refusal.{or_else, scan}
-use Rattle.ordering.specs.Number.{number, lowest}
-use Rattle.ordering.specs.Least.{due, tight, is_free_part, fits, pick_by, prepend, greedy_by, earliest, relax, settle, lasts_of, best_order}
-use Rattle.ordering.specs.Least.{least_order}
-use Rattle.ordering.specs.Parts.{ruled, by_flags, before, window_ok, rule_ok, placing_order}
-use Rattle.ordering.specs.Call.{given_refusal, order_refusal}
+use Rattle.order_rules.specs.Number.{number, lowest}
+use Rattle.order_rules.specs.Least.{due, tight, is_free_part, fits, pick_by, prepend, greedy_by, earliest, relax, settle, lasts_of, best_order}
+use Rattle.order_rules.specs.Least.{least_order}
+use Rattle.order_rules.specs.Parts.{ruled, by_flags, before, window_ok, rule_ok, placing_order}
+use Rattle.order_rules.specs.Call.{given_refusal, order_refusal}
 use Rattle.windows.specs.Bounds.{solvable, soonest, latest}
 use Rattle.part_windows.specs.Call.{soonest_of, latest_of, first_after, last_after}
 use Rattle.part_windows.specs.Rows.{run, rows, Gives}

@@ -4,10 +4,10 @@ use Rattle.std.specs.Prelude.{ℕ, ◌<◌, ◌≡◌, min, cond, List, length, 
 use Rattle.model.specs.Count.{list_of}
 use Rattle.refusal.specs.Told.{Refusal}
 use Rattle.refusal.specs.Refusal.{accepts, lent_by}
-use Rattle.ordering.specs.declared.Part.{Part}
-use Rattle.ordering.specs.declared.Rule.{Rule}
-use Rattle.ordering.specs.Parts.{task_of}
-use Rattle.ordering.specs.Call.{given_refusal, order_refusal, NoneObeys}
+use Rattle.order_rules.specs.declared.Part.{Part}
+use Rattle.order_rules.specs.declared.Rule.{Rule}
+use Rattle.order_rules.specs.Parts.{task_of}
+use Rattle.order_rules.specs.Call.{given_refusal, order_refusal, NoneObeys}
 use Rattle.placing.specs.Numbers.{parts_in, rules_in, numbers_refusal}
 use Rattle.windows.specs.Bounds.{soonest, latest, Bounds}
 

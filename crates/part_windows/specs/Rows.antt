@@ -1,10 +1,10 @@
 -- The starred windows of RULES 9, as one list of rows: parts, rules and two buffers, and all that is to come back.
 use Rattle.std.specs.Prelude.{ℕ, ◌≡◌, List, [], ◌∷◌, length, replicate}
 use Rattle.refusal.specs.Told.{Refusal}
-use Rattle.ordering.specs.declared.Part.{Part}
-use Rattle.ordering.specs.declared.Rule.{Rule}
-use Rattle.ordering.specs.Call.{order_refusal}
-use Rattle.ordering.specs.Rows.{plain, fine, tall, rule, junk}
+use Rattle.order_rules.specs.declared.Part.{Part}
+use Rattle.order_rules.specs.declared.Rule.{Rule}
+use Rattle.order_rules.specs.Call.{order_refusal}
+use Rattle.order_rules.specs.Rows.{plain, fine, tall, rule, junk}
 use Rattle.part_windows.specs.Call.{room, first_after, last_after}
 
 -- what comes back: number, place, and both buffers

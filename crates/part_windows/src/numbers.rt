@@ -7,7 +7,7 @@ ghost use Rattle.placing.specs.Cases.{numbers_cases};
 ghost use Rattle.part_windows.specs.Call.{room, first_after_in, last_after_in, WindowsRuleIn};
 
 use crate::place_windows;
-use placing::numbers::{parts_of, records_of, rule_of};
+use placing::numbers::{part_of, records_of, rule_of};
 use refusal::Refused;
 
 // The windows of the parts that the numbers stand for.
@@ -24,9 +24,9 @@ pub fn window_numbers(
     ensures cases { Told (numbers_cases parts.now rules.now (room first.old last.old)) (refusal_of result) }
 {
     let (records, pairs) = records_of(parts, rules)?;
-    let given = parts_of(records)?;
     place_windows(
-        &given[..records.len()],
+        records.len(),
+        |i| part_of(&records[i]),
         pairs.len(),
         |i| rule_of(&pairs[i]),
         first,

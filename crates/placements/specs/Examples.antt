@@ -12,7 +12,7 @@ use Rattle.model.specs.Interval.{low, high, named, lies, inside, most, C, tip_by
 use Rattle.placements.specs.Repeated.{total, repeated, weighted}
 use Rattle.placements.specs.Totals.{first_over}
 use Rattle.placements.specs.Plans.{quick_plan_q, best_plan_q}
-use Rattle.placements.specs.Keep.{common_within, scarce, kept_q, prune_q, off_q}
+use Rattle.placements.specs.Keep.{V, scarce, kept_q, prune_q, off_q}
 
 -- the sets of B1, and a quantity for each
 abbrev sets1 : List ℕ
@@ -39,7 +39,7 @@ one = (refl, refl, refl)
 
 -- at margin 1 the lines of 2 and of 3 placements keep the tips 3, 5 and 6; at margin 2 that of 3 keeps 3 to 7; at margin 3 nothing changes
 kept : (prune_q 9 qs1 sets1 2 ≡ 14 ∷ 104 ∷ 104 ∷ 96 ∷ []) × (prune_q 9 qs1 sets1 3 ≡ 14 ∷ 248 ∷ 248 ∷ 96 ∷ []) × (prune_q 9 qs1 sets1 4 ≡ sets1)
-unfolding prune_q zip_with kept_q scarce narrowed covers every common_within set_of repeated has occ count largest top
+unfolding prune_q zip_with kept_q scarce narrowed covers every V set_of repeated has occ count largest top
 kept = (refl, refl, refl)
 
 -- the plan that has line 0 on tip 1 and the others on tip 5 has 1 placement off

@@ -7,11 +7,11 @@ use mathlib.Core.Option.{none, some}
 use lib.ListN.{length, drop}
 use Rattle.refusal.specs.Told.{Refusal}
 use Rattle.refusal.specs.Refusal as R
-use Rattle.ordering.specs.declared.Part.{Part}
-use Rattle.ordering.specs.declared.Rule.{Rule}
-use Rattle.ordering.specs.Parts.{placing_order}
-use Rattle.ordering.specs.Call.{given_refusal, order_refusal}
-use Rattle.ordering.proofs.Refused.{given_refused, no_order, one_order, refused_buffer, accepted_buffer}
+use Rattle.order_rules.specs.declared.Part.{Part}
+use Rattle.order_rules.specs.declared.Rule.{Rule}
+use Rattle.order_rules.specs.Parts.{placing_order}
+use Rattle.order_rules.specs.Call.{given_refusal, order_refusal}
+use Rattle.order_rules.proofs.Refused.{given_refused, no_order, one_order, refused_buffer, accepted_buffer}
 use Rattle.placing.specs.Rows.{Placed}
 
 module _ (parts : List Part) (rules : List Rule) (buffer : List ℕ) where

@@ -12,10 +12,10 @@ use Rattle.refusal.specs.Told.{Refusal}
 use Rattle.refusal.specs.declared.Reason.TheVariants.{BrokenRecord}
 use Rattle.cases.specs.Cases.{Told}
 use Rattle.cases.proofs.Laws.{told_or, told_when}
-use Rattle.ordering.specs.declared.Part.{Part}
-use Rattle.ordering.specs.declared.Rule.{Rule}
-use Rattle.ordering.specs.Call.{order_refusal}
-use Rattle.ordering.specs.TipCall.{refusal_by_tips}
+use Rattle.order_rules.specs.declared.Part.{Part}
+use Rattle.order_rules.specs.declared.Rule.{Rule}
+use Rattle.order_rules.specs.Call.{order_refusal}
+use Rattle.order_rules.specs.TipCall.{refusal_by_tips}
 use Rattle.order_cases.specs.Cases.{order_cases, tip_order_cases}
 use Rattle.order_cases.proofs.Told.{order_told, tip_order_told}
 use Rattle.placing.specs.Numbers.{parts_in, rules_in, numbers_refusal, order_in}

@@ -6,12 +6,12 @@ use mathlib.Core.Logic.{⊎_elim}
 use mathlib.Core.Bool.{Bool, true, false, not, cond, ◌&&◌, ◌||◌, and_comm}
 use mathlib.Core.List.{List, [], ◌∷◌}
 use lib.Dec.{T, ltb, eqb, not_T, T_not, ltb→lt, eqb→eq, eqb_refl}
-use lib.ListN.{length, get_or, set, replicate, length-set, length-replicate}
+use lib.ListN.{length, get_or, set, length-set}
 use borrow.Author.Tests.{lt-ltb, le-ltb}
 use Rattle.model.specs.Count.{first_fail}
 use Rattle.model.proofs.Tests.{le_or_lt, test, true_T, false_T}
-use Rattle.ordering.specs.declared.Part.{Part}
-use Rattle.ordering.specs.Parts.{part_at, fine_pitch, by_flags}
+use Rattle.order_rules.specs.declared.Part.{Part}
+use Rattle.order_rules.specs.Parts.{part_at, fine_pitch, by_flags}
 use Rattle.flat_order.specs.declared.sets.PartSet.{PartSet}
 use Rattle.placing.specs.declared.flags.Kinds.{Kinds}
 use Rattle.flat_order.specs.Sets.{has_part, no_parts, single, joined}
@@ -68,36 +68,48 @@ members_more f all i h x =
 
 -- ---- the rows by the flags
 
--- a part of the row of y by the flags
-pub flag-row_is : (x y : Part) (fine short : PartSet) (a : ℕ) → has_part fine a ≡ fine_pitch x → has_part short a ≡ not x.tall
-    → has_part (flag_row y fine short) a ≡ by_flags x y
+twice : (b : Bool) → not (not b) ≡ b
+twice true = refl
+twice false = refl
+
+-- part a of the row of part b by the flags
+pub flag-row_is : (parts : List Part) (kinds : Kinds) → KindsOf parts (length parts) kinds → (a b : ℕ) → a < length parts → b < length parts
+    → has_part (flag_row kinds b) a ≡ by_flags (part_at parts a) (part_at parts b)
 unfolding flag_row by_flags
-flag-row_is x y fine short a f s =
-    has-joined (cond (not (fine_pitch y)) fine no_parts) (cond y.tall short no_parts) a
-    ∙ rw (has-when (not (fine_pitch y)) fine a, has-when y.tall short a, f, s)
-    (ap₂ ◌||◌ (and_comm (not (fine_pitch y)) (fine_pitch x)) (and_comm y.tall (not x.tall)))
+flag-row_is parts kinds k a b m h =
+    let x = part_at parts a in
+    let y = part_at parts b in
+    let fine : (i : ℕ) → i < length parts → has_part kinds.fine i ≡ fine_pitch (part_at parts i) =
+    λ i l. k.fine i ∙ rw (lt-ltb i (length parts) l) refl in
+    let short : (i : ℕ) → i < length parts → has_part kinds.short i ≡ not (part_at parts i).tall =
+    λ i l. k.short i ∙ rw (lt-ltb i (length parts) l) refl in
+    has-joined (cond (not (has_part kinds.fine b)) kinds.fine no_parts) (cond (not (has_part kinds.short b)) kinds.short no_parts) a
+    ∙ rw (
+      has-when (not (has_part kinds.fine b)) kinds.fine a,
+      has-when (not (has_part kinds.short b)) kinds.short a,
+      fine a m,
+      short a m,
+      fine b h,
+      short b h,
+      twice y.tall,
+    ) (ap₂ ◌||◌ (and_comm (not (fine_pitch y)) (fine_pitch x)) (and_comm y.tall (not x.tall)))
 
 -- the rows of the first b parts are those by the flags
 pub record Rowed (parts : List Part) (b : ℕ) (rows : List PartSet) : Type 0 where
-  pub size : length rows ≡ 128
+  pub size : length rows ≡ length parts
   pub flags : (a c : ℕ) → a < length parts → c < b → has_part (row_at rows c) a ≡ by_flags (part_at parts a) (part_at parts c)
 
-pub rowed_none : (parts : List Part) → Rowed parts 0 (replicate 128 no_parts)
-rowed_none parts = record {
-  size = length-replicate {A = PartSet} 128 no_parts;
-  flags = λ a c k l. absurd (omega arith);
-}
+pub rowed_none : (parts : List Part) (rows : List PartSet) → length rows ≡ length parts → Rowed parts 0 rows
+rowed_none parts rows e = record { size = e; flags = λ a c k l. absurd (omega arith) }
 
-pub rowed_more : (parts : List Part) (b : ℕ) (rows : List PartSet) (kinds : Kinds) → b < 128 → Rowed parts b rows
-    → KindsOf parts (length parts) kinds → Rowed parts (b + 1) (set rows b (flag_row (part_at parts b) kinds.fine kinds.short))
+pub rowed_more : (parts : List Part) (b : ℕ) (rows : List PartSet) (kinds : Kinds) → b < length parts → Rowed parts b rows
+    → KindsOf parts (length parts) kinds → Rowed parts (b + 1) (set rows b (flag_row kinds b))
 rowed_more parts b rows kinds l r k =
-    let row = flag_row (part_at parts b) kinds.fine kinds.short in
+    let row = flag_row kinds b in
     record {
       size = length-set rows b row ∙ r.size;
       flags = λ a c m h. rw (row-set rows b c row (omega (arith, r.size))) (⊎_elim
-          (λ u. let e = eqb→eq b c u in rw (true_T (eqb b c) u, ← e)
-          (flag-row_is (part_at parts a) (part_at parts b) kinds.fine kinds.short a
-          (k.fine a ∙ rw (lt-ltb a (length parts) m)) (k.short a ∙ rw (lt-ltb a (length parts) m))))
+          (λ u. let e = eqb→eq b c u in rw (true_T (eqb b c) u, ← e) (flag-row_is parts kinds k a b m l))
           (λ u. rw (false_T (eqb b c) u) (r.flags a c m (less c h u)))
           (test (eqb b c)));
     }

@@ -1,4 +1,3 @@
-pub mod Listed
 pub mod Flagged
 pub mod Marks
 pub mod Windows

@@ -11,9 +11,9 @@ use lib.Seq.{length-take-le, get_or-take, take_all}
 use Rattle.std.proofs.lemmas.List.{take_more}
 use Rattle.model.specs.Count.{first_fail}
 use Rattle.model.proofs.Tests.{le_or_lt, test, true_T, false_T, and_left, and_right}
-use Rattle.ordering.specs.declared.Part.{Part}
-use Rattle.ordering.specs.declared.Rule.{Rule}
-use Rattle.ordering.specs.Parts.{no_rule, names, ruled, before, rule_ok}
+use Rattle.order_rules.specs.declared.Part.{Part}
+use Rattle.order_rules.specs.declared.Rule.{Rule}
+use Rattle.order_rules.specs.Parts.{no_rule, names, ruled, before, rule_ok}
 use Rattle.flat_order.specs.declared.sets.PartSet.{PartSet}
 use Rattle.flat_order.specs.Sets.{has_part, single, joined}
 use Rattle.flat_order.specs.Flat.{row_at}

@@ -1,26 +1,25 @@
 -- Laws of the parts and the rules that plain numbers stand for.
-use Prim.Native.Nat.{ℕ, zero, suc, ◌+◌, ◌*◌, ◌≤◌, ◌<◌, ◌/◌, ◌%◌}
+use Prim.Native.Nat.{ℕ, zero, suc, ◌+◌, ◌*◌, ◌<◌, ◌/◌, ◌%◌}
 use native.Mathlib.Omega.{arith}
 use mathlib.Core.Path.{◌≡◌, refl, sym, ap, ◌∙◌}
 use mathlib.Core.List.{List, []}
-use lib.Dec.{ltb}
-use lib.ListN.{length, get_or, take, drop}
+use lib.ListN.{length, get_or, drop}
+use Rattle.model.specs.Count.{list_of}
 use Rattle.std.specs.Simd.{first_chunks}
 use Rattle.std.proofs.lemmas.List.{get_or-drop}
-use lib.Seq.{ext_get_or, get_or-take, length-take-le}
+use lib.Seq.{get_or-take}
 use borrow.Author.Tests.{eq-eqb, ne_eqb}
+use Rattle.model.proofs.ListOf.{listed, listed_at}
 use Rattle.refusal.specs.Told.{Refusal}
 use Rattle.refusal.specs.Refusal as R
 use Rattle.refusal.proofs.Laws.{or_first, or_next, refused, accepted, number_not}
-use Rattle.ordering.specs.declared.Part.{Part}
-use Rattle.ordering.specs.declared.Rule.{Rule}
-use Rattle.ordering.specs.Parts.{no_part, no_rule, part_at}
+use Rattle.order_rules.specs.declared.Part.{Part}
+use Rattle.order_rules.specs.declared.Rule.{Rule}
+use Rattle.order_rules.specs.Parts.{no_part, no_rule}
 use Rattle.placing.specs.Numbers.{part_of_numbers, parts_in, rule_in, rules_in, numbers_refusal, order_in, order_after_in, PlacingRuleIn}
-use Rattle.placing.proofs.Listed.{listed, listed_at}
-use Rattle.placing.specs.Rows.{GivesRules, Placed}
-use Rattle.ordering.proofs.Refused.{over_told}
-use Rattle.ordering.specs.Call.{given_refusal, order_refusal}
-use Rattle.ordering.proofs.Ruling.{placing_rule}
+use Rattle.placing.specs.Rows.{Gives, GivesParts, GivesRules, Placed}
+use Rattle.order_rules.specs.Call.{order_refusal}
+use Rattle.order_rules.proofs.Ruling.{placing_rule}
 
 length-first_chunks : (n k : ℕ) (xs : List ℕ) → length (first_chunks n k xs) ≡ k
 length-first_chunks n zero xs = refl
@@ -50,13 +49,6 @@ rule_in_record numbers i h =
     let e : i * 2 + 0 ≡ i * 2 = omega arith in
     rw (at 0 numbers h (omega arith), at 1 numbers h (omega arith), e) refl
 
--- there is a record for each part
-pub records_size : (numbers : List ℕ) {records : List (List ℕ)} → records ≡ first_chunks 4 (length numbers / 4) numbers
-    → length records ≡ length (parts_in numbers)
-records_size numbers e =
-    let n = length numbers / 4 in
-    ap length e ∙ length-first_chunks 4 n numbers ∙ sym (listed (part_of_numbers numbers) n)
-
 -- what is told where the numbers are not four a part and two a rule
 abbrev pub misfit_told : Refusal
 misfit_told = R.refuse 101
@@ -85,11 +77,6 @@ module _ (parts rules : List ℕ) (room : ℕ) where
   unfolding order_in
   fit_in passed e = or_next passed _ refl e
 
-  -- over 128 parts, whatever they are
-  pub many_given : {records : List (List ℕ)} {r : Refusal} → records ≡ first_chunks 4 (length parts / 4) parts
-      → r ≡ R.when (ltb 128 (length records)) 12 → (r.number ≡ 0 → ⊥) → r ≡ given_refusal (parts_in parts) (rules_in rules) room
-  many_given {records} e is n = over_told (parts_in parts) (rules_in rules) room (rw (records_size parts e) at is) n
-
 -- the answer of the placing order then
 module _ (parts rules buffer : List ℕ) where
   pub record Answers (r : Refusal) (out : List ℕ) : Type 0 where
@@ -114,28 +101,27 @@ module _ (parts rules buffer : List ℕ) where
     rule = λ _. rw (p.refusal, p.order) (placing_rule (parts_in parts) (rules_in rules) buffer);
   }
 
--- the parts of the records are those that the numbers stand for
-pub parts_given : (numbers : List ℕ) {records : List (List ℕ)} (parts : List Part) → records ≡ first_chunks 4 (length numbers / 4) numbers
-    → length records ≤ 128 → length parts ≡ 128 → ((k : ℕ) → k < length records → part_at parts k ≡ part_of_numbers (get_or records k []) 0)
-    → take (length records) parts ≡ parts_in numbers
-parts_given numbers {records} parts e few size read =
-    let n = length numbers / 4 in
-    let count : length records ≡ n = ap length e ∙ length-first_chunks 4 n numbers in
-    let b = listed (part_of_numbers numbers) n in
-    let a = length-take-le (length records) parts (omega (arith, size)) in
-    ext_get_or no_part (take (length records) parts) (parts_in numbers) (a ∙ count ∙ sym b)
-    (λ k l. let m : k < length records = omega (arith, a) in
-    get_or-take (length records) parts k no_part m ∙ read k m ∙ ap (λ x. part_of_numbers (get_or x k []) 0) e
-    ∙ part_in_record numbers k (omega (arith, count)) ∙ sym (listed_at (part_of_numbers numbers) n k no_part (omega (arith, count))))
+-- what a function answers for the records is what the numbers stand for
+module _ {A : Type 0} (absent : A) (size : ℕ) (read : List ℕ → ℕ → A) (numbers : List ℕ)
+    (in_record : (i : ℕ) → i < length numbers / size
+    → read (get_or (first_chunks size (length numbers / size) numbers) i []) 0 ≡ read numbers i) where
+  records_given : {records : List (List ℕ)} {post : ℕ → A → Type 0} → records ≡ first_chunks size (length numbers / size) numbers
+      → ((i : ℕ) (r : A) → i < length records → post i r → r ≡ read (get_or records i []) 0)
+      → Gives absent post (length records) (list_of (read numbers) (length numbers / size))
+  records_given {records} e given =
+      let n = length numbers / size in
+      let count : length records ≡ n = ap length e ∙ length-first_chunks size n numbers in
+      record {
+        size = listed (read numbers) n ∙ sym count;
+        each = λ i r h q. given i r h q ∙ ap (λ x. read (get_or x i []) 0) e ∙ in_record i (omega (arith, count))
+            ∙ sym (listed_at (read numbers) n i absent (omega (arith, count)));
+      }
 
--- and so are the rules
+pub parts_given : (numbers : List ℕ) {records : List (List ℕ)} {post : ℕ → Part → Type 0} → records ≡ first_chunks 4 (length numbers / 4) numbers
+    → ((i : ℕ) (r : Part) → i < length records → post i r → r ≡ part_of_numbers (get_or records i []) 0)
+    → GivesParts post (length records) (parts_in numbers)
+parts_given numbers = records_given no_part 4 part_of_numbers numbers (part_in_record numbers)
+
 pub rules_given : (numbers : List ℕ) {pairs : List (List ℕ)} {post : ℕ → Rule → Type 0} → pairs ≡ first_chunks 2 (length numbers / 2) numbers
     → ((i : ℕ) (r : Rule) → i < length pairs → post i r → r ≡ rule_in (get_or pairs i []) 0) → GivesRules post (length pairs) (rules_in numbers)
-rules_given numbers {pairs} e given =
-    let n = length numbers / 2 in
-    let count : length pairs ≡ n = ap length e ∙ length-first_chunks 2 n numbers in
-    record {
-      size = listed (rule_in numbers) n ∙ sym count;
-      each = λ i r h q. given i r h q ∙ ap (λ x. rule_in (get_or x i []) 0) e ∙ rule_in_record numbers i (omega (arith, count))
-          ∙ sym (listed_at (rule_in numbers) n i no_rule (omega (arith, count)));
-    }
+rules_given numbers = records_given no_rule 2 rule_in numbers (rule_in_record numbers)

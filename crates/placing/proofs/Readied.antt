@@ -1,15 +1,14 @@
 -- The parts that are ready, as sets of the parts on each tip; the best order by them is the placing order by tips.
-use Prim.Native.Nat.{ℕ, ◌+◌, ◌≤◌, ◌<◌}
+use Prim.Native.Nat.{ℕ, ◌≤◌, ◌<◌}
 use native.Mathlib.Omega.{arith}
-use mathlib.Core.Path.{◌≡◌, refl, ap, sym, ◌∙◌}
-use mathlib.Core.Logic.{⊎_elim}
-use mathlib.Core.Bool.{not, cond}
+use mathlib.Core.Path.{◌≡◌, ap, sym, ◌∙◌}
+use mathlib.Core.Bool.{not}
 use mathlib.Core.List.{List, ◌++◌}
 use mathlib.Core.Option.{some}
-use lib.Dec.{T, eqb, ltb→lt}
-use lib.ListN.{length, get_or, take, drop, set, length-set}
+use lib.Dec.{T, ltb→lt}
+use lib.ListN.{length, get_or, take, drop}
 use lib.Seq.{get_or-take, length-take-le, take_at}
-use borrow.Author.Tests.{lt-ltb, eq-eqb, ne_eqb}
+use borrow.Author.Tests.{lt-ltb}
 use Rattle.model.specs.Limits.{most_tips}
 use Rattle.model.specs.Choice.{Mounted, tip, is_on}
 use Rattle.model.specs.Count.{each, first_fail, place_in}
@@ -19,26 +18,24 @@ use Rattle.model.proofs.Lists.{all-at, each_iff}
 use Rattle.refusal.specs.Refusal.{scan}
 use Rattle.refusal.specs.Reasons.{refused_at}
 use Rattle.refusal.proofs.Laws.{refused_place}
-use Rattle.ordering.specs.TipCall.{tip_ok}
-use Rattle.model.proofs.Tests.{le_or_lt}
+use Rattle.order_rules.specs.TipCall.{tip_ok}
 use Rattle.model.proofs.Pairs.{eqb_comm}
-use Rattle.ordering.specs.declared.Part.{Part}
-use Rattle.ordering.specs.declared.Rule.{Rule}
-use Rattle.ordering.specs.Order.{Task, Obeys}
-use Rattle.ordering.specs.Parts.{window_ok}
-use Rattle.ordering.specs.Tips.{tip_at, is_ready, head_after, choose_by_tip, placing_by_tips}
-use Rattle.ordering.proofs.First.{first_asym, on_same}
-use Rattle.ordering.proofs.Best.{best_unique}
-use Rattle.ordering.proofs.Agree.{best_agree, best-alike}
-use Rattle.ordering.proofs.Tips.{order-by-tips, placing-by-tips}
+use Rattle.order_rules.specs.declared.Part.{Part}
+use Rattle.order_rules.specs.declared.Rule.{Rule}
+use Rattle.order_rules.specs.Order.{Task, Obeys}
+use Rattle.order_rules.specs.Parts.{window_ok}
+use Rattle.order_rules.specs.Tips.{tip_at, is_ready, head_after, choose_by_tip, placing_by_tips}
+use Rattle.order_rules.proofs.First.{first_asym, on_same}
+use Rattle.order_rules.proofs.Best.{best_unique}
+use Rattle.order_rules.proofs.Agree.{best_agree, best-alike}
+use Rattle.order_rules.proofs.Tips.{order-by-tips, placing-by-tips}
 use Rattle.flat_order.specs.declared.sets.PartSet.{PartSet}
 use Rattle.flat_order.specs.Sets.{has_part}
 use Rattle.flat_order.specs.Flat.{row_at, flat_task, choose_ready, ready_order, InPlace, Tipped}
-use Rattle.flat_order.proofs.Below.{row-set}
 use Rattle.flat_order.proofs.Ready.{ready_obeys}
-use Rattle.placing.specs.Rows.{RowsFor, PositionsOf}
-use Rattle.placing.specs.ByTips.{OnTips, AfterEach}
-use Rattle.placing.proofs.Windows.{parts_agree, size, below}
+use Rattle.placing.specs.Rows.{FlatOf}
+use Rattle.placing.specs.ByTips.{OnTips}
+use Rattle.placing.proofs.Windows.{parts_agree, below}
 
 -- where each part has a tip, so has the one at place i
 pub tip_in : (plan : List ℕ) → T (each tip_ok plan) → (i : ℕ) → i < length plan → get_or plan i 0 < most_tips
@@ -51,37 +48,31 @@ tips_scan xs =
     ap (λ k. refused_at (place_in k (length xs)) 3) (sym (fail_position tip_ok xs)) ∙ refused_place 3 (first_fail tip_ok xs) (length xs)
 
 -- a part of the set of a tip is ready where that tip is on the head
-pub tip_ready : (plan : List ℕ) (n : ℕ) (sets : List PartSet) → OnTips plan n sets → (t x : ℕ) → t < most_tips → x < n
+pub tip_ready : (plan : List ℕ) (n : ℕ) (sets : List PartSet) → length sets ≡ most_tips → OnTips plan n sets → (t x : ℕ) → t < most_tips → x < n
     → has_part (row_at sets t) x ≡ is_ready plan (tip t) x
 unfolding is_on
-tip_ready plan n sets o t x k l = o.each t x k ∙ rw (lt-ltb x n l) (eqb_comm (tip_at plan x) t)
+tip_ready plan n sets e o t x k l = o.each t x (omega (arith, e)) ∙ rw (lt-ltb x n l) (eqb_comm (tip_at plan x) t)
 
-pub after_more : (plan : List ℕ) (i : ℕ) (after : List PartSet) (row : PartSet) → i < 128 → AfterEach plan i after
-    → ((x : ℕ) → x < length plan → has_part row x ≡ is_ready plan (head_after plan i) x) → AfterEach plan (i + 1) (set after i row)
-after_more plan i after row l a h = record {
-  size = length-set after i row ∙ a.size;
-  each = λ y x k m. ap (λ s. has_part s x) (row-set after i y row (omega (arith, a.size))) ∙ at y x k m;
-}
-  where
-    at : (y x : ℕ) → y < i + 1 → x < length plan → has_part (cond (eqb i y) row (row_at after y)) x ≡ is_ready plan (head_after plan y) x
-    at y x k m =
-        ⊎_elim
-        (λ (u : i ≤ y). let e : i ≡ y = omega arith in rw (← e, eq-eqb i i refl) (h x m))
-        (λ (u : y < i). rw (ne_eqb i y (λ e. omega arith)) (a.each y x u m))
-        (le_or_lt i y)
+-- the tip of each of the first n parts is one of 64
+pub tip_below : (n : ℕ) (plan : List ℕ) → n ≤ length plan → T (each tip_ok (take n plan)) → (y : ℕ) → y < n → tip_at plan y < most_tips
+tip_below n plan long tips y k = rw (get_or-take n plan y 0 k) at (tip_in (take n plan) tips y (omega (arith, length-take-le n plan long)))
+
+-- after a part those on its tip are ready
+abbrev pub next_ready : List ℕ → List PartSet → ℕ → PartSet
+next_ready plan sets y = row_at sets (tip_at plan y)
 
 -- ---- the best order by the parts that are ready
 
-module _ (parts : List Part) (windows : T (each (window_ok (length parts)) parts)) (few : length parts ≤ 128) (firsts lasts : List ℕ)
-    (p : PositionsOf parts (length parts) firsts lasts) (rules : List Rule) (rows : List PartSet) (r : RowsFor parts rules rows)
-    (plan : List ℕ) (mounted : Mounted) (long : length parts ≤ length plan) (start : PartSet) (after : List PartSet)
-    (begins : (x : ℕ) → x < length (take (length parts) plan) → has_part start x ≡ is_ready (take (length parts) plan) mounted x)
-    (goes : AfterEach (take (length parts) plan) (length (take (length parts) plan)) after) where
+module _ (parts : List Part) (windows : T (each (window_ok (length parts)) parts)) (rules : List Rule) (firsts lasts : List ℕ)
+    (rows : List PartSet) (f : FlatOf parts rules firsts lasts rows) (plan : List ℕ) (mounted : Mounted) (long : length parts ≤ length plan)
+    (start : PartSet) (sets : List PartSet) (tips : T (each tip_ok (take (length parts) plan))) (size : length sets ≡ most_tips)
+    (on : OnTips (take (length parts) plan) (length (take (length parts) plan)) sets)
+    (begins : (x : ℕ) → x < length (take (length parts) plan) → has_part start x ≡ is_ready (take (length parts) plan) mounted x) where
   abbrev n : ℕ
   n = length parts
 
   abbrev t : Task
-  t = flat_task firsts (take n lasts) rows
+  t = flat_task firsts lasts rows
 
   taken : length (take n plan) ≡ n
   taken = length-take-le n plan long
@@ -97,31 +88,33 @@ module _ (parts : List Part) (windows : T (each (window_ok (length parts)) parts
   starts_alike : Alike start mounted
   starts_alike x l = begins x (omega (arith, taken)) ∙ ap (is_on mounted) (same_tip x l)
 
-  goes_alike : (y : ℕ) → y < t.size → Alike (row_at after y) (head_after plan y)
-  goes_alike y k x l =
-      let m : y < n = omega (arith, size parts windows few firsts lasts p) in
-      goes.each y x (omega (arith, taken)) (omega (arith, taken))
-      ∙ rw (same_tip x l, same_tip y m) refl
+  abbrev next : ℕ → PartSet
+  next = next_ready plan sets
 
-  pub flat-by-tips : ready_order start after t ≡ placing_by_tips parts rules plan mounted
+  goes_alike : (y : ℕ) → y < t.size → Alike (next y) (head_after plan y)
+  goes_alike y k x l =
+      let below = tip_below n plan long tips y (omega (arith, f.size)) in
+      tip_ready (take n plan) (length (take n plan)) sets size on (tip_at plan y) x below (omega (arith, taken))
+      ∙ ap (is_on (tip (tip_at plan y))) (same_tip x l)
+
+  pub flat-by-tips : ready_order start next t ≡ placing_by_tips parts rules plan mounted
   flat-by-tips =
-      best-alike choose_ready (choose_by_tip plan) (row_at after) (head_after plan) Alike t
-      (λ s head h f. on_same (has_part s) (is_ready plan head) f t.size (λ x l. h x (omega (arith, size parts windows few firsts lasts p))))
+      best-alike choose_ready (choose_by_tip plan) next (head_after plan) Alike t
+      (λ s head h g. on_same (has_part s) (is_ready plan head) g t.size (λ x l. h x (omega (arith, f.size))))
       goes_alike start mounted starts_alike
       ∙ best_unique (λ head. first_asym (is_ready plan head))
-      (best_agree (parts_agree parts windows few firsts lasts p rules rows r)
-      (order-by-tips plan mounted t (below parts windows few firsts lasts p rules rows r)))
+      (best_agree (parts_agree parts windows rules firsts lasts rows f)
+      (order-by-tips plan mounted t (below parts windows rules firsts lasts rows f)))
       (placing-by-tips plan parts rules mounted windows)
 
 -- ---- the order that is found
 
-module _ (n : ℕ) (firsts lasts : List ℕ) (rows : List PartSet) (start : PartSet) (after : List PartSet) (size : length (take n lasts) ≡ n)
-    (within : InPlace n (take n lasts)) (found : List ℕ)
-    (is : some (take (length (take n lasts)) found) ≡ ready_order start after (flat_task firsts (take n lasts) rows)) where
-  found_obeys : Obeys (flat_task firsts (take n lasts) rows) (take n found)
+module _ (n : ℕ) (firsts lasts : List ℕ) (rows : List PartSet) (start : PartSet) (next : ℕ → PartSet) (size : length lasts ≡ n)
+    (within : InPlace (length lasts) lasts) (found : List ℕ)
+    (is : some (take (length lasts) found) ≡ ready_order start next (flat_task firsts lasts rows)) where
+  found_obeys : Obeys (flat_task firsts lasts rows) (take n found)
   found_obeys =
-      ready_obeys start after (flat_task firsts (take n lasts) rows) (λ i l. omega (arith, size, within i (omega (arith, size))))
-      (ap (λ k. some (take k found)) (sym size) ∙ is)
+      ready_obeys start next (flat_task firsts lasts rows) within (ap (λ k. some (take k found)) (sym size) ∙ is)
 
   pub found_size : length (take n found) ≡ n
   found_size = found_obeys.count ∙ size

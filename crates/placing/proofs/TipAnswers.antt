@@ -9,12 +9,12 @@ use Rattle.model.specs.Choice.{Mounted}
 use Rattle.refusal.specs.Told.{Refusal}
 use Rattle.refusal.specs.Refusal as R
 use Rattle.refusal.proofs.Laws.{or_first, or_next}
-use Rattle.ordering.specs.declared.Part.{Part}
-use Rattle.ordering.specs.declared.Rule.{Rule}
-use Rattle.ordering.specs.Call.{given_refusal}
-use Rattle.ordering.specs.Tips.{placing_by_tips, changes}
-use Rattle.ordering.specs.TipCall.{tips_refusal, given_by_tips, refusal_by_tips}
-use Rattle.ordering.proofs.TipCall.{given_told, lost_told, found_told, refused_tips, accepted_tips}
+use Rattle.order_rules.specs.declared.Part.{Part}
+use Rattle.order_rules.specs.declared.Rule.{Rule}
+use Rattle.order_rules.specs.Call.{given_refusal}
+use Rattle.order_rules.specs.Tips.{placing_by_tips, changes}
+use Rattle.order_rules.specs.TipCall.{tips_refusal, given_by_tips, refusal_by_tips}
+use Rattle.order_rules.proofs.TipCall.{given_told, lost_told, found_told, refused_tips, accepted_tips}
 use Rattle.placing.specs.ByTips.{PlacedByTips}
 
 module _ (parts : List Part) (rules : List Rule) (plan : List ℕ) (mounted : Mounted) (buffer : List ℕ) where

@@ -1,19 +1,15 @@
 -- The answers to a call by tips on plain numbers.
-use Prim.Native.Nat.{ℕ, ◌/◌}
+use Prim.Native.Nat.{ℕ}
 use mathlib.Core.Path.{◌≡◌, refl, sym, ◌∙◌}
 use mathlib.Core.List.{List}
-use lib.Dec.{ltb}
 use lib.ListN.{length}
-use Rattle.std.specs.Simd.{first_chunks}
 use Rattle.model.specs.Choice.{Mounted}
 use Rattle.refusal.specs.Told.{Refusal}
 use Rattle.refusal.specs.Refusal as R
 use Rattle.refusal.proofs.Laws.{or_first, or_next, refused, accepted, number_not}
-use Rattle.ordering.proofs.TipCall.{tips_rule}
+use Rattle.order_rules.proofs.TipCall.{tips_rule}
 use Rattle.placing.specs.Numbers.{parts_in, rules_in, numbers_refusal}
 use Rattle.placing.specs.ByTips.{PlacedByTips, refusal_by_tips_in, buffer_by_tips_in, changes_by_tips_in, TipsRuleIn}
-use Rattle.placing.proofs.Numbered.{many_given}
-use Rattle.placing.proofs.TipAnswers.{placed_given}
 
 module _ (parts rules plan : List ℕ) (mounted : Mounted) (buffer : List ℕ) where
   pub record Answers (r : Refusal) (out : List ℕ) (changed : ℕ) : Type 0 where
@@ -42,9 +38,3 @@ module _ (parts rules plan : List ℕ) (mounted : Mounted) (buffer : List ℕ) w
       changes = p.changes ∙ sym (accepted _ _ passed refl);
       rule = λ _. rw (p.refusal, p.order, p.changes) (tips_rule (parts_in parts) (rules_in rules) plan mounted buffer);
     }
-
-    -- over 128 parts, whatever they are
-    pub too_many : {records : List (List ℕ)} {r : Refusal} → records ≡ first_chunks 4 (length parts / 4) parts
-        → r ≡ R.when (ltb 128 (length records)) 12 → (r.number ≡ 0 → ⊥) → Answers r buffer 0
-    too_many {records} e is n =
-        fit_answer (placed_given (parts_in parts) (rules_in rules) plan mounted buffer (many_given parts rules (length buffer) e is n) n)

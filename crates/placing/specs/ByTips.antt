@@ -1,26 +1,19 @@
 -- The placing order by tips: the parts that are ready, and the call for parts and rules as plain numbers.
-use Rattle.std.specs.Prelude.{ℕ, ◌<◌, ◌≡◌, cond, List, length}
-use Rattle.model.specs.Limits.{most_tips}
+use Rattle.std.specs.Prelude.{ℕ, ◌≡◌, cond, List, length}
 use Rattle.model.specs.Choice.{Mounted}
 use Rattle.refusal.specs.Told.{Refusal}
 use Rattle.refusal.specs.Refusal.{accepts, or_else, told}
-use Rattle.ordering.specs.declared.Part.{Part}
-use Rattle.ordering.specs.declared.Rule.{Rule}
-use Rattle.ordering.specs.Tips.{tip_at, is_ready, head_after}
-use Rattle.ordering.specs.TipCall.{refusal_by_tips, buffer_by_tips, changes_by_tips, TipsRule}
+use Rattle.order_rules.specs.declared.Part.{Part}
+use Rattle.order_rules.specs.declared.Rule.{Rule}
+use Rattle.order_rules.specs.Tips.{tip_at}
+use Rattle.order_rules.specs.TipCall.{refusal_by_tips, buffer_by_tips, changes_by_tips, TipsRule}
 use Rattle.flat_order.specs.declared.sets.PartSet.{PartSet}
-use Rattle.flat_order.specs.Sets.{has_part}
-use Rattle.flat_order.specs.Flat.{row_at, AtPlaces}
+use Rattle.flat_order.specs.Flat.{AtPlaces}
 use Rattle.placing.specs.Numbers.{parts_in, rules_in, numbers_refusal}
 
 -- the first n parts, each in the set of its tip
 abbrev pub OnTips : List ℕ → ℕ → List PartSet → Type 0
-OnTips plan n sets = AtPlaces (tip_at plan) most_tips n sets
-
--- after each of the first n parts, those on its tip
-pub record AfterEach (plan : List ℕ) (n : ℕ) (after : List PartSet) : Type 0 where
-  pub size : length after ≡ 128
-  pub each : (y x : ℕ) → y < n → x < length plan → has_part (row_at after y) x ≡ is_ready plan (head_after plan y) x
+OnTips plan n sets = AtPlaces (tip_at plan) n sets
 
 -- the answer is that of the call for a placing order by tips, and so are the order buffer and the number of changes
 pub record PlacedByTips (parts : List Part) (rules : List Rule) (plan : List ℕ) (mounted : Mounted) (old new : List ℕ) (r : Refusal)

@@ -1,18 +1,18 @@
 // The rows that the flags ask for: fine pitch first, tall last.
-ghost use Rattle.std.specs.Prelude.{◌≡◌, cond, ◌≤◌, length};
-ghost use Rattle.ordering.specs.Parts.{fine_pitch};
-ghost use Rattle.flat_order.specs.Sets.{no_parts};
+ghost use Rattle.std.specs.Prelude.{◌≡◌, cond, not, ◌≤◌, ◌<◌, List, length};
+ghost use Rattle.order_rules.specs.declared.Part.{Part};
+ghost use Rattle.order_rules.specs.Parts.{fine_pitch};
+ghost use Rattle.flat_order.specs.Sets.{no_parts, single, joined};
 ghost use Rattle.placing.specs.Given.{flag_row, Started, KindsOf};
 
-use flat_order::MOST_PARTS;
 use flat_order::sets::PartSet;
-use ordering::Part;
+use order_rules::Part;
 
 // The fine-pitch parts, and those that are not tall.
 #[derive(Clone, Copy)]
-struct Kinds {
-    fine: PartSet,
-    short: PartSet,
+pub struct Kinds {
+    pub fine: PartSet,
+    pub short: PartSet,
 }
 
 fn when(test: bool, s: PartSet) -> PartSet
@@ -27,39 +27,43 @@ fn is_fine(part: Part) -> bool
     part.fine && !part.tall
 }
 
-// Three functions ask for at most 128 parts. A type for this one bound would be no plainer than the slice.
-fn kinds_of(parts: &[Part]) -> Kinds
-    requires { length parts.now ≤ 128 }
-    ensures { KindsOf parts.now (length parts.now) result }
-{
-    let mut fine = PartSet::EMPTY;
-    let mut short = PartSet::EMPTY;
-    for (i, &part) in parts.iter().enumerate() {
+impl Kinds {
+    pub const NONE: Kinds = Kinds {
+        fine: PartSet::EMPTY,
+        short: PartSet::EMPTY,
+    };
+
+    // Part i is one more.
+    pub fn with(self, i: usize, part: Part) -> Kinds
+        requires { i < 128 }
+        ensures fine { result.fine ≡ joined self.fine (cond (fine_pitch part) (single i) no_parts) }
+        ensures short { result.short ≡ joined self.short (cond (not part.tall) (single i) no_parts) }
+    {
         let one = PartSet::single(i);
-        fine = fine | when(is_fine(part), one);
-        short = short | when(!part.tall, one);
+        Kinds {
+            fine: self.fine | when(is_fine(part), one),
+            short: self.short | when(!part.tall, one),
+        }
     }
-    Kinds { fine, short }
+
+    // The parts that are to precede part b by the flags.
+    #[tactic(auto, unfolding(crate::specs::Given::flag_row))]
+    fn row_of(self, b: usize) -> PartSet
+        requires { b < 128 }
+        ensures { result ≡ flag_row self b }
+    {
+        when(!self.fine.has(b), self.fine) | when(!self.short.has(b), self.short)
+    }
 }
 
-// The parts that are to precede a part by its flags.
-#[tactic(auto, unfolding(crate::specs::Given::flag_row))]
-fn flag_row(part: Part, kinds: Kinds) -> PartSet
-    ensures { result ≡ flag_row part kinds.fine kinds.short }
+// The rows by the flags of the parts.
+pub fn start_rows(kinds: Kinds, rows: &mut [PartSet])
+    requires { length rows.old ≤ 128 }
+    ensures size { length rows.new ≡ length rows.old }
+    ensures rows { (parts : List Part) → length parts ≡ length rows.old → KindsOf parts (length parts) kinds → Started parts rows.new }
 {
-    when(!is_fine(part), kinds.fine) | when(part.tall, kinds.short)
-}
-
-// The rows by the flags.
-pub fn start_rows(parts: &[Part]) -> [PartSet; MOST_PARTS]
-    requires { length parts.now ≤ 128 }
-    ensures { Started parts.now result }
-{
-    let kinds = kinds_of(parts);
-    let mut rows = [PartSet::EMPTY; MOST_PARTS];
     // By places: after an adapter of `iter_mut` a proof knows nothing of the elements.
-    for (b, &part) in parts.iter().enumerate() {
-        rows[b] = flag_row(part, kinds);
+    for b in 0..rows.len() {
+        rows[b] = kinds.row_of(b);
     }
-    rows
 }

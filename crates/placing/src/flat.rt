@@ -1,90 +1,94 @@
 // The parts and the rules over flat arrays, and what is refused of them before a search.
-ghost use Rattle.std.specs.Prelude.{◌≡◌, ℕ, List, ◌≤◌, ◌<◌, length, take, IfOk, not, position};
+ghost use Rattle.std.specs.Prelude.{◌≡◌, true, ℕ, List, ◌≤◌, ◌<◌, length, OnOk, IfOk, IfErr};
 ghost use Rattle.refusal.specs.Reasons.{refusal_of};
-ghost use Rattle.ordering.specs.declared.Rule.{Rule};
-ghost use Rattle.ordering.specs.Parts.{window_ok};
-ghost use Rattle.ordering.specs.Call.{given_refusal};
+ghost use Rattle.refusal.specs.declared.Reason.TheVariants.{BadWindow};
+ghost use Rattle.order_rules.specs.declared.Part.{Part};
+ghost use Rattle.order_rules.specs.declared.Rule.{Rule};
+ghost use Rattle.order_rules.specs.Parts.{window_ok};
+ghost use Rattle.order_rules.specs.Call.{first_bad, given_refusal};
 ghost use Rattle.flat_order.specs.Flat.{SizedFor, InPlace};
-ghost use Rattle.placing.specs.Rows.{GivesRules, RowsFor, PositionsOf};
+ghost use Rattle.placing.specs.Rows.{GivesParts, GivesRules, Taken, FlatOf};
 
-use crate::flags::start_rows;
+use crate::flags::{Kinds, start_rows};
 use crate::marking::add_rules;
-use flat_order::MOST_PARTS;
 use flat_order::sets::PartSet;
-use ordering::{Part, Rule};
-use refusal::{Reason, Refused, refuse_at};
+use order_rules::{Part, Rule};
+use refusal::{Reason, Refused};
 
-// By part its first and its last position, and the row of those that are to precede it. Two arrays of positions: a search writes the last ones
-// alone, as it settles them.
-#[derive(Drop)]
-pub struct FlatParts {
-    pub firsts: [usize; MOST_PARTS],
-    pub lasts: [usize; MOST_PARTS],
-    pub rows: [PartSet; MOST_PARTS],
-}
-
-#[tactic(auto, unfolding(ordering::specs::Parts::window_ok))]
+#[tactic(auto, unfolding(order_rules::specs::Parts::window_ok))]
 fn is_window_ok(n: usize, part: Part) -> bool
-    ensures { result ≡ window_ok n part }
+    ensures test { result ≡ window_ok n part }
+    ensures inside { result ≡ true → (part.first < n) × (part.last < n) }
 {
     part.first <= part.last && part.last < n
 }
 
-// The place of the first part with a bad window.
-fn first_bad_window(parts: &[Part]) -> Option<usize>
-    ensures { result ≡ position (λ x. not (window_ok (length parts.now) x)) parts.now }
+// The first and the last positions of n parts, and their kinds. The first part with a bad window is refused. The parts are a count and a
+// function, as the rules are in `add_rules`.
+fn take_parts<P: Fn(usize) -> Part>(
+    n: usize,
+    part_at: P,
+    firsts: &mut [u8],
+    lasts: &mut [u8],
+) -> Result<Kinds, Refused>
+    requires few { n ≤ 128 }
+    requires firsts { n ≤ length firsts.old }
+    requires lasts { n ≤ length lasts.old }
+    requires callable { (i : ℕ) → i < n → P.pre part_at i }
+    ensures firsts_size { length firsts.new ≡ length firsts.old }
+    ensures lasts_size { length lasts.new ≡ length lasts.old }
+    ensures firsts { OnOk result (InPlace n firsts.new) }
+    ensures lasts { OnOk result (InPlace n lasts.new) }
+    ensures ok { IfOk result (λ kinds. (parts : List Part) → GivesParts (P.post part_at) n parts → Taken parts n firsts.new lasts.new kinds) }
+    ensures err { IfErr result (λ e. (parts : List Part) → GivesParts (P.post part_at) n parts
+        → (e.reason ≡ BadWindow) × (e.place < length parts) × (e.place ≡ first_bad parts)) }
 {
-    let n = parts.len();
-    parts.iter().position(|part| !is_window_ok(n, *part))
+    let mut kinds = Kinds::NONE;
+    for i in 0..n {
+        let part = part_at(i);
+        if !is_window_ok(n, part) {
+            return Err(Reason::BadWindow.at(i));
+        }
+        firsts[i] = part.first as u8;
+        lasts[i] = part.last as u8;
+        kinds = kinds.with(i, part);
+    }
+    Ok(kinds)
 }
 
-// The positions of the parts beside their rows.
-fn with_positions(parts: &[Part], rows: [PartSet; MOST_PARTS]) -> FlatParts
-    requires { length parts.now ≤ 128 }
-    ensures rows { result.rows ≡ rows }
-    ensures positions { PositionsOf parts.now (length parts.now) result.firsts result.lasts }
-{
-    let mut firsts = [0; MOST_PARTS];
-    let mut lasts = [0; MOST_PARTS];
-    for (i, part) in parts.iter().enumerate() {
-        firsts[i] = part.first;
-        lasts[i] = part.last;
-    }
-    FlatParts {
-        firsts,
-        lasts,
-        rows,
-    }
-}
-
-// The refusals that do not depend on a search, in their order, and then the arrays. Every buffer that is lent has a byte for each part: `room` is
-// the length of the shortest. The rules are a count and a function, as in `add_rules`.
-pub fn flat_parts<F: Fn(usize) -> Rule>(
-    parts: &[Part],
+// The refusals that do not depend on a search, in their order, and the arrays filled: by part its first and its last position, and the row of
+// those that are to precede it. Every buffer that is lent has a byte for each part: `room` is the length of the shortest.
+pub fn flat_parts<P: Fn(usize) -> Part, F: Fn(usize) -> Rule>(
+    n: usize,
+    part_at: P,
     count: usize,
     rule_at: F,
     room: usize,
-) -> Result<FlatParts, Refused>
-    requires { (i : ℕ) → i < count → F.pre rule_at i }
-    ensures refusal { (rules : List Rule) → GivesRules (F.post rule_at) count rules
-        → refusal_of result ≡ given_refusal parts.now rules room }
-    ensures sized { IfOk result (λ flat. SizedFor (length parts.now) flat.firsts flat.rows) }
-    ensures firsts { IfOk result (λ flat. InPlace (length parts.now) flat.firsts) }
-    ensures lasts { IfOk result (λ flat. InPlace (length parts.now) (take (length parts.now) flat.lasts)) }
-    ensures positions { IfOk result (λ flat. PositionsOf parts.now (length parts.now) flat.firsts flat.lasts) }
-    ensures rows { IfOk result (λ flat. (rules : List Rule) → GivesRules (F.post rule_at) count rules
-        → RowsFor parts.now rules flat.rows) }
-    ensures room { IfOk result (λ flat. length parts.now ≤ room) }
+    firsts: &mut [u8],
+    lasts: &mut [u8],
+    rows: &mut [PartSet],
+) -> Result<(), Refused>
+    requires few { n ≤ 128 }
+    requires firsts { length firsts.old ≡ n }
+    requires lasts { length lasts.old ≡ n }
+    requires rows { length rows.old ≡ n }
+    requires parts { (i : ℕ) → i < n → P.pre part_at i }
+    requires rules { (i : ℕ) → i < count → F.pre rule_at i }
+    ensures refusal { (parts : List Part) → GivesParts (P.post part_at) n parts → (rules : List Rule) → GivesRules (F.post rule_at) count rules
+        → refusal_of result ≡ given_refusal parts rules room }
+    ensures size { length lasts.new ≡ n }
+    ensures sized { OnOk result (SizedFor (length lasts.new) firsts.new rows.new) }
+    ensures firsts { OnOk result (InPlace (length lasts.new) firsts.new) }
+    ensures lasts { OnOk result (InPlace (length lasts.new) lasts.new) }
+    ensures flat { OnOk result ((parts : List Part) → GivesParts (P.post part_at) n parts
+        → (rules : List Rule) → GivesRules (F.post rule_at) count rules → FlatOf parts rules firsts.new lasts.new rows.new) }
+    ensures room { OnOk result (n ≤ room) }
 {
-    let n = parts.len();
-    if MOST_PARTS < n {
-        return Err(Reason::BadWindow.at(0));
-    }
-    refuse_at(first_bad_window(parts), Reason::BadWindow)?;
-    let mut rows = start_rows(parts);
-    add_rules(n, &mut rows, count, rule_at)?;
+    let kinds = take_parts(n, part_at, &mut *firsts, &mut *lasts)?;
+    start_rows(kinds, &mut *rows);
+    add_rules(n, &mut *rows, count, rule_at)?;
     if room < n {
         return Err(Reason::ShortOrder.at(0));
     }
-    Ok(with_positions(parts, rows))
+    Ok(())
 }

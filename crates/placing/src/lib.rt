@@ -4,11 +4,11 @@
 
 ghost use Rattle.std.specs.Prelude.{◌≡◌, length};
 ghost use Rattle.refusal.specs.Reasons.{refusal_of, count_in};
-ghost use Rattle.ordering.specs.Call.{order_refusal, order_after, PlacingRule};
+ghost use Rattle.order_rules.specs.Call.{order_refusal, order_after, PlacingRule};
 ghost use Rattle.cases.specs.Cases.{Told};
 ghost use Rattle.order_cases.specs.Cases.{order_cases, tip_order_cases};
 ghost use Rattle.head.specs.OnHead.{on_head};
-ghost use Rattle.ordering.specs.TipCall.{refusal_by_tips, buffer_by_tips, changes_by_tips, TipsRule};
+ghost use Rattle.order_rules.specs.TipCall.{refusal_by_tips, buffer_by_tips, changes_by_tips, TipsRule};
 
 mod by_tips;
 mod flags;
@@ -19,7 +19,7 @@ mod placement;
 
 use crate::by_tips::place_by_tips;
 use crate::placement::place;
-use ordering::{Part, Rule};
+use order_rules::{Part, Rule};
 use refusal::Refused;
 
 // The placing order: one byte a position, the bytes past it untouched.
@@ -29,7 +29,7 @@ pub fn order_parts(parts: &[Part], rules: &[Rule], order: &mut [u8]) -> Result<(
     ensures rule { PlacingRule parts.now rules.now (length order.old) order.new (refusal_of result) }
     ensures cases { Told (order_cases parts.now rules.now (length order.old)) (refusal_of result) }
 {
-    place(parts, rules.len(), |i| rules[i], order)
+    place(parts.len(), |i| parts[i], rules.len(), |i| rules[i], order)
 }
 
 // The placing order by tips: a part on the tip of the part before it, at the start on the mounted tip, comes before any other. The plan has
@@ -48,5 +48,13 @@ pub fn order_by_tips(
         (count_in result) }
     ensures cases { Told (tip_order_cases parts.now rules.now plan.now (on_head mounted) (length order.old)) (refusal_of result) }
 {
-    place_by_tips(parts, rules.len(), |i| rules[i], plan, mounted, order)
+    place_by_tips(
+        parts.len(),
+        |i| parts[i],
+        rules.len(),
+        |i| rules[i],
+        plan,
+        mounted,
+        order,
+    )
 }

@@ -1,9 +1,7 @@
 // The placing order for parts and rules as plain numbers: four numbers a part, two a rule.
-ghost use Rattle.std.specs.Prelude.{◌≡◌, ℕ, ◌/◌, ◌≤◌, ◌<◌, [], length, get_or, ltb, IfOk};
+ghost use Rattle.std.specs.Prelude.{◌≡◌, ◌/◌, length, IfOk};
 ghost use Rattle.std.specs.Simd.{first_chunks};
-ghost use Rattle.refusal.specs.Refusal.{when};
 ghost use Rattle.refusal.specs.Reasons.{refusal_of, count_in};
-ghost use Rattle.ordering.specs.Parts.{part_at};
 ghost use Rattle.placing.specs.Numbers.{part_of_numbers, rule_in, numbers_refusal, order_in, order_after_in, PlacingRuleIn};
 ghost use Rattle.cases.specs.Cases.{Told};
 ghost use Rattle.placing.specs.Cases.{numbers_cases, numbers_by_tips_cases};
@@ -12,12 +10,11 @@ ghost use Rattle.placing.specs.ByTips.{refusal_by_tips_in, buffer_by_tips_in, ch
 
 use crate::by_tips::place_by_tips;
 use crate::placement::place;
-use flat_order::MOST_PARTS;
-use ordering::{Part, Rule};
+use order_rules::{Part, Rule};
 use refusal::{Reason, Refused};
 
 #[tactic(auto, unfolding(crate::specs::Numbers::part_of_numbers))]
-fn part_of(numbers: &[u32; 4]) -> Part
+pub fn part_of(numbers: &[u32; 4]) -> Part
     ensures { result ≡ part_of_numbers numbers.now 0 }
 {
     let [first, last, fine, tall] = *numbers;
@@ -46,30 +43,6 @@ pub fn records_of<'p, 'r>(
     Ok((records, pairs))
 }
 
-// The parts in the first places. Over 128 are refused at once, as no place is left for them.
-pub fn parts_of(records: &[[u32; 4]]) -> Result<[Part; MOST_PARTS], Refused>
-    ensures refusal { refusal_of result ≡ when (ltb 128 (length records.now)) 12 }
-    ensures parts { IfOk result (λ parts. (i : ℕ) → i < length records.now
-        → part_at parts i ≡ part_of_numbers (get_or records.now i []) 0) }
-    ensures few { IfOk result (λ parts. length records.now ≤ 128) }
-    ensures size { IfOk result (λ parts. length parts ≡ 128) }
-{
-    if MOST_PARTS < records.len() {
-        return Err(Reason::BadWindow.at(0));
-    }
-    let none = Part {
-        first: 0,
-        last: 0,
-        fine: false,
-        tall: false,
-    };
-    let mut parts = [none; MOST_PARTS];
-    for (i, record) in records.iter().enumerate() {
-        parts[i] = part_of(record);
-    }
-    Ok(parts)
-}
-
 #[tactic(auto, unfolding(crate::specs::Numbers::rule_in))]
 pub fn rule_of(numbers: &[u32; 2]) -> Rule
     ensures { result ≡ rule_in numbers.now 0 }
@@ -89,9 +62,9 @@ pub fn order_numbers(parts: &[u32], rules: &[u32], order: &mut [u8]) -> Result<(
     ensures cases { Told (numbers_cases parts.now rules.now (length order.old)) (refusal_of result) }
 {
     let (records, pairs) = records_of(parts, rules)?;
-    let given = parts_of(records)?;
     place(
-        &given[..records.len()],
+        records.len(),
+        |i| part_of(&records[i]),
         pairs.len(),
         |i| rule_of(&pairs[i]),
         order,
@@ -114,9 +87,9 @@ pub fn order_by_tips(
     ensures cases { Told (numbers_by_tips_cases parts.now rules.now plan.now (on_head mounted) (length order.old)) (refusal_of result) }
 {
     let (records, pairs) = records_of(parts, rules)?;
-    let given = parts_of(records)?;
     place_by_tips(
-        &given[..records.len()],
+        records.len(),
+        |i| part_of(&records[i]),
         pairs.len(),
         |i| rule_of(&pairs[i]),
         plan,

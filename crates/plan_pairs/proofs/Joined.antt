@@ -15,7 +15,7 @@ use Rattle.model.proofs.Limits.{pairs_few}
 use Rattle.placements.specs.Repeated.{total, repeated}
 use Rattle.placements.proofs.Repeated.{length-repeated}
 use Rattle.placements.proofs.Totals.{total-take_le}
-use Rattle.goals.proofs.Append.{mix_append, mix_after, count-replicate}
+use Rattle.model.proofs.Append.{mix_append, mix_after, count-replicate}
 use Rattle.plan_pairs.specs.OnTips.{on_tips}
 
 abbrev pub placed : List ℕ → List ℕ → ℕ → List ℕ

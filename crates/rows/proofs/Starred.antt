@@ -11,7 +11,7 @@ use Rattle.model.specs.Interval.{low, high, named, fills, is_run_of, lies, insid
 use Rattle.placements.specs.Repeated.{total, repeated}
 use Rattle.placements.specs.Totals.{first_over}
 use Rattle.placements.specs.Plans.{quick_plan_q, best_plan_q}
-use Rattle.placements.specs.Keep.{common_within, scarce, kept_q, prune_q}
+use Rattle.placements.specs.Keep.{V, scarce, kept_q, prune_q}
 use Rattle.refusal.specs.Refusal.{or_else, scan}
 use Rattle.job.specs.Job.{bytes_of, number_of, number_at, line_length, paired, header_of}
 use Rattle.job.specs.Job.{line_of, bytes_of_lines, file_of, version_for, sets_in, quantities_in}
@@ -19,22 +19,23 @@ use Rattle.job.specs.Job.{version_ok, start_number, size_number, header_number, 
 use Rattle.sound.specs.Sound.{count_ok, first_wrong, first_held, sound_refusal}
 use Rattle.call_refusals.specs.State.{stage_refusal, state_refusal}
 use Rattle.call_refusals.specs.Calls.{add_refusal, keep_refusal, mounted_refusal, plan_refusal, best_refusal, write_refusal}
-use Rattle.goals.specs.Check.{entry, is_valid, bounds}
-use Rattle.goals.specs.Goal.{only, goal_tips, strike}
+use Rattle.goal_rules.specs.Check.{entry, is_valid, bounds}
+use Rattle.goal_rules.specs.Goal.{only, goal_tips, strike}
 use Rattle.checking.specs.Checking.{claim_refusal, table_ok, check_refusal}
 use Rattle.striking.specs.Striking.{goal_refusal}
 use Rattle.line_calls.specs.Lines
 use Rattle.line_calls.specs.Goal
 use Rattle.call_refusals.specs.Junior.{junior_refusal}
-use Rattle.holders.specs.Holders.{is_served, first_tip, second_tip, junior_plan, line_plan, chosen}
-use Rattle.holders.specs.Holders.{score, is_choice, serves, two_plan, to_first, gathered}
+use Rattle.holder_rules.specs.Holders.{is_served, first_tip, second_tip, junior_plan, line_plan, chosen}
+use Rattle.holder_rules.specs.Holders.{score, is_choice, serves, two_plan, to_first, gathered}
 use Rattle.line_calls.specs.Junior as LinesJunior
 use Rattle.along.specs.Along.{parted, common as shared_tips, fewest_from, final, plan_from, start_set, fewest, plan_along}
 use Rattle.line_calls.specs.Along as LinesAlong
 use Rattle.line_calls.specs.Exact as LinesExact
 use Rattle.model.specs.Renumber.{names, rank}
-use Rattle.subsets.specs.Subsets.{tips_used, lying, gain, score_by, score as exact_score, worth as exact_worth, pick, order, exact_tip, exact_plan_q}
-use Rattle.subsets.specs.Table.{tips_at, exact_table}
+use Rattle.subset_rules.specs.Subsets.{tips_used, lying, gain, score_by, score as exact_score, worth as exact_worth}
+use Rattle.subset_rules.specs.Subsets.{pick, order, exact_tip, exact_plan_q}
+use Rattle.subset_rules.specs.Table.{tips_at, exact_table}
 use Rattle.board.specs.Board.{no_sets, no_quantities, add_of, close_of}
 use Rattle.board.specs.Common.{common_of, keep_of}
 use Rattle.board.specs.Sharing.{quick_of, quick_buffer, best_of, best_buffer, best_table}
@@ -68,7 +69,7 @@ unfolding run add_of close_of common_of keep_of quick_of quick_buffer best_of be
     Lines.best_table add_refusal keep_refusal mounted_refusal plan_refusal best_refusal or_else scan stage_refusal state_refusal sound_refusal
     first_wrong
     first_held first_over count_ok rack_ok is_domain in_rack each first_fail line_number total repeated margin
-    prune_q zip_with kept_q scarce common_within
+    prune_q zip_with kept_q scarce V
     narrowed covers every W set_of top largest occ has count quick_plan_q quick_tip rounds first busiest choice lowest_at select pairs uses table
     list_of best_plan_q best_tip tip_by pick_of worth from named C most lies inside low high choose2 count_leading_zeros count_trailing_zeros
     fills is_run_of read_of

@@ -9,7 +9,7 @@ use Rattle.board.specs.Board.{empty_board}
 use Rattle.board.specs.Common.{common_of}
 use Rattle.board.specs.Sharing.{best_of}
 use Rattle.board.specs.Panel.{merge_of, alone_of, alone_buffer}
-use Rattle.rows.specs.Rows.{record_of, made_board, closed_board, counted_board}
+use Rattle.board.specs.Made.{record_of, made_board, closed_board, counted_board}
 
 -- a merge of two boards
 pub record MergeRow : Type 0 where

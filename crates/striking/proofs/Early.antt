@@ -6,6 +6,8 @@ use mathlib.Core.Logic.{◌↔◌, ⊎_elim}
 use mathlib.Core.Bool.{false, ◌&&◌}
 use mathlib.Core.List.{List}
 use lib.Bits.{bit_or}
+use lib.ListN.{length, get_or, set, length-set}
+use lib.Seq.{get_or-set_same, get_or-set_other}
 use lib.Dec.{T, leb, ltb, leb→le, le→leb, ltb→lt, lt→ltb}
 use Rattle.model.specs.Limits.{most_tips}
 use Rattle.model.specs.Plan.{has, Domain}
@@ -14,10 +16,11 @@ use Rattle.model.proofs.Tests.{le_or_lt, test, true_T, false_T, and_left, and_ri
 use Rattle.model.proofs.Run.{low_le, le_high}
 use Rattle.model.proofs.Sets.{empty_has, has-set_of, or_left, or_right}
 use Rattle.ranks.proofs.Joined.{or_out}
-use Rattle.goals.specs.Check.{entry}
-use Rattle.goals.specs.Tables.{Whole}
-use Rattle.striking.specs.Striking.{split_by, ends_by, tips_by}
-use Rattle.striking.specs.Early.{live_by, firsts_by, Finds, Found, starts_by, leaves_by}
+use Rattle.goal_rules.specs.Check.{entry}
+use Rattle.goal_rules.specs.Tables.{Whole}
+use Rattle.intervals.specs.Splits.{split_by}
+use Rattle.striking.specs.Striking.{ends_by, tips_by}
+use Rattle.striking.specs.Early.{live_by, Widest, firsts_by, Finds, Found, starts_by, leaves_by}
 use Rattle.striking.proofs.Kept.{and_none}
 
 -- a tip of the line is in each interval that has the line whole
@@ -61,6 +64,11 @@ module _ (m : ℕ) (xs inner upper : List ℕ) (q s K a w t : ℕ) where
       and_in (ltb t (a + w)) (leb a t && (has s t && e)) (lt→ltb t (a + w) r)
       (and_in (leb a t) (has s t && e) (le→leb a t p) (and_in (has s t) e h (le→leb K value k))))
 
+  -- where it is not live, none is
+  pub firsts-none : live_by m inner upper K a w ≡ false → T (has (firsts_by m xs inner upper q s K a w) t) → ⊥
+  unfolding firsts_by
+  firsts-none e h = rw (e, empty_has 0 t tt) at h
+
 -- ---- no tip leaves the line where none from its lowest tip to its highest does
 
 module _ (m : ℕ) (xs inner upper : List ℕ) {s : ℕ} (q f g K a w : ℕ) where
@@ -75,6 +83,42 @@ module _ (m : ℕ) (xs inner upper : List ℕ) {s : ℕ} (q f g K a w : ℕ) whe
           (λ h. none c (low_le s c h) (omega (arith, le_high narrow d c h)))
           (λ n. rw (false_T (has s c) n) refl)
           (test (has s c))
+
+-- nor where the interval is not live
+pub leaves-none : (m : ℕ) (xs inner upper : List ℕ) (q s f g K a w c : ℕ) → live_by m inner upper K a w ≡ false
+    → leaves_by m xs inner upper q s f g K a w c ≡ false
+unfolding leaves_by
+leaves-none m xs inner upper q s f g K a w c e = rw e refl
+
+-- ---- the widest live intervals so far
+
+-- at first
+pub widest_none : {m : ℕ} {inner upper : List ℕ} {K : ℕ} {widest : List ℕ} → length widest ≡ m → Widest m inner upper K widest 0
+widest_none e = record { room = e; inside = λ a h. absurd (omega arith); past = λ a w h g k. absurd (omega arith) }
+
+-- of one first tip more
+pub widest_more : {m : ℕ} {inner upper : List ℕ} {K : ℕ} {widest : List ℕ} {a : ℕ} → Widest m inner upper K widest a → a < m → (v : ℕ) → a + v ≤ m
+    → ((w : ℕ) → a + w ≤ m → v < w → live_by m inner upper K a w ≡ false) → Widest m inner upper K (set widest a v) (a + 1)
+widest_more {m} {inner} {upper} {K} {widest} {a} o l v p none = record {
+  room = rw length-set o.room;
+  inside = λ b h. ⊎_elim
+      (λ g. let e : b ≡ a = omega arith in rw (e, here) p)
+      (λ g. rw (other b g) (o.inside b g))
+      (le_or_lt a b);
+  past = λ b w h g k. ⊎_elim
+      (λ x. let e : b ≡ a = omega arith in dead b w e g k)
+      (λ x. o.past b w x g (rw (other b x) at k))
+      (le_or_lt a b);
+}
+  where
+    here : get_or (set widest a v) a 0 ≡ v
+    here = get_or-set_same widest a v 0 (omega (arith, o.room))
+
+    other : (b : ℕ) → b < a → get_or (set widest a v) b 0 ≡ get_or widest b 0
+    other b g = get_or-set_other widest a b v 0 (λ e. omega (arith, e))
+
+    dead : (b w : ℕ) → b ≡ a → b + w ≤ m → get_or (set widest a v) b 0 < w → live_by m inner upper K b w ≡ false
+    dead b w e g k = rw e (none w (rw e at g) (rw (e, here) at k))
 
 -- ---- the tips found so far
 
@@ -105,9 +149,10 @@ module _ {m s : ℕ} {f : ℕ → ℕ → ℕ} where
       same : (v t : ℕ) → v ≡ w → T (has (f a v) t) → T (has r t)
       same v t z h = rw e (rw z at h)
 
-  -- a whole row
-  pub found_next : {known a w : ℕ} → m < a + w → Found m s f known a w → Found m s f known (a + 1) 0
-  found_next {known} {a} {w} g o = record {
+  -- a whole row: no wider interval finds a tip
+  pub found_past : {known a w : ℕ} → ((v t : ℕ) → w ≤ v → Whole m s a v → T (has (f a v) t) → ⊥) → Found m s f known a w
+      → Found m s f known (a + 1) 0
+  found_past {known} {a} {w} none o = record {
     right = o.right;
     rows = λ b v t l y h. ⊎_elim
         (λ p. let z : b ≡ a = omega arith in same b v t z y h)
@@ -117,7 +162,10 @@ module _ {m s : ℕ} {f : ℕ → ℕ → ℕ} where
   }
     where
       same : (b v t : ℕ) → b ≡ a → Whole m s b v → T (has (f b v) t) → T (has known t)
-      same b v t z y h = let x : Whole m s a v = rw z at y in o.row v t (omega (arith, x.ends)) x (rw z at h)
+      same b v t z y h =
+          let x : Whole m s a v = rw z at y in
+          let g : T (has (f a v) t) = rw z at h in
+          ⊎_elim (λ p. absurd (none v t p x g)) (λ p. o.row v t p x g) (le_or_lt w v)
 
   -- all tips of the line are known
   pub found_all : {known a w : ℕ} → known ≡ s → ((b v t : ℕ) → T (has (f b v) t) → T (has s t)) → Found m s f known a w → Found m s f known (a + 1) 0

@@ -24,15 +24,18 @@ use Rattle.model.proofs.Run.{low_le, le_high, high-below}
 use Rattle.model.proofs.ListOf.{list_of-at}
 use Rattle.model.proofs.Sets.{set_of_lt, set_of-none, set_of_cong}
 use Rattle.placements.specs.Repeated.{repeated}
-use Rattle.goals.specs.Goal.{others, goal_tips, strike}
+use Rattle.goal_rules.specs.Goal.{others, goal_tips, strike}
 use Rattle.refusal.specs.Refusal.{refuse}
-use Rattle.goals.specs.Tables.{Out, always, Ends}
-use Rattle.goals.proofs.Strike.{fewer, tips-by_tables}
+use Rattle.goal_rules.specs.Tables.{Ends}
+use Rattle.goal_rules.proofs.Strike.{fewer, tips-by_tables}
 use Rattle.ranks.specs.Runs.{FullRuns}
 use Rattle.ranks.proofs.Runs.{full-named, full-lines}
-use Rattle.striking.specs.Striking.{goal_refusal, struck_by, RunSums, limit_by, open_by, ends_by, InsideAll, OutsideAll, Known}
-use Rattle.striking.proofs.Read.{inside_meeting}
-use Rattle.striking.proofs.Outer.{Out_few}
+use Rattle.spans.specs.Spans.{RunSums}
+use Rattle.intervals.specs.Splits.{InsideAll}
+use Rattle.intervals.specs.Outer.{OutsideAll}
+use Rattle.striking.specs.Striking.{goal_refusal, struck_by, limit_by, open_by, ends_by, Known}
+use Rattle.intervals.proofs.Read.{inside_meeting}
+use Rattle.intervals.proofs.Outer.{Out_few}
 
 -- THE KEPT SET of line i: the tips at which some chain ends with the goal's pairs, by the two tables of all lines
 module _ {m : ℕ} {qs sets : List ℕ} (r : FullRuns m qs sets) (i : ℕ) (l : i < length sets) {all xs inner upper : List ℕ}
@@ -43,20 +46,18 @@ module _ {m : ℕ} {qs sets : List ℕ} (r : FullRuns m qs sets) (i : ℕ) (l : 
   known = record { others = k; inside = x; outside = o; fewer = fewer r.good (full-named r) i l; few = Out_few ks }
 
   -- where enough pairs can be had for a tip of the set asked an interval is followed
-  opens : (asked : ℕ) → Domain m asked → (K t : ℕ) → T (has asked t) → (a w : ℕ) → T (has (get_or sets i 0) t) → a ≤ t → t < a + w
-      → a + w ≤ m → K ≤ Out always m (C (repeated qs sets)) (repeated qs sets) a w
-      + (C (repeated qs sets) a w + (get_or qs i 0 * inside (others qs sets i) a w t + choose2 (get_or qs i 0)))
-      → T (open_by m xs inner upper (get_or qs i 0) asked K a w)
+  opens : (asked : ℕ) → Domain m asked → (K t : ℕ) → T (has asked t) → (a w outside : ℕ) → T (has (get_or sets i 0) t) → a ≤ t → t < a + w
+      → a + w ≤ m → K ≤ outside + (C (repeated qs sets) a w + (get_or qs i 0 * inside (others qs sets i) a w t + choose2 (get_or qs i 0)))
+      → T (open_by m xs inner (get_or qs i 0) asked K a w outside)
   unfolding open_by limit_by
-  opens asked d K t u a w h p e b n =
+  opens asked d K t u a w outside h p e b n =
       let line = all-at 0 (full-lines r) i l in
-      let enough = leb K (limit_by m xs inner upper (get_or qs i 0) asked a w) in
+      let enough = leb K (limit_by m xs inner (get_or qs i 0) asked outside a w) in
       let top = le_high r.good.most d t u in
       and_in (leb a (high asked)) (ltb (low asked) (a + w) && enough)
       (le→leb a (high asked) (omega (arith, top)))
       (and_in (ltb (low asked) (a + w)) enough (lt→ltb (low asked) (a + w) (omega (arith, low_le asked t u))) (le→leb K _ (omega (
         arith,
-        o.wider a w (omega arith) b,
         x.entries a w b,
         mul-le-mul_left (get_or qs i 0) (inside_meeting k (low asked) (high asked) a w t b p e (low_le asked t u) top
             (high-below r.good.most d)),
@@ -65,10 +66,10 @@ module _ {m : ℕ} {qs sets : List ℕ} (r : FullRuns m qs sets) (i : ℕ) (l : 
   -- of the tips asked for
   pub kept_iff : (asked : ℕ) → Domain m asked → (K kept : ℕ)
       → ((t : ℕ) → T (has kept t) ↔ (T (has asked t)
-      × Ends (open_by m xs inner upper (get_or qs i 0) asked K) m (C (repeated qs sets)) (others qs sets i) (get_or qs i 0) K t))
+      × Ends (open_by m xs inner (get_or qs i 0) asked K) m (C (repeated qs sets)) (others qs sets i) (get_or qs i 0) K t))
       → (t : ℕ) → T (has asked t) → T (has (get_or sets i 0) t) → T (has kept t) ↔ T (has (goal_tips m qs sets K i) t)
   kept_iff asked d K kept f t u h =
-      let g = tips-by_tables r.good (full-named r) i l K (open_by m xs inner upper (get_or qs i 0) asked K) t (opens asked d K t u) in
+      let g = tips-by_tables r.good (full-named r) i l K (open_by m xs inner (get_or qs i 0) asked K) t (opens asked d K t u) in
       (λ y. g.1 (h, ((f t).0 y).1), λ y. (f t).1 (u, (g.0 y).1))
 
 -- the kept set of a line before i

@@ -11,8 +11,8 @@ use Rattle.model.specs.Interval.{named, is_run_of, C}
 use Rattle.model.proofs.Tests.{le_or_lt}
 use Rattle.placements.specs.Repeated.{repeated}
 use Rattle.placements.specs.Good.{GoodLines}
-use Rattle.goals.specs.Goal.{strike, Struck}
-use Rattle.goals.proofs.Strike.{missed_iff, strike_runs}
+use Rattle.goal_rules.specs.Goal.{strike, Struck}
+use Rattle.goal_rules.proofs.Strike.{missed_iff, strike_runs}
 use Rattle.striking.specs.Striking.{goal_refusal}
 use Rattle.striking.proofs.Kept.{goal_missed, goal-met}
 

@@ -1,12 +1,8 @@
 pub mod Others
-pub mod Read
-pub mod Inner
-pub mod Outer
 pub mod Follow
 pub mod Early
 pub mod Kept
 pub mod Settled
 pub mod Ranges
 pub mod Ranks
-pub mod One
 pub mod Laws

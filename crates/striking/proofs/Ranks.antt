@@ -24,10 +24,10 @@ use Rattle.model.proofs.RenumberBoard.{length-renumbered}
 use Rattle.placements.specs.Repeated.{repeated}
 use Rattle.placements.proofs.Renumbered.{pairs-renumbered}
 use Rattle.refusal.specs.Refusal.{when}
-use Rattle.goals.specs.Goal.{goal_tips, strike, Struck}
-use Rattle.goals.proofs.Strike.{strike_runs}
-use Rattle.goals.proofs.Ranked.{tips-ranks}
-use Rattle.goals.proofs.Starts.{tips-reach}
+use Rattle.goal_rules.specs.Goal.{goal_tips, strike, Struck}
+use Rattle.goal_rules.proofs.Strike.{strike_runs}
+use Rattle.goal_rules.proofs.Ranked.{tips-ranks}
+use Rattle.goal_rules.proofs.Starts.{tips-reach}
 use Rattle.ranks.specs.Listed.{Ranks, Named, run_by, named_by, Nameable}
 use Rattle.ranks.specs.Runs.{NamedRuns, FullRuns}
 use Rattle.ranks.proofs.Joined.{joined-has}

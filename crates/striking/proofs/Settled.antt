@@ -21,16 +21,18 @@ use Rattle.model.proofs.Run.{low_le, le_high, high-below}
 use Rattle.placements.specs.Repeated.{repeated}
 use Rattle.spans.specs.Spans.{inside_by}
 use Rattle.ranks.proofs.Joined.{or_out}
-use Rattle.goals.specs.Check.{entry}
-use Rattle.goals.specs.Goal.{goal_tips}
-use Rattle.goals.specs.Tables.{Out, always, Whole, First, Start, parted}
-use Rattle.goals.proofs.Starts.{tips-reach, own_count, first_reaches, first_or_start}
+use Rattle.goal_rules.specs.Check.{entry}
+use Rattle.goal_rules.specs.Goal.{goal_tips}
+use Rattle.goal_rules.specs.Tables.{Out, always, Whole, First, Start, parted}
+use Rattle.goal_rules.proofs.Starts.{tips-reach, own_count, first_reaches, first_or_start}
 use Rattle.ranks.specs.Runs.{FullRuns}
 use Rattle.ranks.proofs.Runs.{full-named, full-lines}
-use Rattle.checking.proofs.Filled.{inside_by_ok}
-use Rattle.striking.specs.Striking.{RunSums, meeting_by, split_by, InsideAll, OutsideAll}
+use Rattle.spans.specs.Spans.{RunSums}
+use Rattle.spans.proofs.Read.{inside_is}
+use Rattle.intervals.specs.Splits.{meeting_by, split_by, InsideAll}
+use Rattle.intervals.specs.Outer.{OutsideAll}
 use Rattle.striking.specs.Early.{live_by, firsts_by, Finds, before_most, behind_most, parted_by, starts_by, leaves_by, Leaving}
-use Rattle.striking.proofs.Read.{meets, inside_meeting, pairs_same}
+use Rattle.intervals.proofs.Read.{meets, inside_meeting, split_same}
 use Rattle.striking.proofs.Others.{rest-sums}
 use Rattle.striking.proofs.Early.{tip_in, firsts-out, firsts-in}
 
@@ -54,6 +56,19 @@ module _ (a b t : ℕ) where
       (le_or_lt (a / 2 ^ t % 2) 0))
       (test (has b t))
 
+-- of a set some tips are known and others are left
+pub left_domain : {m s known : ℕ} → Domain m s → ((t : ℕ) → T (has known t) → T (has s t)) → (known ≡ s → ⊥) → Domain m (bit_xor s known)
+unfolding in_rack
+left_domain {m} {s} {known} d own differs = record { some = omega (arith, none); below = xor_lt m s known d.below below }
+  where
+    below : known < 2 ^ m
+    below = ltb→lt known (2 ^ m) ((in_rack_iff m known).1 (λ t h. has-below m s t d.below (own t h)))
+
+    none : bit_xor s known ≡ 0 → ⊥
+    none e = differs (set_same known s (λ t. same_test (has known t) (has s t) (own t) (λ h. ⊎_elim (λ y. y)
+        (λ n. absurd (rw (e, empty_has 0 t tt) at (xor_in s known t h n)))
+        (test (has known t)))))
+
 module _ {m : ℕ} {qs sets : List ℕ} (r : FullRuns m qs sets) (i : ℕ) (l : i < length sets) {xs inner upper : List ℕ}
     (ks : RunSums m 0 (repeated qs sets) xs) (x : InsideAll m (repeated qs sets) inner) (o : OutsideAll m (repeated qs sets) upper) where
   abbrev s : ℕ
@@ -75,19 +90,10 @@ module _ {m : ℕ} {qs sets : List ℕ} (r : FullRuns m qs sets) (i : ℕ) (l : 
   line = all-at 0 (full-lines r) i l
 
   count-is : (a w c : ℕ) → a + w ≤ m → a ≤ c → c < a + w → T (has s c) → inside_by m xs a w c ≡ inside placed a w c
-  count-is a w c e p g h = rw ks.summed (inside_by_ok placed ks.rack ks.runs a w c e p g tt)
+  count-is a w c e p g h = inside_is ks a w c e p g
 
   split_is : (a w j : ℕ) → j < w → a + w ≤ m → split_by m xs inner 0 a w j ≡ split D placed a w j
-  unfolding split_by
-  split_is a w j g b =
-      let n : inside placed a w (a + j) + 0 ≡ inside placed a w (a + j) = omega arith in
-      omega (
-        arith,
-        pairs_same ks 0 a w (a + j) b (omega arith) (omega arith),
-        ap choose2 n,
-        x.entries a j (omega arith),
-        x.entries (a + j + 1) (w - (j + 1)) (omega arith),
-      )
+  split_is a w j g b = split_same ks x a w j b g
 
   live_in : (K a w : ℕ) → 0 < w → a + w ≤ m → K ≤ U a w + D a w → T (live_by m inner upper K a w)
   unfolding live_by
@@ -98,14 +104,14 @@ module _ {m : ℕ} {qs sets : List ℕ} (r : FullRuns m qs sets) (i : ℕ) (l : 
   leaving {f} {g} top = record {
     own = omega (arith, (rest-sums r i l ks.summed refl).few);
     covers = λ a w c y h.
-        let (p, e) = tip_in ks.rack line.domain c y h in
+        let (p, e) = tip_in ks.good.most line.domain c y h in
         omega (arith, count-is a w c y.ends p e h, own_count r.good (full-named r) i l a w c y h);
     before = λ a w c y h n.
-        let (p, e) = tip_in ks.rack line.domain c y h in
+        let (p, e) = tip_in ks.good.most line.domain c y h in
         let b = y.ends in
         meets ks f (c - 1) a (c - a) (omega arith) (omega arith) (omega arith) (omega arith) (omega arith);
     behind = λ a w c y h n.
-        let (p, e) = tip_in ks.rack line.domain c y h in
+        let (p, e) = tip_in ks.good.most line.domain c y h in
         let b = y.ends in
         meets ks (c + 1) g (c + 1) (a + w - (c + 1)) (omega arith) (omega arith) top (omega arith) (omega arith);
   }
@@ -152,8 +158,8 @@ module _ {m : ℕ} {qs sets : List ℕ} (r : FullRuns m qs sets) (i : ℕ) (l : 
       unfolding before_most
       inside-before p =
           let n : a + j - a ≡ j = omega arith in
-          let e = tip_in ks.rack line.domain c z.whole z.own in
-          let y = tip_in ks.rack line.domain t z.whole h in
+          let e = tip_in ks.good.most line.domain c z.whole z.own in
+          let y = tip_in ks.good.most line.domain t z.whole h in
           let b = z.whole.ends in
           let lowest = low_le open-tips t asked in
           let meet : inside placed a j t ≤ meeting_by m xs f (c - 1) a j =
@@ -164,10 +170,10 @@ module _ {m : ℕ} {qs sets : List ℕ} (r : FullRuns m qs sets) (i : ℕ) (l : 
       unfolding behind_most
       inside-behind p =
           let n : a + w - (a + j + 1) ≡ w - (j + 1) = omega (arith, z.tip) in
-          let y = tip_in ks.rack line.domain t z.whole h in
+          let y = tip_in ks.good.most line.domain t z.whole h in
           let b = z.whole.ends in
-          let highest = le_high ks.rack d t asked in
-          let top = high-below ks.rack d in
+          let highest = le_high ks.good.most d t asked in
+          let top = high-below ks.good.most d in
           let meet : inside placed (c + 1) (w - (j + 1)) t ≤ meeting_by m xs (c + 1) g (c + 1) (w - (j + 1)) =
           inside_meeting ks (c + 1) g (c + 1) (w - (j + 1)) t (omega (arith, z.tip)) (omega arith) (omega (arith, z.tip)) (omega arith)
           highest top in
@@ -176,7 +182,7 @@ module _ {m : ℕ} {qs sets : List ℕ} (r : FullRuns m qs sets) (i : ℕ) (l : 
       parted_is : (n : ℕ) → n ≤ most → parted D placed q a w j n ≤ parted_by m xs inner q a w c (q * most)
       unfolding parted_by
       parted_is n p =
-          let e = tip_in ks.rack line.domain c z.whole z.own in
+          let e = tip_in ks.good.most line.domain c z.whole z.own in
           let b = z.whole.ends in
           let first : a + j - a ≡ j = omega arith in
           let last : a + w - (a + j + 1) ≡ w - (j + 1) = omega (arith, z.tip) in

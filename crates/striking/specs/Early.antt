@@ -1,16 +1,23 @@
 -- What the sums and the two tables of all lines tell of a line's tips, before the other lines are summed.
 -- For proofs and leaf contracts: no call's contract speaks of these.
-use Rattle.std.specs.Prelude.{ℕ, ◌+◌, ◌*◌, ◌-◌, ◌≤◌, ◌<◌, max, Bool, cond, ◌&&◌, List, T, leb, ltb}
+use Rattle.std.specs.Prelude.{ℕ, ◌+◌, ◌*◌, ◌-◌, ◌≤◌, ◌<◌, max, ◌≡◌, Bool, false, cond, ◌&&◌, List, T, leb, ltb, length, get_or}
 use Rattle.model.specs.Limits.{most_placements}
 use Rattle.model.specs.Plan.{has, choose2}
 use Rattle.spans.specs.Spans.{inside_by}
-use Rattle.goals.specs.Check.{entry}
-use Rattle.goals.specs.Tables.{Whole}
-use Rattle.striking.specs.Striking.{Meeting, meeting_by, tips_by}
+use Rattle.goal_rules.specs.Check.{entry}
+use Rattle.goal_rules.specs.Tables.{Whole}
+use Rattle.intervals.specs.Splits.{Meeting, meeting_by}
+use Rattle.striking.specs.Striking.{tips_by}
 
 -- K pairs can be had through the interval
 unfoldable pub live_by : ℕ → List ℕ → List ℕ → ℕ → ℕ → ℕ → Bool
 live_by m inner upper K a w = leb K (entry m upper a w + entry m inner a w)
+
+-- of each first tip below n the width of the widest interval through which K pairs can be had, or 0
+pub record Widest (m : ℕ) (inner upper : List ℕ) (K : ℕ) (widest : List ℕ) (n : ℕ) : Type 0 where
+  pub room : length widest ≡ m
+  pub inside : (a : ℕ) → a < n → a + get_or widest a 0 ≤ m
+  pub past : (a w : ℕ) → a < n → a + w ≤ m → get_or widest a 0 < w → live_by m inner upper K a w ≡ false
 
 -- ---- the first tips
 

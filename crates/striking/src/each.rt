@@ -7,13 +7,16 @@ ghost use Rattle.model.specs.Interval.{C};
 ghost use Rattle.placements.specs.Repeated.{repeated};
 ghost use Rattle.spans.specs.Spans.{sums_size, sums as sums_of};
 ghost use Rattle.ranks.specs.Runs.{FullRuns};
-ghost use Rattle.goals.specs.Goal.{goal_tips, strike};
-ghost use Rattle.striking.specs.Striking.{Same, InsideAll, OutsideAll};
+ghost use Rattle.goal_rules.specs.Goal.{goal_tips, strike};
+ghost use Rattle.intervals.specs.Splits.{InsideAll};
+ghost use Rattle.intervals.specs.Outer.{OutsideAll};
+ghost use Rattle.striking.specs.Striking.{Same};
+ghost use Rattle.striking.specs.Early.{Widest};
 
 use crate::reach::Reach;
 use crate::rest;
 use crate::start::Start;
-use crate::summed::Lines;
+use intervals::Lines;
 
 // The first line before line i with its set and its quantity.
 fn first_same(lines: &[u64], quantities: &[u8], i: usize) -> Option<usize>
@@ -25,7 +28,7 @@ fn first_same(lines: &[u64], quantities: &[u8], i: usize) -> Option<usize>
     (0..i).find(|j| lines[*j] == lines[i] && quantities[*j] == quantities[i])
 }
 
-// All lines with their quantities and the goal, which is not above the most pairs; and the two tables.
+// All lines with their quantities and the goal, which is not above the most pairs; the two tables, and the widest live intervals by first tip.
 #[derive(Clone, Copy)]
 pub struct Each<'a> {
     pub lines: &'a [u64],
@@ -34,10 +37,12 @@ pub struct Each<'a> {
     pub all: Lines<'a>,
     pub inner: &'a [u32],
     pub upper: &'a [u32],
+    pub widest: &'a [u8],
     ghost no_more: { all.added ≡ 0 },
     ghost summed: { all.sums.now ≡ sums_of all.m (repeated quantities.now lines.now) },
     ghost inside: { InsideAll all.m (repeated quantities.now lines.now) inner.now },
     ghost outside: { OutsideAll all.m (repeated quantities.now lines.now) upper.now },
+    ghost listed: { Widest all.m inner.now upper.now goal widest.now all.m },
     ghost reached: { goal ≤ C (repeated quantities.now lines.now) 0 all.m },
 }
 
@@ -66,6 +71,7 @@ impl Each<'_> {
             goal: self.goal,
             inner: self.inner,
             upper: self.upper,
+            widest: self.widest,
         };
         reach.kept_tips(outer)
     }
@@ -84,6 +90,7 @@ impl Each<'_> {
             goal: self.goal,
             inner: self.inner,
             upper: self.upper,
+            widest: self.widest,
         };
         let known = line.first_on();
         let asked = line.set ^ known;

@@ -1,22 +1,36 @@
 // The tips of a line that stay for certain: some split of all lines at them has the goal's pairs, in an interval that has the line whole.
-ghost use Rattle.std.specs.Prelude.{◌≡◌, ◌↔◌, ℕ, ◌+◌, ◌≤◌, ◌<◌, T};
+ghost use Rattle.std.specs.Prelude.{◌≡◌, ◌↔◌, false, ℕ, ◌+◌, ◌≤◌, ◌<◌, T};
 ghost use Rattle.model.specs.Plan.{has};
 ghost use Rattle.model.specs.Interval.{low};
 ghost use Rattle.striking.specs.Early.{live_by, firsts_by, Finds, Found};
 
+use crate::live::Live;
 use crate::reach::Reach;
-use crate::summed::Interval;
+use intervals::Interval;
 
 impl Reach<'_, '_> {
     // The goal can be had through the interval.
-    #[tactic(auto, unfolding(crate::specs::Early::live_by))]
     pub fn is_live(&self, of: Interval) -> bool
         requires { of.first + of.width ≤ self.now.lines.m }
         ensures { result ≡ live_by self.now.lines.m self.now.inner.now self.now.upper.now self.now.goal of.first of.width }
     {
-        let outside = checking::entry_at(self.lines.m, of.first, of.width, self.upper);
-        let inside = checking::entry_at(self.lines.m, of.first, of.width, self.inner);
-        u64::from(self.goal) <= outside + inside
+        let live = Live {
+            m: self.lines.m,
+            goal: self.goal,
+            inner: self.inner,
+            upper: self.upper,
+        };
+        live.has(of)
+    }
+
+    // The width of the widest live interval of first tip a.
+    pub fn widest_live(&self, a: usize) -> usize
+        requires { a ≤ low self.now.set }
+        ensures inside { a + result ≤ self.now.lines.m }
+        ensures past { (w : ℕ) → a + w ≤ self.now.lines.m → result < w
+            → live_by self.now.lines.m self.now.inner.now self.now.upper.now self.now.goal a w ≡ false }
+    {
+        usize::from(self.widest[a])
     }
 
     // The tips of the set at which a split of the interval has the goal's pairs with those outside.
@@ -29,11 +43,11 @@ impl Reach<'_, '_> {
         if !self.is_live(of) {
             return 0;
         }
-        let outside = checking::entry_at(self.lines.m, of.first, of.width, self.upper);
-        self.ended_tips(outside, of)
+        let outside = intervals::entry_at(self.lines.m, of.first, of.width, self.upper);
+        self.ended_tips(self.set, outside, of)
     }
 
-    // The tips known before, and those that the intervals of first tip a find.
+    // The tips known before, and those that the intervals of first tip a find. No interval wider than the widest that is live finds one.
     fn firsts_from(&self, a: usize, before: u64) -> u64
         requires first { a ≤ low self.now.set }
         requires found { Found self.now.lines.m self.now.set
@@ -44,7 +58,7 @@ impl Reach<'_, '_> {
             self.now.lines.added self.now.set self.now.goal) result (a + 1) 0 }
     {
         let mut known = before;
-        for w in tips::highest(self.set) + 1 - a..self.lines.m + 1 - a {
+        for w in tips::highest(self.set) + 1 - a..self.widest_live(a) + 1 {
             if known == self.set {
                 return known;
             }

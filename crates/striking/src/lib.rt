@@ -4,23 +4,22 @@
 
 mod each;
 mod first;
-mod outside;
+mod live;
 mod reach;
 mod rest;
 mod start;
-mod summed;
 
 ghost use Rattle.std.specs.Prelude.{◌≡◌, ◌*◌, ◌^◌, ◌<◌, ◌≤◌, length};
 ghost use Rattle.spans.specs.Spans.{sums_size};
-ghost use Rattle.ranks.specs.Runs.{FullRuns};
-ghost use Rattle.checking.specs.Checking.{Named};
+ghost use Rattle.ranks.specs.Runs.{RunsOf, FullRuns};
 ghost use Rattle.refusal.specs.Reasons.{refusal_of};
 ghost use Rattle.striking.specs.Striking.{goal_refusal, struck_by};
 
 use each::Each;
+use intervals::Lines;
+use live::Live;
 use refusal::{Reason, Refused};
 use spans::{MOST_SUMS, MOST_TABLE, SMALL_SUMS, SMALL_TABLE};
-use summed::Lines;
 
 // The goal's refusal and the struck sets of lines that name each tip of the rack, with room for the sums and the tables of a rack of m tips.
 fn strike_in<const SUMS: usize, const CELLS: usize>(
@@ -45,12 +44,21 @@ fn strike_in<const SUMS: usize, const CELLS: usize>(
     let mut inner = [0u32; CELLS];
     let inner = &mut inner[..m * m];
     table::fill_table(m, sums, inner);
-    if checking::entry_at(m, 0, m, inner) < u64::from(goal) {
+    if intervals::entry_at(m, 0, m, inner) < u64::from(goal) {
         return Err(Reason::GoalMissed.at(0));
     }
     let all = Lines { m, added: 0, sums };
     let mut upper = [0u32; CELLS];
     all.fill_outside(inner, &mut upper);
+    let mut widest = [0u8; model::MOST_TIPS];
+    let widest = &mut widest[..m];
+    let live = Live {
+        m,
+        goal,
+        inner,
+        upper: &upper,
+    };
+    live.list_widest(widest);
     let each = Each {
         lines: lines.sets,
         quantities: lines.quantities,
@@ -58,6 +66,7 @@ fn strike_in<const SUMS: usize, const CELLS: usize>(
         all,
         inner,
         upper: &upper,
+        widest,
     };
     let mut rest = [0u32; SUMS];
     let mut outer = [0u32; CELLS];
@@ -65,7 +74,7 @@ fn strike_in<const SUMS: usize, const CELLS: usize>(
     Ok(())
 }
 
-// The five arrays for a rack of more than 16 tips take 82,952 bytes of the stack; for a small rack small ones are filled, as it is quicker.
+// The six arrays for a rack of more than 16 tips take 83,016 bytes of the stack; for a small rack small ones are filled, as it is quicker.
 fn strike_full(lines: placements::Lines<'_>, goal: u32, struck: &mut [u64]) -> Result<(), Refused>
     requires full { FullRuns lines.rack lines.quantities.now lines.sets.now }
     requires as_lines { length struck.old ≡ length lines.sets.now }
@@ -85,7 +94,7 @@ fn strike_ranks(
     goal: u32,
     struck: &mut [u64],
 ) -> Result<(), Refused>
-    requires named { Named names lines.sets.now }
+    requires named { RunsOf names lines.sets.now }
     requires as_lines { length struck.old ≡ length lines.sets.now }
     ensures answer { refusal_of result ≡ goal_refusal lines.entry.rack lines.entry.quantities.now lines.entry.sets.now goal }
     ensures struck { struck.new ≡ struck_by lines.entry.rack lines.entry.quantities.now lines.entry.sets.now goal struck.old }
@@ -120,7 +129,7 @@ pub fn strike(
     goal: u32,
     struck: &mut [u64],
 ) -> Result<(), Refused>
-    requires named { Named names lines.sets.now }
+    requires named { RunsOf names lines.sets.now }
     requires as_lines { length struck.old ≡ length lines.sets.now }
     ensures answer { refusal_of result ≡ goal_refusal lines.entry.rack lines.entry.quantities.now lines.entry.sets.now goal }
     ensures struck { struck.new ≡ struck_by lines.entry.rack lines.entry.quantities.now lines.entry.sets.now goal struck.old }

@@ -4,11 +4,11 @@ ghost use Rattle.model.specs.Limits.{most_placements};
 ghost use Rattle.model.specs.Plan.{has};
 ghost use Rattle.model.specs.Interval.{low, high};
 ghost use Rattle.spans.specs.Spans.{inside_by};
-ghost use Rattle.goals.specs.Tables.{Whole};
+ghost use Rattle.goal_rules.specs.Tables.{Whole};
 ghost use Rattle.striking.specs.Early.{before_most, behind_most, parted_by, starts_by, leaves_by, Leaving};
 
 use crate::reach::Reach;
-use crate::summed::Interval;
+use intervals::Interval;
 
 // A line among all lines, its quantity, and the lowest and highest of the tips asked for.
 #[derive(Clone, Copy)]
@@ -70,8 +70,13 @@ impl Start<'_> {
         let lines = self.line.lines;
         let next = c + 1;
         let others = spans::inside_at(lines.m, lines.sums, of.first, of.width, c) - self.quantity;
-        let before = checking::entry_at(lines.m, of.first, c - of.first, self.line.inner);
-        let behind = checking::entry_at(lines.m, next, of.first + of.width - next, self.line.inner);
+        let before = intervals::entry_at(lines.m, of.first, c - of.first, self.line.inner);
+        let behind = intervals::entry_at(
+            lines.m,
+            next,
+            of.first + of.width - next,
+            self.line.inner,
+        );
         let own = u64::from(pair_count::pairs_among(self.quantity));
         u64::from(pair_count::pairs_among(others)) + (before + behind) + (more + own)
     }
@@ -88,7 +93,7 @@ impl Start<'_> {
         }
         let most = self.before_most(of, c).max(self.behind_most(of, c));
         let more = u64::from(self.quantity) * u64::from(most);
-        let outside = checking::entry_at(self.line.lines.m, of.first, of.width, self.line.upper);
+        let outside = intervals::entry_at(self.line.lines.m, of.first, of.width, self.line.upper);
         u64::from(self.line.goal) <= outside + self.parted_at(of, c, more)
     }
 
@@ -113,8 +118,8 @@ impl Start<'_> {
             → leaves_by self.now.line.lines.m self.now.line.lines.sums.now self.now.line.inner.now self.now.line.upper.now
             self.now.quantity self.now.line.set self.now.low self.now.high self.now.line.goal a w c ≡ false }
     {
-        let widest = self.line.lines.m + 1 - a;
-        (tips::highest(self.line.set) + 1 - a..widest).any(|w| self.start_in(Interval {
+        let widest = self.line.widest_live(a);
+        (tips::highest(self.line.set) + 1 - a..widest + 1).any(|w| self.start_in(Interval {
             first: a,
             width: w,
         }))

@@ -1,3 +1,4 @@
 pub mod Adding
 pub mod Partly
 pub mod Scores
+pub mod Trying

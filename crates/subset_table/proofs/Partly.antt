@@ -1,13 +1,14 @@
 -- The counts summed tip by tip.
-use Prim.Native.Nat.{ℕ, ◌+◌, ◌-◌, ◌^◌, ◌≤◌, ◌<◌}
+use Prim.Native.Nat.{ℕ, suc, ◌+◌, ◌*◌, ◌-◌, ◌^◌, ◌≤◌, ◌<◌}
 use native.Mathlib.Omega.{arith}
 use native.Mathlib.Nat.{le_trans}
-use mathlib.Core.Path.{◌≡◌, refl, sym, ◌∙◌}
+use mathlib.Core.Path.{◌≡◌, refl, ap, sym, ◌∙◌}
 use mathlib.Core.Logic.{◌↔◌, ◌⊎◌, inl, inr, ⊎_elim}
 use mathlib.Core.Bool.{Bool, not, cond, ◌||◌}
 use mathlib.Core.List.{List}
 use lib.Dec.{T, T_not, leb, eqb, leb→le, le→leb, eqb→eq}
 use lib.ListN.{length, get_or}
+use lib.Pow.{pow-add}
 use Rattle.model.specs.Limits.{most_placements}
 use Rattle.model.specs.Count.{count, every, list_of, All}
 use Rattle.model.specs.Plan.{has, Domain}
@@ -17,9 +18,10 @@ use Rattle.model.proofs.Lists.{all_map, all_get_d, count_cong, count_le}
 use Rattle.model.proofs.Mix.{Part, part_by, count_parts}
 use Rattle.model.proofs.Sets.{has-below, set_same, covers_iff}
 use Rattle.model.proofs.ListOf.{length-list_of, list_of-at, list_of_cong}
-use Rattle.subsets.specs.Subsets.{lying}
-use Rattle.subsets.proofs.Drop.{drop_own, drop_other, drop_lt}
-use Rattle.subset_table.specs.Counting.{partly, part_counts, set_counts, added_at}
+use Rattle.subset_rules.specs.Subsets.{lying}
+use Rattle.subset_rules.specs.Exact.{most_named}
+use Rattle.subset_rules.proofs.Drop.{drop_own, drop_other, drop_lt}
+use Rattle.subset_table.specs.Counting.{partly, part_counts, set_counts, added_at, Addable}
 
 -- ---- what is partly within
 
@@ -165,9 +167,20 @@ module _ (m b : ℕ) (lines : List ℕ) where
   length-part-counts = length-list_of _ (2 ^ m)
 
   -- no count is above the number of lines
-  pub part-counts_few : length lines ≤ most_placements → All (λ n. n ≤ most_placements) (part_counts m b lines)
+  part-counts_few : length lines ≤ most_placements → All (λ n. n ≤ most_placements) (part_counts m b lines)
   unfolding part_counts
   part-counts_few few =
       all_get_d 0 _ (λ u l.
       let e : length (list_of (λ v. count (partly m b v) lines) (2 ^ m)) ≡ 2 ^ m = length-list_of _ (2 ^ m) in
       rw (list_of-at (λ v. count (partly m b v) lines) (2 ^ m) u (omega arith)) (le_trans (count_le _ lines) few))
+
+  -- and the places are whole blocks of each tip
+  pub part-counts_addable : m ≤ most_named → b < m → length lines ≤ most_placements → Addable b (part_counts m b lines)
+  part-counts_addable narrow l few =
+      let split : m ≡ suc (m - suc b) + b = omega arith in
+      record {
+        tip = omega arith;
+        blocks = 2 ^ (m - suc b);
+        whole = length-part-counts ∙ ap (λ k. 2 ^ k) split ∙ pow-add 2 (suc (m - suc b)) b ∙ ap (λ x. x * 2 ^ b) (omega arith);
+        few = part-counts_few few;
+      }

@@ -20,11 +20,11 @@ use Rattle.model.proofs.Largest.{largest_le, largest_cong}
 use Rattle.model.proofs.Choice.{choice_cong}
 use Rattle.model.proofs.Limits.{choose2_few}
 use Rattle.model.proofs.Sets.{has-below}
-use Rattle.subsets.specs.Subsets.{lying, gain, taking, score_by, score, worth, pick, order}
-use Rattle.subsets.proofs.Drop.{drop_lt}
-use Rattle.subsets.proofs.Score.{score_step}
-use Rattle.subsets.specs.Exact.{most_named, most_price}
-use Rattle.subsets.proofs.Lying.{lying_falls}
+use Rattle.subset_rules.specs.Subsets.{lying, gain, taking, score_by, score, worth, pick, order}
+use Rattle.subset_rules.proofs.Drop.{drop_lt}
+use Rattle.subset_rules.proofs.Score.{score_step}
+use Rattle.subset_rules.specs.Exact.{most_named, most_price}
+use Rattle.subset_rules.proofs.Lying.{lying_falls}
 use Rattle.subset_table.specs.Scores.{at, at_tip, Counted, Ready, ReadyBy, Scored, Filling}
 
 pub gain_few : (price p : ℕ) → price ≤ most_price → p ≤ most_placements → gain price p ≤ most_price

@@ -1,12 +1,12 @@
 -- The placements within each set of tips, while they are summed tip by tip.
 -- For proofs and leaf contracts: no call's contract speaks of these.
-use Rattle.std.specs.Prelude.{ℕ, ◌+◌, ◌-◌, ◌^◌, ◌≤◌, ◌<◌, ◌≡◌, Bool, not, cond, ◌&&◌, ◌||◌, List, T, leb, eqb, length, get_or}
+use Rattle.std.specs.Prelude.{ℕ, ◌+◌, ◌-◌, ◌*◌, ◌^◌, ◌≤◌, ◌<◌, ◌≡◌, Bool, not, cond, ◌&&◌, ◌||◌, List, leb, eqb, length, get_or}
 use Rattle.model.specs.Limits.{most_placements}
 use Rattle.model.specs.Count.{count, every, list_of, All}
 use Rattle.model.specs.Plan.{has, Domain}
 use Rattle.model.specs.CommonTip.{covers}
 use Rattle.placements.specs.Repeated.{total}
-use Rattle.subsets.specs.Exact.{most_named}
+use Rattle.subset_rules.specs.Exact.{most_named}
 
 -- lines whose tips are below m, which is at most 20, each with a quantity that is not 0, and all together few placements
 pub record NarrowLines (m : ℕ) (qs sets : List ℕ) : Type 0 where
@@ -37,9 +37,24 @@ set_counts n lines = list_of (λ u. count (λ s. eqb s u) lines) n
 unfoldable pub added_at : ℕ → List ℕ → ℕ → ℕ
 added_at t xs u = cond (has u t) (get_or xs u 0 + get_or xs (u - 2 ^ t) 0) (get_or xs u 0)
 
--- what is read for that is not much
-pub record Addable (t : ℕ) (xs : List ℕ) (u : ℕ) : Type 0 where
+-- a list of whole blocks, each of 2 ^ t sets without tip t and then the same with it, and its numbers are not much
+pub record Addable (t : ℕ) (counts : List ℕ) : Type 0 where
   pub tip : t < most_named
-  pub inside : u < length xs
-  pub own : get_or xs u 0 ≤ most_placements
-  pub less : T (has u t) → get_or xs (u - 2 ^ t) 0 ≤ most_placements
+  pub blocks : ℕ
+  pub whole : length counts ≡ 2 * blocks * 2 ^ t
+  pub few : All (λ n. n ≤ most_placements) counts
+
+-- a block of it begins here, and from here on the numbers are not much
+pub record Block (t start : ℕ) (counts : List ℕ) : Type 0 where
+  pub tip : t < most_named
+  pub before : ℕ
+  pub here : start ≡ 2 * before * 2 ^ t
+  pub room : start + 2 * 2 ^ t ≤ length counts
+  pub few : (u : ℕ) → start ≤ u → u < length counts → get_or counts u 0 ≤ most_placements
+
+-- the sets from start to before u are summed by tip t, and the others are as they were
+pub record Summing (t start : ℕ) (old : List ℕ) (u : ℕ) (new : List ℕ) : Type 0 where
+  pub size : length new ≡ length old
+  pub before : (v : ℕ) → v < start → get_or new v 0 ≡ get_or old v 0
+  pub done : (v : ℕ) → start ≤ v → v < u → get_or new v 0 ≡ added_at t old v
+  pub left : (v : ℕ) → u ≤ v → get_or new v 0 ≡ get_or old v 0

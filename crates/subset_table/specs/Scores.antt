@@ -3,8 +3,8 @@
 use Rattle.std.specs.Prelude.{ℕ, ◌*◌, ◌-◌, ◌^◌, ◌≤◌, ◌<◌, ◌≡◌, Bool, cond, ◌&&◌, List, T, eqb, length, get_or}
 use Rattle.model.specs.Limits.{most_placements}
 use Rattle.model.specs.Plan.{has}
-use Rattle.subsets.specs.Subsets.{taking, score}
-use Rattle.subsets.specs.Exact.{most_named, most_price}
+use Rattle.subset_rules.specs.Subsets.{taking, score}
+use Rattle.subset_rules.specs.Exact.{most_named, most_price}
 
 -- the number at a set's place
 abbrev pub at : List ℕ → ℕ → ℕ

@@ -1,11 +1,9 @@
 // The placements within each set of tips: each line is counted at its own set, and then the sets are summed tip by tip.
-ghost use Rattle.std.specs.Prelude.{ℕ, ◌≡◌, ◌^◌, ◌≤◌, ◌<◌, length};
-ghost use Rattle.model.specs.Limits.{most_placements};
-ghost use Rattle.model.specs.Count.{All, list_of};
+ghost use Rattle.std.specs.Prelude.{ℕ, ◌≡◌, ◌+◌, ◌*◌, ◌^◌, length};
+ghost use Rattle.model.specs.Count.{list_of};
 ghost use Rattle.placements.specs.Repeated.{repeated};
-ghost use Rattle.subsets.specs.Subsets.{lying};
-ghost use Rattle.subsets.specs.Exact.{most_named};
-ghost use Rattle.subset_table.specs.Counting.{set_counts, added_at, Addable, CountsRoom};
+ghost use Rattle.subset_rules.specs.Subsets.{lying};
+ghost use Rattle.subset_table.specs.Counting.{set_counts, added_at, Block, Summing, Addable, CountsRoom};
 
 // The quantity of each line, at the place of its set.
 fn count_sets(lines: &[u64], quantities: &[u8], counts: &mut [u32])
@@ -18,27 +16,27 @@ fn count_sets(lines: &[u64], quantities: &[u8], counts: &mut [u32])
     }
 }
 
-// What is counted at u, and where u has tip t also what is counted at u without it.
-#[tactic(auto, unfolding(crate::specs::Counting::added_at))]
-fn with_tip(t: usize, counts: &[u32], u: usize) -> u32
-    requires { Addable t counts.now u }
-    ensures { result ≡ added_at t counts.now u }
+// The first half of the block at `start` lacks tip t, and the second half has it: adds the first half to the second. The halves do
+// not overlap, so the compiler adds several places at once.
+fn add_half(t: usize, start: usize, counts: &mut [u32])
+    requires { Block t start counts.old }
+    ensures { Summing t start counts.old (start + 2 * 2 ^ t) counts.new }
 {
-    if crate::has_tip(u, t) {
-        counts[u] + counts[crate::without(u, t)]
-    } else {
-        counts[u]
+    let half = crate::set_count(t);
+    for u in start..start + half {
+        counts[u + half] += counts[u];
     }
 }
 
-// The sets are summed by tip t: what is read at a set without the tip is as it was.
+// Sums the sets by tip t, block by block.
 fn add_tip(t: usize, counts: &mut [u32])
-    requires tip { t < most_named }
-    requires few { All (λ n. n ≤ most_placements) counts.old }
+    requires { Addable t counts.old }
     ensures { counts.new ≡ list_of (added_at t counts.old) (length counts.old) }
 {
-    for u in 0..counts.len() {
-        counts[u] = with_tip(t, counts, u);
+    let mut start = 0;
+    while start < counts.len() {
+        add_half(t, start, counts);
+        start += 2 * crate::set_count(t);
     }
 }
 

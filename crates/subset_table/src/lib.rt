@@ -9,8 +9,8 @@ ghost use Rattle.std.specs.Prelude.{◌≡◌, ◌-◌, ◌^◌, ◌≤◌, ◌<
 ghost use Rattle.model.specs.Count.{list_of};
 ghost use Rattle.model.specs.Plan.{has};
 ghost use Rattle.placements.specs.Repeated.{repeated};
-ghost use Rattle.subsets.specs.Subsets.{lying, score};
-ghost use Rattle.subsets.specs.Exact.{most_named, most_price};
+ghost use Rattle.subset_rules.specs.Subsets.{lying, score};
+ghost use Rattle.subset_rules.specs.Exact.{most_named, most_price};
 ghost use Rattle.subset_table.specs.Counting.{NarrowLines};
 
 pub use scoring::score_with;
@@ -24,7 +24,7 @@ pub fn has_tip(u: usize, t: usize) -> bool
 }
 
 // The set u without its tip t.
-#[tactic(auto, using(subsets::proofs::Drop::pow_le))]
+#[tactic(auto, using(subset_rules::proofs::Drop::pow_le))]
 pub fn without(u: usize, t: usize) -> usize
     requires small { t < most_named }
     requires own { T (has u t) }

@@ -15,10 +15,11 @@ use Rattle.model.proofs.ListOf.{list_is}
 use Rattle.model.proofs.Largest.{largest_cong}
 use Rattle.model.proofs.Best.{C_zero, C-split}
 use Rattle.model.proofs.Limits.{inside_few, C_few}
-use Rattle.spans.specs.Spans.{sums_size, below, sum_at}
+use Rattle.spans.specs.Spans.{sums_size, below, sum_at, RunSums}
 use Rattle.spans.proofs.Below.{below_le, below_mono, inside_corners, length-sums, sums_at}
-use Rattle.table.specs.Cells.{split_of, allow, Differences, allows_of, column_size, zeros, table_at, left_of, cell_by}
-use Rattle.table.specs.Cells.{Cell, RunSums, Columns}
+use Rattle.goal_rules.specs.Check.{entry}
+use Rattle.table.specs.Cells.{split_of, allow, Differences, allows_of, column_size, zeros, table_at, cell_by}
+use Rattle.table.specs.Cells.{Cell, Columns}
 use Rattle.table.proofs.Listed.{listed_at, length-listed}
 
 -- ---- places of the table
@@ -60,11 +61,11 @@ pub record Rows (m : ℕ) (lines table column : List ℕ) (b a : ℕ) : Type 0 w
 
 -- and this for all lines that have these sums
 abbrev pub RowsBy : ℕ → List ℕ → List ℕ → List ℕ → ℕ → ℕ → Type 0
-RowsBy m xs table column b a = (lines : List ℕ) → RunSums m lines xs → Rows m lines table column b a
+RowsBy m xs table column b a = (lines : List ℕ) → RunSums m 0 lines xs → Rows m lines table column b a
 
-module _ {m : ℕ} {lines xs : List ℕ} (k : RunSums m lines xs) (b : ℕ) (ends : b < m) where
+module _ {m : ℕ} {lines xs : List ℕ} (k : RunSums m 0 lines xs) (b : ℕ) (ends : b < m) where
   good : GoodPlacements m lines
-  good = k.runs.good
+  good = k.good
 
   pub rows-first : {table : List ℕ} → Columns m lines table b → Rows m lines table zeros b (b + 1)
   rows-first r = record {
@@ -140,10 +141,11 @@ module _ {m : ℕ} {lines xs : List ℕ} (k : RunSums m lines xs) (b : ℕ) (end
     record Numbers (i : ℕ) : Type 0 where
       pub lines_of : get_or allows (a + i) 0 + sum_at m xs a (a + i) ≡ sum_at m xs a (b + 1) + inside lines a (b + 1 - a) (a + i)
       pub small : get_or allows (a + i) 0 + sum_at m xs a (a + i) ≤ 2 * most_placements
-      pub left : left_of m table a i ≡ C lines a i
+      pub left : entry m table a i ≡ C lines a i
       pub right : get_or column (a + i + 1) 0 ≡ C lines (a + i + 1) (b + 1 - a - (i + 1))
 
-    left_is : (i : ℕ) → i < b + 1 - a → left_of m table a i ≡ C lines a i
+    left_is : (i : ℕ) → i < b + 1 - a → entry m table a i ≡ C lines a i
+    unfolding entry
     left_is zero h = sym (C_zero lines a)
     left_is (suc j) h =
         let e : a + j + 1 - a ≡ suc j = omega arith in
@@ -157,7 +159,7 @@ module _ {m : ℕ} {lines xs : List ℕ} (k : RunSums m lines xs) (b : ℕ) (end
         let t = sum_is a (b + 1) (omega arith) (omega arith) in
         let e : a + (b + 1 - a) ≡ b + 1 = omega arith in
         let w : b + 1 - (a + i + 1) ≡ b + 1 - a - (i + 1) = omega arith in
-        let p = inside_corners lines good.most good.domains k.runs.runs a (b + 1 - a) c (omega arith) (omega arith) in
+        let p = inside_corners lines good.most good.domains k.runs a (b + 1 - a) c (omega arith) (omega arith) in
         record {
           lines_of = omega (arith, g, s, t, rw e at p, below_mono lines (c + 1) c (b + 1) (omega arith));
           small = omega (arith, g, s, few_below (c + 1) (b + 1), few_below a c);

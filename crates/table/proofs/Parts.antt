@@ -12,7 +12,8 @@ use Rattle.model.proofs.Loops.{part, part_length, part_at}
 use Rattle.model.proofs.Largest.{largest_cong, largest-first}
 use Rattle.spans.specs.Spans.{sums_width, sums_size, sum_at}
 use Rattle.spans.proofs.Below.{sums_mono}
-use Rattle.table.specs.Cells.{split_of, split_at, largest_at, SplitLists, left_of, split_from, cell_by, Cell}
+use Rattle.goal_rules.specs.Check.{entry}
+use Rattle.table.specs.Cells.{split_of, split_at, largest_at, SplitLists, split_from, cell_by, Cell}
 
 module _ {m a b : ℕ} {xs allows column table : List ℕ} (k : Cell m a b xs allows column table) where
   -- the places of row a are in the table, which is not large
@@ -42,7 +43,8 @@ module _ {m a b : ℕ} {xs allows column table : List ℕ} (k : Cell m a b xs al
   sum-at : (i : ℕ) → i < b - a → get_or sum-part i 0 ≡ sum_at m xs a (a + suc i)
   sum-at i h = part_at xs (a * sums_width m + (a + 1)) (a * sums_width m + (b + 1)) i (a * sums_width m + (a + suc i)) (omega arith) (omega arith)
 
-  left_at : (i : ℕ) → i < b - a → get_or left-part i 0 ≡ left_of m table a (suc i)
+  left_at : (i : ℕ) → i < b - a → get_or left-part i 0 ≡ entry m table a (suc i)
+  unfolding entry
   left_at i h = part_at table (a * m + a) (a * m + b) i (a * m + (a + i)) (omega arith) (omega arith)
 
   right_at : (i : ℕ) → i < b - a → get_or right_part i 0 ≡ get_or column (a + suc i + 1) 0
@@ -65,7 +67,7 @@ module _ {m a b : ℕ} {xs allows column table : List ℕ} (k : Cell m a b xs al
   pub by_parts : {first v : ℕ} → first ≡ split_of (sum_at m xs a (b + 1)) (get_or allows a 0) (sum_at m xs a a) 0 (get_or column (a + 1) 0)
       → v ≡ max first (largest_at (sum_at m xs a (b + 1)) allow-part sum-part left-part right_part)
       → v ≡ cell_by m a b xs allows column table
-  unfolding cell_by
+  unfolding cell_by entry
   by_parts {first} e g =
       let f : ℕ → ℕ = split_from m a b xs allows column table in
       let w : b + 1 - a ≡ suc (b - a) = omega arith in

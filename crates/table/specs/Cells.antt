@@ -1,11 +1,12 @@
 -- The table of the most pairs of each interval, column by column: column b has the intervals that end with tip b.
 -- For proofs and leaf contracts: no call's contract speaks of these.
-use Rattle.std.specs.Prelude.{ℕ, zero, suc, ◌+◌, ◌*◌, ◌-◌, ◌≤◌, ◌<◌, ◌≡◌, List, ◌++◌, T, length, get_or, drop, replicate}
-use Rattle.model.specs.Limits.{most_tips, most_placements, most_pairs, GoodPlacements}
-use Rattle.model.specs.Count.{All, list_of, largest}
+use Rattle.std.specs.Prelude.{ℕ, ◌+◌, ◌*◌, ◌-◌, ◌≤◌, ◌<◌, ◌≡◌, List, ◌++◌, length, get_or, drop, replicate}
+use Rattle.model.specs.Limits.{most_tips, most_placements, most_pairs}
+use Rattle.model.specs.Count.{list_of, largest}
 use Rattle.model.specs.Plan.{choose2}
-use Rattle.model.specs.Interval.{is_run, C}
-use Rattle.spans.specs.Spans.{sums_size, sums, sum_at}
+use Rattle.model.specs.Interval.{C}
+use Rattle.spans.specs.Spans.{sums_size, sum_at, RunSums}
+use Rattle.goal_rules.specs.Check.{entry}
 
 -- the pairs of an interval if a tip takes allow + sum - base lines, and left and right are the most pairs of the intervals beside it
 unfoldable pub split_of : ℕ → ℕ → ℕ → ℕ → ℕ → ℕ
@@ -60,15 +61,10 @@ zeros = replicate column_size 0
 abbrev pub table_at : ℕ → List ℕ → ℕ → ℕ → ℕ
 table_at m table a b = get_or table (a * m + b) 0
 
--- the most pairs of the interval left of tip a + i, from row a
-abbrev pub left_of : ℕ → List ℕ → ℕ → ℕ → ℕ
-left_of m table a zero = 0
-left_of m table a (suc i) = table_at m table a (a + i)
-
 -- the pairs of the interval from a to b if tip a + i takes its lines, from the counts to b, the sums, row a of the table, and column b below row a
 abbrev pub split_from : ℕ → ℕ → ℕ → List ℕ → List ℕ → List ℕ → List ℕ → ℕ → ℕ
 split_from m a b xs allows column table i =
-    split_of (sum_at m xs a (b + 1)) (get_or allows (a + i) 0) (sum_at m xs a (a + i)) (left_of m table a i) (get_or column (a + i + 1) 0)
+    split_of (sum_at m xs a (b + 1)) (get_or allows (a + i) 0) (sum_at m xs a (a + i)) (entry m table a i) (get_or column (a + i + 1) 0)
 
 -- the most pairs of the interval from a to b, from these lists
 unfoldable pub cell_by : ℕ → ℕ → ℕ → List ℕ → List ℕ → List ℕ → List ℕ → ℕ
@@ -84,17 +80,7 @@ pub record Cell (m a b : ℕ) (xs allows column table : List ℕ) : Type 0 where
   pub column-size : length column ≡ column_size
   pub table_size : length table ≡ m * m
   pub small : (i : ℕ) → i < b + 1 - a
-      → Small (sum_at m xs a (b + 1)) (get_or allows (a + i) 0) (sum_at m xs a (a + i)) (left_of m table a i) (get_or column (a + i + 1) 0)
-
--- good placements in a rack of m tips, each an unbroken run
-pub record Runs (m : ℕ) (lines : List ℕ) : Type 0 where
-  pub good : GoodPlacements m lines
-  pub runs : All (λ s. T (is_run s)) lines
-
--- the sums are those of the lines, which are such runs
-pub record RunSums (m : ℕ) (lines xs : List ℕ) : Type 0 where
-  pub runs : Runs m lines
-  pub summed : xs ≡ sums m lines
+      → Small (sum_at m xs a (b + 1)) (get_or allows (a + i) 0) (sum_at m xs a (a + i)) (entry m table a i) (get_or column (a + i + 1) 0)
 
 -- the table in the making: the columns before b are right, and below the diagonal it is 0
 pub record Columns (m : ℕ) (lines table : List ℕ) (b : ℕ) : Type 0 where
@@ -104,4 +90,4 @@ pub record Columns (m : ℕ) (lines table : List ℕ) (b : ℕ) : Type 0 where
 
 -- and this for all lines that have these sums
 abbrev pub ColumnsBy : ℕ → List ℕ → List ℕ → ℕ → Type 0
-ColumnsBy m xs table b = (lines : List ℕ) → RunSums m lines xs → Columns m lines table b
+ColumnsBy m xs table b = (lines : List ℕ) → RunSums m 0 lines xs → Columns m lines table b

@@ -3,8 +3,9 @@
 
 ghost use Rattle.std.specs.Prelude.{◌≡◌, ℕ, ◌+◌, ◌*◌, ◌-◌, ◌^◌, ◌<◌, max, length, List};
 ghost use Rattle.model.specs.Interval.{table as table_of};
+ghost use Rattle.spans.specs.Spans.{RunSums};
 ghost use Rattle.table.specs.Cells.{split_of, Small, split_at, largest_at, SplitLists};
-ghost use Rattle.table.specs.Cells.{allows_of, cell_by, Cell, Differences, RunSums, ColumnsBy};
+ghost use Rattle.table.specs.Cells.{allows_of, cell_by, Cell, Differences, ColumnsBy};
 
 // A column has a place for each tip, and one more.
 const COLUMN_SIZE: usize = model::MOST_TIPS + 1;
@@ -118,7 +119,7 @@ impl Source<'_> {
 
     // Column b, from the diagonal up.
     fn fill_column(&self, b: usize, table: &mut [u32])
-        requires runs { (lines : List ℕ) × RunSums self.now.m lines self.now.sums.now }
+        requires runs { (lines : List ℕ) × RunSums self.now.m 0 lines self.now.sums.now }
         requires inside { b < self.now.m }
         requires columns { ColumnsBy self.now.m self.now.sums.now table.old b }
         ensures { ColumnsBy self.now.m self.now.sums.now table.new (b + 1) }
@@ -137,8 +138,9 @@ impl Source<'_> {
 // C of the interval from a to b at a * m + b, and 0 below the diagonal: the table of all lines that have these sums.
 // The rack stands beside the table: that is a part of the caller's buffer, and a row's width is the rack.
 pub fn fill_table(m: usize, sums: &[u32], table: &mut [u32])
-    requires { ((lines : List ℕ) × RunSums m lines sums.now) × (length table.old ≡ m * m) }
-    ensures { (lines : List ℕ) → RunSums m lines sums.now → table.new ≡ table_of m lines }
+    requires runs { (lines : List ℕ) × RunSums m 0 lines sums.now }
+    requires cells { length table.old ≡ m * m }
+    ensures { (lines : List ℕ) → RunSums m 0 lines sums.now → table.new ≡ table_of m lines }
 {
     table.fill(0);
     let source = Source { m, sums };

@@ -1,31 +1,12 @@
 // Mending of a job file.
 ghost use Rattle.std.specs.Prelude.{◌≡◌, ◌≤◌, length};
-ghost use Rattle.file_calls.specs.Outcomes.{outcome_of};
 ghost use Rattle.mend.specs.Call.{out_after, report_after};
 ghost use Rattle.tipshare_c.specs.Answer.{if_short, number_in, answer_in, seen};
 ghost use Rattle.cases.specs.Cases.{Told};
 ghost use Rattle.mend.specs.Cases.{mend_cases};
-ghost use Rattle.tipshare_c.specs.Mend.{mend_in, MendRuleIn};
+ghost use Rattle.file_calls.specs.Mend.{mend_in, MendRuleIn};
 
 use crate::answers::{PLACES, SHORT_ANSWER, put_answer};
-use file_calls::Counts;
-use refusal::Refused;
-
-// The counts are the bytes of the mended file and of the report.
-fn mend_outcome(file: &[u8], out: &mut [u8], report: &mut [u8]) -> Result<Counts, Refused>
-    ensures outcome { outcome_of result ≡ mend_in file.now (length out.old) (length report.old) }
-    ensures out { out.new ≡ out_after file.now out.old (length report.old) }
-    ensures report { report.new ≡ report_after file.now (length out.old) report.old }
-    ensures rule { MendRuleIn file.now out.new report.new (outcome_of result) }
-    ensures cases { Told (mend_cases file.now (length out.old) (length report.old)) (outcome_of result).refusal }
-{
-    let mended = mend::mend(file, out, report)?;
-    Ok(Counts {
-        first: mended.bytes as u64,
-        second: mended.report_bytes as u64,
-        third: 0,
-    })
-}
 
 #[tactic(auto, unfolding(crate::specs::Answer::if_short))]
 #[unsafe(no_mangle)]
@@ -50,5 +31,6 @@ pub extern "C" fn tipshare_mend(
     let Some(places) = answer.first_chunk_mut::<PLACES>() else {
         return SHORT_ANSWER;
     };
-    put_answer(mend_outcome(file, out, report), places)
+    let outcome = file_calls::mend_outcome(file, out, report);
+    put_answer(outcome, places)
 }

@@ -2,7 +2,7 @@
 use crate::lent::{lent, read, written};
 use crate::record::fill;
 use crate::shown::{Told, Values};
-use ordering::{Part, Rule};
+use order_rules::{Part, Rule};
 use refusal::Refused;
 use std::io;
 use std::io::Write;

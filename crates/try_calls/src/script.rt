@@ -3,7 +3,7 @@ use crate::calls::{Call, Fill};
 use crate::orders::OrderEdit;
 use crate::record::{Edit, Patch};
 use board::Stage;
-use ordering::{Part, Rule};
+use order_rules::{Part, Rule};
 use std::alloc::{AllocError, AllocFailed, Global};
 use std::error::Error;
 use std::num::ParseIntError;

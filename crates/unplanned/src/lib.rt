@@ -2,8 +2,18 @@
 // would often be mispredicted.
 #![tactic(auto)]
 
-ghost use Rattle.std.specs.Prelude.{◌^◌, ◌≤◌, length};
+ghost use Rattle.std.specs.Prelude.{◌≡◌, ◌^◌, ◌≤◌, length};
 ghost use Rattle.unplanned.specs.Listed.{InOrder, Findable, Rising, Found, Dropped};
+
+// A working copy of the sets, set by set: of `copy_from_slice` the compiler makes memmove in some callers, which the header does not name.
+pub fn copy_sets(sets: &[u64], left: &mut [u64])
+    requires { length left.old ≡ length sets.now }
+    ensures { left.new ≡ sets.now }
+{
+    for (i, set) in left.iter_mut().enumerate() {
+        *set = sets[i];
+    }
+}
 
 // All lines, none of which has a tip yet.
 pub fn list_all(list: &mut [u16])

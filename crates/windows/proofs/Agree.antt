@@ -6,10 +6,10 @@ use mathlib.Core.List.{List}
 use lib.Dec.{eqb}
 use Rattle.model.specs.Count.{list_of}
 use Rattle.model.proofs.ListOf.{list_of_cong}
-use Rattle.ordering.specs.Number.{lowest}
-use Rattle.ordering.specs.Order.{Task}
-use Rattle.ordering.proofs.Number.{lowest_cong}
-use Rattle.ordering.proofs.Agree.{Agree}
+use Rattle.order_rules.specs.Number.{lowest}
+use Rattle.order_rules.specs.Order.{Task}
+use Rattle.order_rules.proofs.Number.{lowest_cong}
+use Rattle.order_rules.proofs.Agree.{Agree}
 use Rattle.windows.specs.Bounds.{solvable, due_by, not_before, soonest, latest}
 use Rattle.windows.specs.Found.{FoundBounds}
 use Rattle.windows.proofs.Bounds.{Below, due_below}

@@ -1,59 +1,44 @@
 -- The task of arrays with one position changed is the task with one window narrowed.
-use Prim.Native.Nat.{ℕ, ◌+◌, ◌≤◌, ◌<◌, min, max}
+use Prim.Native.Nat.{ℕ, ◌<◌, min, max}
 use native.Mathlib.Omega.{arith}
-use mathlib.Core.Path.{◌≡◌, refl, ap, ◌∙◌}
+use mathlib.Core.Path.{◌≡◌, refl, ap, sym, ◌∙◌}
 use mathlib.Core.Logic.{⊎_elim}
-use mathlib.Core.Bool.{not}
+use mathlib.Core.Bool.{false, not}
 use mathlib.Core.List.{List}
-use mathlib.Core.Option.{Option, none, some}
-use lib.Dec.{T_not, eqb, eqb→eq, eqb_refl}
-use lib.ListN.{length, get_or, set, take, replicate, length-set, length-replicate}
-use lib.Seq.{ext_get_or, get_or-take, get_or-set_same, get_or-set_other, length-take-le}
+use mathlib.Core.Option.{none, some}
+use lib.Dec.{T_not, not_T, eqb, eqb→eq, eqb_refl}
+use lib.ListN.{length, get_or, set, take, length-set}
+use lib.Seq.{get_or-take, get_or-set_same, get_or-set_other, length-take-le}
 use Rattle.std.proofs.Common as R
-use Rattle.std.specs.Prelude.{is_some}
-use Rattle.model.proofs.Tests.{le_or_lt, test, true_T, false_T, cond_case}
-use Rattle.ordering.specs.Order.{Task}
-use Rattle.ordering.specs.Call.{absent}
-use Rattle.ordering.proofs.Agree.{Agree, least_agree}
-use Rattle.ordering.proofs.Least.{least-order, least_unique}
+use Rattle.model.proofs.Tests.{test, true_T, false_T, cond_case}
+use Rattle.order_rules.specs.Order.{Task, Obeys}
+use Rattle.order_rules.specs.Prefer.{Best}
+use Rattle.order_rules.specs.Call.{absent}
+use Rattle.order_rules.proofs.Agree.{Agree, obeys_agree, least_agree}
+use Rattle.order_rules.proofs.Best.{best-order, best_none}
+use Rattle.order_rules.proofs.First.{chooses_first}
+use Rattle.order_rules.proofs.Least.{least-order, least_unique}
 use Rattle.flat_order.specs.declared.sets.PartSet.{PartSet}
-use Rattle.flat_order.specs.Flat.{flat_task}
+use Rattle.flat_order.specs.Sets.{has_part}
+use Rattle.flat_order.specs.Flat.{flat_task, by_ready, ready_order, Leaves}
+use Rattle.flat_order.proofs.Ready.{ready_obeys}
 use Rattle.windows.specs.Bounds.{solvable, due_by, not_before}
-use Rattle.windows.specs.Found.{Ready, Copied}
-use Rattle.windows.proofs.Bounds.{Below, due_below}
+use Rattle.windows.specs.Found.{Ready}
+use Rattle.windows.proofs.Bounds.{Below, solvable_iff, due_below}
 
--- ---- copies
-
-pub copy_none : (list : List ℕ) → Copied 0 list (replicate 128 0)
-copy_none list = record { size = length-replicate {A = ℕ} 128 0; each = λ j l. absurd (omega arith) }
-
-module _ (n : ℕ) (list copy : List ℕ) (c : Copied n list copy) where
-  pub copy_more : n < 128 → Copied (n + 1) list (set copy n (get_or list n 0))
-  copy_more h = record {
-    size = length-set copy n (get_or list n 0) ∙ c.size;
-    each = λ j l. ⊎_elim
-        (λ k. let e : j ≡ n = omega arith in rw e (get_or-set_same copy n (get_or list n 0) 0 (omega (arith, c.size))))
-        (λ k. get_or-set_other copy n j (get_or list n 0) 0 (λ e. omega arith) ∙ c.each j k)
-        (le_or_lt n j);
-  }
-
-  -- a whole list copied
-  pub copy_all : n ≡ length list → n ≤ 128 → take n copy ≡ list
-  copy_all e h =
-      let size = length-take-le n copy (omega (arith, c.size)) in
-      ext_get_or 0 (take n copy) list (size ∙ e) (λ j l. get_or-take n copy j 0 (omega arith) ∙ c.each j (omega arith))
-
--- ---- answers
-
-pub answered : (o : R.Option (List ℕ)) (m : ℕ) (least : Option (List ℕ)) → R.IfSome o (λ order. some (take m order) ≡ least)
-    → R.IfNone o (none ≡ least) → is_some o ≡ not (absent least)
-answered R.None m least h e = rw (← e) refl
-answered (R.Some order) m least h e = rw (← h) refl
+-- ---- orders of tasks that agree
 
 pub solvable_agree : {t u : Task} → Agree t u → Below t → Below u → solvable t ≡ solvable u
 unfolding solvable
 solvable_agree {t} {u} a bt bu =
     ap (λ x. not (absent x)) (least_unique (least_agree a (least-order t bt)) (least-order u bu))
+
+-- none is found where none obeys, whatever is preferred
+search_none : (start : PartSet) (next : ℕ → PartSet) (t : Task) → Below t → none ≡ ready_order start next t → solvable t ≡ false
+search_none start next t below e =
+    let best : Best by_ready next start t none = rw e (best-order next (chooses_first has_part) start t below) in
+    let no = (best_none best).0 refl in
+    false_T (solvable t) (not_T (solvable t) (λ y. let (order, o) = (solvable_iff t below).0 y in no order o))
 
 module _ (firsts lasts : List ℕ) (rows : List PartSet) (ready : Ready firsts lasts rows) where
   abbrev t : Task
@@ -65,64 +50,57 @@ module _ (firsts lasts : List ℕ) (rows : List PartSet) (ready : Ready firsts l
   pub below : Below t
   below i l = ready.closes i l
 
-  pub has_answer : (copy : List ℕ) → Copied n lasts copy → flat_task firsts (take n copy) rows ≡ t
-  has_answer copy c = ap (λ x. flat_task firsts x rows) (copy_all n lasts copy c refl ready.sized.parts)
+  pub same_task : Agree t t
+  same_task = record { size = refl; first = λ j h. refl; last = λ j h. refl; before = λ j k h m. refl }
 
-  module _ (i p : ℕ) (l : i < n) (copy : List ℕ) where
+  module _ (i p : ℕ) (l : i < n) where
     -- one last position lowered
-    module _ (c : Copied n lasts copy) where
-      abbrev ends : List ℕ
-      ends = set copy i (min p (get_or copy i 0))
+    abbrev ends : List ℕ
+    ends = set lasts i (min p (get_or lasts i 0))
 
-      ends_size : length (take n ends) ≡ n
-      ends_size = length-take-le n ends (omega (arith, ready.sized.parts, c.size, length-set copy i (min p (get_or copy i 0))))
+    pub ends_size : length ends ≡ n
+    ends_size = length-set lasts i (min p (get_or lasts i 0))
 
-      ends_at : (j : ℕ) → j < n → get_or (take n ends) j 0 ≡ (due_by t i p).last j
-      ends_at j h =
-          get_or-take n ends j 0 h
-          ∙ ⊎_elim
-          (λ y.
-          let e : i ≡ j = eqb→eq i j y in
-          rw (← e, true_T (eqb i i) (eqb_refl i), ← c.each i l)
-          (get_or-set_same copy i (min p (get_or copy i 0)) 0 (omega (arith, c.size, ready.sized.parts))))
-          (λ m. rw (false_T (eqb i j) m)
-          (get_or-set_other copy i j (min p (get_or copy i 0)) 0 (λ e. T_not (eqb i j) m (rw e (eqb_refl i))) ∙ c.each j h))
-          (test (eqb i j))
+    ends_at : (j : ℕ) → get_or ends j 0 ≡ (due_by t i p).last j
+    ends_at j =
+        ⊎_elim
+        (λ y.
+        let e : i ≡ j = eqb→eq i j y in
+        rw (← e, true_T (eqb i i) (eqb_refl i)) (get_or-set_same lasts i (min p (get_or lasts i 0)) 0 l))
+        (λ m. rw (false_T (eqb i j) m)
+        (get_or-set_other lasts i j (min p (get_or lasts i 0)) 0 (λ e. T_not (eqb i j) m (rw e (eqb_refl i)))))
+        (test (eqb i j))
 
-      pub ends_ready : Ready firsts (take n ends) rows
-      ends_ready = record {
-        sized = rw ends_size ready.sized;
-        opens = rw ends_size ready.opens;
-        closes = λ j h.
-            let k : j < n = omega (arith, ends_size) in
-            omega (arith, ends_size, ends_at j k, due_below t i p below j k);
-      }
+    pub ends_ready : Ready firsts ends rows
+    ends_ready = record {
+      sized = rw ends_size ready.sized;
+      opens = rw ends_size ready.opens;
+      closes = λ j h. let k : j < n = omega (arith, ends_size) in omega (arith, ends_size, ends_at j, due_below t i p below j k);
+    }
 
-      pub ends_answer : solvable (flat_task firsts (take n ends) rows) ≡ solvable (due_by t i p)
-      ends_answer =
-          solvable_agree
-          (record {
-            size = ends_size;
-            first = λ j h. refl;
-            last = λ j h. ends_at j (omega (arith, ends_size));
-            before = λ j k h m. refl;
-          })
-          (λ j h. ends_ready.closes j h) (due_below t i p below)
+    pub ends_agree : Agree (flat_task firsts ends rows) (due_by t i p)
+    ends_agree = record { size = ends_size; first = λ j h. refl; last = λ j h. ends_at j; before = λ j k h m. refl }
 
     -- one first position raised
-    module _ (c : Copied n firsts copy) where
+    module _ (given : List ℕ) (same : given ≡ take n firsts) where
       abbrev starts : List ℕ
-      starts = set copy i (max p (get_or copy i 0))
+      starts = set given i (max p (get_or given i 0))
+
+      given_size : length given ≡ n
+      given_size = ap length same ∙ length-take-le n firsts ready.sized.firsts
+
+      given_at : (j : ℕ) → j < n → get_or given j 0 ≡ get_or firsts j 0
+      given_at j h = ap (λ x. get_or x j 0) same ∙ get_or-take n firsts j 0 h
 
       starts_at : (j : ℕ) → j < n → get_or starts j 0 ≡ (not_before t i p).first j
       starts_at j h =
           ⊎_elim
           (λ y.
           let e : i ≡ j = eqb→eq i j y in
-          rw (← e, true_T (eqb i i) (eqb_refl i), ← c.each i l)
-          (get_or-set_same copy i (max p (get_or copy i 0)) 0 (omega (arith, c.size, ready.sized.parts))))
+          rw (← e, true_T (eqb i i) (eqb_refl i), ← given_at i l)
+          (get_or-set_same given i (max p (get_or given i 0)) 0 (omega (arith, given_size))))
           (λ m. rw (false_T (eqb i j) m)
-          (get_or-set_other copy i j (max p (get_or copy i 0)) 0 (λ e. T_not (eqb i j) m (rw e (eqb_refl i))) ∙ c.each j h))
+          (get_or-set_other given i j (max p (get_or given i 0)) 0 (λ e. T_not (eqb i j) m (rw e (eqb_refl i))) ∙ given_at j h))
           (test (eqb i j))
 
       pub starts_ready : p < n → Ready starts lasts rows
@@ -131,7 +109,7 @@ module _ (firsts lasts : List ℕ) (rows : List PartSet) (ready : Ready firsts l
           record {
             sized = record {
               parts = s.parts;
-              firsts = omega (arith, s.parts, c.size, length-set copy i (max p (get_or copy i 0)));
+              firsts = omega (arith, given_size, length-set given i (max p (get_or given i 0)));
               rows = s.rows;
             };
             opens = λ j h.
@@ -140,8 +118,28 @@ module _ (firsts lasts : List ℕ) (rows : List PartSet) (ready : Ready firsts l
             closes = ready.closes;
           }
 
-      pub starts_answer : solvable (flat_task starts lasts rows) ≡ solvable (not_before t i p)
-      starts_answer =
-          solvable_agree
-          (record { size = refl; first = starts_at; last = λ j h. refl; before = λ j k h m. refl })
-          below below
+      pub starts_agree : Agree (flat_task starts lasts rows) (not_before t i p)
+      starts_agree = record { size = refl; first = starts_at; last = λ j h. refl; before = λ j k h m. refl }
+
+-- ---- what is found, for a task that agrees
+
+module _ {u v : Task} (a : Agree u v) (bu : Below u) (bv : Below v) (m n : ℕ) (e : m ≡ n) where
+  pub some_agree : (o : R.Option (List ℕ)) → R.IfSome o (λ order. Obeys u (take m order)) → R.IfSome o (λ order. Obeys v (take n order))
+  some_agree R.None h = tt
+  some_agree (R.Some order) h = rw e at (obeys_agree a h)
+
+  pub none_agree : (o : R.Option (List ℕ)) → R.IfNone o (solvable u ≡ false) → R.IfNone o (solvable v ≡ false)
+  none_agree R.None h = sym (solvable_agree a bu bv) ∙ h
+  none_agree (R.Some order) h = tt
+
+-- an order that is found for any preference
+module _ (post : ℕ → PartSet → Type 0) (n : ℕ) (next : ℕ → PartSet) (r : Leaves post n next) (start : PartSet) (t : Task) (below : Below t) where
+  pub some_found : (o : R.Option (List ℕ)) → R.IfSome o (λ order. (m : ℕ → PartSet) → Leaves post n m → some (take n order) ≡ ready_order start m t)
+      → R.IfSome o (λ order. Obeys t (take n order))
+  some_found R.None h = tt
+  some_found (R.Some order) h = ready_obeys start next t below (h next r)
+
+  pub none_found : (o : R.Option (List ℕ)) → R.IfNone o ((m : ℕ → PartSet) → Leaves post n m → none ≡ ready_order start m t)
+      → R.IfNone o (solvable t ≡ false)
+  none_found R.None h = search_none start next t below (h next r)
+  none_found (R.Some order) h = tt

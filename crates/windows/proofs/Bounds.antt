@@ -9,12 +9,12 @@ use mathlib.Core.Option.{Option}
 use lib.Dec.{T, eqb, eqb→eq, eqb_refl}
 use lib.ListN.{get_or}
 use Rattle.model.proofs.Tests.{le_or_lt, true_T, cond_case}
-use Rattle.ordering.specs.Number.{lowest}
-use Rattle.ordering.specs.Order.{Task, Obeys, Least, found, absent}
-use Rattle.ordering.specs.Call.{absent as is_absent}
-use Rattle.ordering.proofs.Number.{lowest_passes, lowest-at-most}
-use Rattle.ordering.proofs.Obeys.{place, place_at, completes}
-use Rattle.ordering.proofs.Least.{least-order}
+use Rattle.order_rules.specs.Number.{lowest}
+use Rattle.order_rules.specs.Order.{Task, Obeys, Least, found, absent}
+use Rattle.order_rules.specs.Call.{absent as is_absent}
+use Rattle.order_rules.proofs.Number.{lowest_passes, lowest-at-most}
+use Rattle.order_rules.proofs.Obeys.{place, place_at, completes}
+use Rattle.order_rules.proofs.Least.{least-order}
 use Rattle.windows.specs.Bounds.{solvable, due_by, not_before, soonest, latest, CanStand, Bounds}
 
 -- each last position is a position
@@ -51,19 +51,19 @@ module _ (t : Task) (i p : ℕ) where
   due_le : (j : ℕ) → (due_by t i p).last j ≤ t.last j
   due_le j = cond_case (λ x. x ≤ t.last j) (eqb i j) (λ _. omega arith) (λ _. omega arith)
 
-  due_self : (due_by t i p).last i ≤ p
+  pub due_self : (due_by t i p).last i ≤ p
   due_self = rw (true_T (eqb i i) (eqb_refl i)) (omega arith)
 
   since_ge : (j : ℕ) → t.first j ≤ (not_before t i p).first j
   since_ge j = cond_case (λ x. t.first j ≤ x) (eqb i j) (λ _. omega arith) (λ _. omega arith)
 
-  since_self : p ≤ (not_before t i p).first i
+  pub since_self : p ≤ (not_before t i p).first i
   since_self = rw (true_T (eqb i i) (eqb_refl i)) (omega arith)
 
   pub due_below : Below t → Below (due_by t i p)
   due_below below j l = omega (arith, due_le j, below j l)
 
-  due_obeys : {order : List ℕ} → Obeys (due_by t i p) order → Obeys t order
+  pub due_obeys : {order : List ℕ} → Obeys (due_by t i p) order → Obeys t order
   due_obeys {order} o = record {
     count = o.count;
     parts = o.parts;
@@ -73,7 +73,7 @@ module _ (t : Task) (i p : ℕ) where
     ordered = o.ordered;
   }
 
-  since_obeys : {order : List ℕ} → Obeys (not_before t i p) order → Obeys t order
+  pub since_obeys : {order : List ℕ} → Obeys (not_before t i p) order → Obeys t order
   since_obeys {order} o = record {
     count = o.count;
     parts = o.parts;

@@ -1,13 +1,12 @@
 -- What one test says of the bounds: it compares a bound with the position tested.
-use Prim.Native.Nat.{ℕ, ◌-◌, ◌≤◌, ◌<◌}
+use Prim.Native.Nat.{ℕ, ◌≤◌, ◌<◌}
 use native.Mathlib.Omega.{arith}
-use mathlib.Core.Path.{◌≡◌, refl, sym, ap, ◌∙◌}
+use mathlib.Core.Path.{◌≡◌, ap}
 use mathlib.Core.Logic.{⊎_elim}
-use mathlib.Core.Bool.{Bool, true, false}
-use lib.Dec.{T, leb}
-use borrow.Author.Tests.{le-leb, lt-leb}
+use mathlib.Core.Bool.{true, false}
+use lib.Dec.{T}
 use Rattle.model.proofs.Tests.{le_or_lt, T_true}
-use Rattle.ordering.specs.Order.{Task}
+use Rattle.order_rules.specs.Order.{Task}
 use Rattle.windows.specs.Bounds.{solvable, due_by, not_before, soonest, latest, CanStand}
 use Rattle.windows.proofs.Bounds.{Below, due_iff, since_iff, soonest_le, latest_ge, bounds}
 
@@ -28,45 +27,22 @@ module _ (t : Task) (below : Below t) (i : ℕ) (l : i < t.size) (y : T (solvabl
   latest_in = in_window t i (latest t i) (bounds t below i l y).last_reached
 
   module _ (p : ℕ) where
-    soonest_yes : solvable (due_by t i p) ≡ true → soonest t i ≤ p
+    pub soonest_yes : solvable (due_by t i p) ≡ true → soonest t i ≤ p
     soonest_yes e = let (q, h, s) = (due_iff t i p below l).0 (T_true e) in omega (arith, soonest_le t below i l q s)
 
-    soonest_no : solvable (due_by t i p) ≡ false → p < soonest t i
+    pub soonest_no : solvable (due_by t i p) ≡ false → p < soonest t i
     soonest_no e =
         ⊎_elim
         (λ h. absurd (rw e at ((due_iff t i p below l).1 (soonest t i, h, (bounds t below i l y).first_reached))))
         (λ h. h)
         (le_or_lt (soonest t i) p)
 
-    latest_yes : solvable (not_before t i p) ≡ true → p ≤ latest t i
+    pub latest_yes : solvable (not_before t i p) ≡ true → p ≤ latest t i
     latest_yes e = let (q, h, s) = (since_iff t i p below l).0 (T_true e) in omega (arith, latest_ge t below i l q s)
 
-    latest_no : solvable (not_before t i p) ≡ false → latest t i < p
+    pub latest_no : solvable (not_before t i p) ≡ false → latest t i < p
     latest_no e =
         ⊎_elim
         (λ h. absurd (rw e at ((since_iff t i p below l).1 (latest t i, h, (bounds t below i l y).last_reached))))
         (λ h. h)
         (le_or_lt p (latest t i))
-
-    -- the test as a comparison
-    pub soonest_test : solvable (due_by t i p) ≡ leb (soonest t i) p
-    soonest_test = by (solvable (due_by t i p)) refl
-      where
-        by : (b : Bool) → solvable (due_by t i p) ≡ b → solvable (due_by t i p) ≡ leb (soonest t i) p
-        by true e = e ∙ sym (le-leb (soonest t i) p (soonest_yes e))
-        by false e = e ∙ sym (lt-leb (soonest t i) p (soonest_no e))
-
-    pub latest_test : solvable (not_before t i p) ≡ leb p (latest t i)
-    latest_test = by (solvable (not_before t i p)) refl
-      where
-        by : (b : Bool) → solvable (not_before t i p) ≡ b → solvable (not_before t i p) ≡ leb p (latest t i)
-        by true e = e ∙ sym (le-leb p (latest t i) (latest_yes e))
-        by false e = e ∙ sym (lt-leb p (latest t i) (latest_no e))
-
--- counted back from an end, a position is at most another where it is at least as far back
-pub from_end : (end back p : ℕ) → back ≤ end → p ≤ end → leb (end - back) p ≡ leb (end - p) back
-from_end end back p h l =
-    ⊎_elim
-    (λ (k : end - back ≤ p). le-leb (end - back) p k ∙ sym (le-leb (end - p) back (omega arith)))
-    (λ (k : p < end - back). lt-leb (end - back) p k ∙ sym (lt-leb (end - p) back (omega arith)))
-    (le_or_lt (end - back) p)

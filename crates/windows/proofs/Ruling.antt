@@ -7,7 +7,7 @@ use lib.ListN.{get_or}
 use Rattle.model.specs.Count.{list_of}
 use Rattle.model.proofs.Tests.{T_true}
 use Rattle.model.proofs.ListOf.{list_of-at}
-use Rattle.ordering.specs.Order.{Task}
+use Rattle.order_rules.specs.Order.{Task}
 use Rattle.windows.specs.Bounds.{solvable, soonest, latest}
 use Rattle.windows.specs.Found.{FoundBounds, BoundsRule}
 use Rattle.windows.proofs.Bounds.{Below, solvable_iff, bounds}

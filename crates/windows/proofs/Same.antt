@@ -6,7 +6,7 @@ use mathlib.Core.Logic.{◌↔◌}
 use mathlib.Core.List.{List}
 use lib.Dec.{T}
 use lib.ListN.{get_or}
-use Rattle.ordering.specs.Order.{Task, Obeys}
+use Rattle.order_rules.specs.Order.{Task, Obeys}
 use Rattle.windows.specs.Bounds.{solvable, bounded, CanStand}
 use Rattle.windows.proofs.Bounds.{Below, soonest_le, latest_ge}
 use Rattle.windows.proofs.Narrowing.{soonest_in, latest_in}

@@ -1,9 +1,9 @@
 -- The first and the last position that a part has in any order that obeys: bounds consistency of ALLDIFFPREC.
 use Rattle.std.specs.Prelude.{ℕ, ◌-◌, ◌≤◌, ◌<◌, min, max, ◌≡◌, Bool, not, cond, List, eqb, get_or}
-use Rattle.ordering.specs.Number.{lowest}
-use Rattle.ordering.specs.Order.{Task, Obeys}
-use Rattle.ordering.specs.Least.{least_order}
-use Rattle.ordering.specs.Call.{absent}
+use Rattle.order_rules.specs.Number.{lowest}
+use Rattle.order_rules.specs.Order.{Task, Obeys}
+use Rattle.order_rules.specs.Least.{least_order}
+use Rattle.order_rules.specs.Call.{absent}
 
 -- some order obeys
 unfoldable pub solvable : Task → Bool

@@ -1,13 +1,13 @@
 -- Bounds of parts, computed.
 use Rattle.std.specs.Prelude.{◌≡◌, refl, false, List, [], ◌∷◌, ℕ}
 use Rattle.model.specs.Count.{every, list_of, lowest_at}
-use Rattle.ordering.specs.declared.Part.{Part}
-use Rattle.ordering.specs.declared.Rule.{Rule}
-use Rattle.ordering.specs.Number.{number, lowest}
-use Rattle.ordering.specs.Order.{Task}
-use Rattle.ordering.specs.Least.{due, tight, is_free_part, fits, pick_by, prepend, greedy_by, earliest, relax, settle, lasts_of, best_order}
-use Rattle.ordering.specs.Least.{least_order}
-use Rattle.ordering.specs.Parts.{ruled, by_flags, before, task_of}
+use Rattle.order_rules.specs.declared.Part.{Part}
+use Rattle.order_rules.specs.declared.Rule.{Rule}
+use Rattle.order_rules.specs.Number.{number, lowest}
+use Rattle.order_rules.specs.Order.{Task}
+use Rattle.order_rules.specs.Least.{due, tight, is_free_part, fits, pick_by, prepend, greedy_by, earliest, relax, settle, lasts_of, best_order}
+use Rattle.order_rules.specs.Least.{least_order}
+use Rattle.order_rules.specs.Parts.{ruled, by_flags, before, task_of}
 use Rattle.windows.specs.Bounds.{solvable, soonest, latest}
 
 abbrev plain : ℕ → ℕ → Part

@@ -1,7 +1,7 @@
 -- The bounds over flat arrays: what the arrays are to hold, and what is found.
-use Rattle.std.specs.Prelude.{ℕ, ◌<◌, ◌≡◌, Bool, true, false, cond, List, length, get_or}
+use Rattle.std.specs.Prelude.{ℕ, ◌≤◌, ◌<◌, ◌≡◌, Bool, true, false, cond, List, length, get_or}
 use Rattle.model.specs.Count.{list_of}
-use Rattle.ordering.specs.Order.{Task, Obeys}
+use Rattle.order_rules.specs.Order.{Task, Obeys}
 use Rattle.flat_order.specs.declared.sets.PartSet.{PartSet}
 use Rattle.flat_order.specs.Flat.{SizedFor, InPlace}
 use Rattle.windows.specs.Bounds.{solvable, soonest, latest, Bounds}
@@ -12,10 +12,27 @@ pub record Ready (firsts lasts : List ℕ) (rows : List PartSet) : Type 0 where
   pub opens : InPlace (length lasts) firsts
   pub closes : InPlace (length lasts) lasts
 
--- an array of 128 that begins with the first n of the list
-pub record Copied (n : ℕ) (list copy : List ℕ) : Type 0 where
-  pub size : length copy ≡ 128
-  pub each : (j : ℕ) → j < n → get_or copy j 0 ≡ get_or list j 0
+-- no part comes before its first position in any order that obeys, nor after its last
+abbrev pub SeenFirst : Task → List ℕ → Type 0
+SeenFirst t first = (j : ℕ) → j < t.size → soonest t j ≤ get_or first j 0
+
+abbrev pub SeenLast : Task → List ℕ → Type 0
+SeenLast t last = (j : ℕ) → j < t.size → get_or last j 0 ≤ latest t j
+
+-- with the first p positions of an order: no part's first position is later than it was, nor than its position in the order; and it is
+-- no sooner than in any order that obeys, if that is so before and the order obeys
+pub record Lowered (order : List ℕ) (p : ℕ) (old new : List ℕ) : Type 0 where
+  pub size : length new ≡ length old
+  pub lower : (j : ℕ) → get_or new j 0 ≤ get_or old j 0
+  pub had : (q : ℕ) → q < p → get_or new (get_or order q 0) 0 ≤ q
+  pub seen : (t : Task) → ((i : ℕ) → i < t.size → t.last i < t.size) → Obeys t order → SeenFirst t old → SeenFirst t new
+
+-- and so for the last positions
+pub record Raised (order : List ℕ) (p : ℕ) (old new : List ℕ) : Type 0 where
+  pub size : length new ≡ length old
+  pub higher : (j : ℕ) → get_or old j 0 ≤ get_or new j 0
+  pub had : (q : ℕ) → q < p → q ≤ get_or new (get_or order q 0) 0
+  pub seen : (t : Task) → ((i : ℕ) → i < t.size → t.last i < t.size) → Obeys t order → SeenLast t old → SeenLast t new
 
 -- the answer: whether some order obeys; the bounds of each part where one does, else the bytes as they were
 pub record FoundBounds (t : Task) (first₀ last₀ first last : List ℕ) (r : Bool) : Type 0 where

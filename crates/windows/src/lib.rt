@@ -1,47 +1,51 @@
 // The first and the last position that each part has in any placing order that obeys, over flat arrays.
 #![tactic(auto)]
 
-ghost use Rattle.std.specs.Prelude.{◌≡◌, ◌<◌, ℕ, length};
-ghost use Rattle.model.specs.Count.{list_of};
-ghost use Rattle.flat_order.specs.Flat.{flat_task};
+ghost use Rattle.std.specs.Prelude.{◌≡◌, length};
+ghost use Rattle.flat_order.specs.Flat.{flat_task, Room};
 ghost use Rattle.windows.specs.Found.{Ready, FoundBounds, BoundsRule};
 
-mod halving;
+mod bounding;
+mod noting;
 mod orders;
+mod wanted;
 
-use crate::halving::{first_position, last_position};
-use crate::orders::has_order;
+use crate::bounding::{narrow_first, narrow_last};
+use crate::noting::{note, see_none};
+use crate::orders::any_order;
+use crate::wanted::{ahead_of, beside};
 use flat_order::sets::PartSet;
 
-// Each place filled with what is found for it.
-fn fill<F: Fn(usize) -> u8>(found: &mut [u8], position_of: F)
-    requires { (i : ℕ) → i < length found.old → F.pre position_of i }
-    ensures { (f : ℕ → ℕ) → ((i r : ℕ) → i < length found.old → F.post position_of i r → r ≡ f i)
-        → found.new ≡ list_of f (length found.old) }
-{
-    for i in 0..found.len() {
-        found[i] = position_of(i);
-    }
-}
-
-// The first and the last position of each part in any order that obeys; false, and nothing is written, where none obeys.
-pub fn find_bounds(
-    firsts: &[usize],
-    lasts: &[usize],
+// The first and the last position of each part in any order that obeys; false, and nothing is written, where none obeys. Each order that is
+// found on the way may have other parts early or late too: their positions in it are noted, and not looked for again.
+pub fn find_bounds<const PLACES: usize, const ENDS: usize>(
+    firsts: &[u8],
+    lasts: &[u8],
     rows: &[PartSet],
     first: &mut [u8],
     last: &mut [u8],
 ) -> bool
+    requires room { Room PLACES ENDS (length lasts.now) }
     requires ready { Ready firsts.now lasts.now rows.now }
     requires firsts { length first.old ≡ length lasts.now }
     requires lasts { length last.old ≡ length lasts.now }
     ensures found { FoundBounds (flat_task firsts.now lasts.now rows.now) first.old last.old first.new last.new result }
     ensures rule { BoundsRule (flat_task firsts.now lasts.now rows.now) first.new last.new result }
 {
-    if !has_order(firsts, lasts, rows) {
+    let n = lasts.len();
+    let Some(found) = any_order::<PLACES, ENDS>(firsts, lasts, rows) else {
         return false;
+    };
+    let order = &found[..n];
+    see_none(n as u8, first, last);
+    note(order, first, last);
+    for i in 0..n {
+        let wanted = ahead_of(i, order, rows);
+        narrow_first::<PLACES, ENDS>(firsts, lasts, rows, i, wanted, &mut *first, &mut *last);
     }
-    fill(first, |i| first_position(firsts, lasts, rows, i));
-    fill(last, |i| last_position(firsts, lasts, rows, i));
+    for i in 0..n {
+        let wanted = beside(i, order, rows);
+        narrow_last::<PLACES, ENDS>(firsts, lasts, rows, i, wanted, &mut *first, &mut *last);
+    }
     true
 }

@@ -1,6 +1,6 @@
 //! Small boards, and every call on them held to every plan.
 
-use second::{pairs_in, try_every_plan, Answer, Board, Exact, Junior, Line, Tried};
+use second::{pairs_in, refusal, try_every_plan, Answer, Board, Exact, Junior, Line, Tried};
 
 /// Runs the check on every board of this many lines, each line being one of those given.
 pub fn every_board(rack: usize, choices: &[Line], lines: usize, check: &mut dyn FnMut(&Board)) -> usize {
@@ -419,7 +419,7 @@ fn check_best(board: &Board, tried: &Tried) {
 fn check_checks(board: &Board, plan: &[u8], pairs: u32, table: &[u32]) {
     let number_of = |plan: &[u8], claim: u32, table: &[u32]| board.clone().check(plan, claim, table).number;
     assert_eq!(number_of(plan, pairs, table), 0);
-    assert_eq!(number_of(plan, pairs + 1, table), 20);
+    assert_eq!(number_of(plan, pairs + 1, table), refusal::WRONG_CLAIM);
     for (line, given) in board.lines().enumerate() {
         let mut other = plan.to_vec();
         for byte in (0..=board.rack as u8).chain([plan[line] + 64, plan[line] + 128, 255]) {
@@ -448,8 +448,8 @@ fn check_checks(board: &Board, plan: &[u8], pairs: u32, table: &[u32]) {
             other[place] = entry;
             let number = number_of(plan, pairs, &other);
             let falls = entry < table[place] && named_within;
-            assert!(number == 0 || number == 33 && !is_below);
-            assert!(number == 33 || !falls && (place + 1 != board.rack));
+            assert!(number == refusal::ACCEPTED || number == refusal::WRONG_TABLE && !is_below);
+            assert!(number == refusal::WRONG_TABLE || !falls && (place + 1 != board.rack));
         }
     }
 }

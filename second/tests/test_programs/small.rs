@@ -2,7 +2,7 @@
 
 use std::ops::RangeInclusive;
 
-use second::{Board, Line};
+use second::{refusal, Board, Line};
 
 use crate::boards::placed_board;
 use crate::every_plan::{all_sets, check, counted, every_board};
@@ -47,7 +47,8 @@ impl Tally {
 }
 
 fn is_best_refused(board: &Board) -> bool {
-    board.clone().best(None, &mut [junk::JUNK; junk::PLAN], &mut [junk::place(junk::JUNK); junk::TABLE]).number == 25
+    board.clone().best(None, &mut [junk::JUNK; junk::PLAN], &mut [junk::place(junk::JUNK); junk::TABLE]).number
+        == refusal::NO_RUN
 }
 
 /// The calls on one board: keep for each k from 0 to the number of placements and one more.
@@ -55,7 +56,7 @@ fn tally(board: &Board) -> Tally {
     assert_eq!(placed_board(board.rack, &board.lines().collect::<Vec<Line>>()), *board);
     check(board);
     let bounds = 0..board.placements().len() as u16 + 2;
-    let is_keep_refused = |k: &u16| board.clone().keep_within(*k).number == 26;
+    let is_keep_refused = |k: &u16| board.clone().keep_within(*k).number == refusal::NO_PLAN;
     Tally {
         boards: 1,
         keeps: bounds.len(),

@@ -8,7 +8,7 @@ use Rattle.best.proofs.plan_lines.Goals.{then-names-between, else-names-between}
 
 pub invariant_of-full : goal.invariant_of-full
 invariant_of-full c =
-    record { runs = all_full c.requires.0 c.names_of-names.ensures (c.if-names-between.true ∙ c.between.ensures) }
+    record { runs = all_full c.requires.runs c.names_of-names.ensures (c.if-names-between.true ∙ c.between.ensures) }
 
 -- the first row's last place has the pairs
 pub returns-clause-answer : goal.returns-clause-answer
@@ -20,4 +20,4 @@ returns-clause-answer c =
       | then-names-between w ↦ w.table-is ∙ w.plan_runs.ensures.table
       | else-names-between w ↦ w.table-is ∙ w.plan_named.ensures.table
     ] in
-    ap (λ t. get_or t (a.m - 1) 0) filled ∙ table-last a.m lines c.requires.0.good.some
+    ap (λ t. get_or t (a.m - 1) 0) filled ∙ table-last a.m lines c.requires.runs.good.some

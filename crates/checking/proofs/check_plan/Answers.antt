@@ -2,8 +2,9 @@ use Rattle.std.proofs.Common.{◌≡◌, ap, ◌∙◌, not, rules}
 use Rattle.refusal.specs.Refusal.{when}
 use Rattle.refusal.specs.Reasons.{refusal_of, told_of}
 use Rattle.refusal.proofs.Laws.{or_err, or_ok}
-use Rattle.checking.specs.Checking.{check_refusal, table_ok, NamedRuns}
-use Rattle.checking.proofs.Bounds.{ready, bounds_same}
+use Rattle.ranks.specs.Runs.{NamedRuns}
+use Rattle.checking.specs.Checking.{check_refusal, table_ok}
+use Rattle.checking.proofs.Bounds.{held, bounds_same}
 use Rattle.checking.proofs.check_plan.Goals as goal
 
 pub returns-in_err-claim_refusal : goal.returns-in_err-claim_refusal
@@ -15,13 +16,13 @@ returns-in_err-claim_refusal c =
 pub invariant_of-foreign : goal.invariant_of-foreign
 invariant_of-foreign c =
     let l = c.args.lines in
-    let r : NamedRuns c.args.names l.rack l.quantities.now l.sets.now = record { good = l.good; named = c.requires.named } in
-    record { ready = rw c.sum_spans.ensures (ready r c.args.table.now c.requires.cells) }
+    let r : NamedRuns l.rack l.quantities.now l.sets.now = record { good = l.good; runs = c.requires.named.runs } in
+    record { ready = rw c.sum_spans.ensures (held r c.requires.named.all c.args.table.now c.requires.cells) }
 
 pub returns : goal.returns
 unfolding check_refusal table_ok
 returns c =
     let l = c.args.lines in
-    let r : NamedRuns c.args.names l.rack l.quantities.now l.sets.now = record { good = l.good; named = c.requires.named } in
-    let fits = c.fits.ensures ∙ rw (c.sum_spans.ensures, bounds_same r c.args.table.now) in
+    let r : NamedRuns l.rack l.quantities.now l.sets.now = record { good = l.good; runs = c.requires.named.runs } in
+    let fits = c.fits.ensures ∙ rw (c.sum_spans.ensures, bounds_same r c.requires.named.all c.args.table.now) in
     or_ok _ c.in_ok-claim_refusal.ensures (c.refuse_when.ensures ∙ ap (λ b. when (not b) 33) fits)

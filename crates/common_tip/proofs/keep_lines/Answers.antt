@@ -22,13 +22,13 @@ held rack k {z = z} n h e = to_z-of_z w32 z (rw e (margin_small rack k n h)) ∙
 pub returns-then-margin-lt0 : goal.returns-then-margin-lt0
 unfolding kept_lines
 returns-then-margin-lt0 c =
-    let e = held c.args.rack c.args.k c.requires.1 c.ranges.k.fits c.within-bound.ensures.margin in
+    let e = held c.args.rack c.args.k c.requires.countable c.ranges.k.fits c.within-bound.ensures.margin in
     record { margin = e; lines = rw (ap (λ z. lt_z z (pos 0)) (sym e) ∙ c.if-margin-lt0.true) }
 
 pub returns : goal.returns
 unfolding kept_lines
 returns c =
-    let e = held c.args.rack c.args.k c.requires.1 c.ranges.k.fits c.within-bound.ensures.margin in
+    let e = held c.args.rack c.args.k c.requires.countable c.ranges.k.fits c.within-bound.ensures.margin in
     let qs = c.args.quantities.now in
     let lines = c.args.lines.now in
     record {

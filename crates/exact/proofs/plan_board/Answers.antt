@@ -1,6 +1,6 @@
 use Rattle.head.specs.OnHead.{on_head}
-use Rattle.subsets.specs.Exact.{capped}
-use Rattle.subsets.proofs.Placements.{exact-capped}
+use Rattle.subset_rules.specs.Exact.{capped}
+use Rattle.subset_rules.proofs.Placements.{exact-capped}
 use Rattle.exact.proofs.Boards.{renumberable, tips_listed, lent, table-is, plan_fits, plan-is, pairs-are, tips-are}
 use Rattle.exact.proofs.plan_board.Goals as goal
 

@@ -3,8 +3,8 @@ use Rattle.head.specs.OnHead.{on_head}
 use Rattle.model.specs.Plan.{pairs}
 use Rattle.placements.specs.Repeated.{repeated}
 use Rattle.placements.proofs.Repeated.{all-repeated}
-use Rattle.subsets.specs.Subsets.{tips_used, exact_plan_q}
-use Rattle.subsets.specs.Exact.{most_price, capped}
+use Rattle.subset_rules.specs.Subsets.{tips_used, exact_plan_q}
+use Rattle.subset_rules.specs.Exact.{most_price, capped}
 use Rattle.subset_table.proofs.Scores.{lines_scored}
 use Rattle.exact.proofs.Whole.{few_lines, all_below, tips_below, pairs_are, used_are, tips_summable, plan_laid}
 use Rattle.exact.proofs.plan_ranks.Goals as goal

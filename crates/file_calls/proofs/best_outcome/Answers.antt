@@ -1,11 +1,6 @@
-use mathlib.Core.Path.{◌≡◌}
+use mathlib.Core.Path.{◌≡◌, refl}
 use Rattle.std.proofs.Common.{rules, Err}
-use Rattle.refusal.proofs.Laws.{reason_not_0}
-use lib.ListN.{length}
 use Rattle.head.specs.OnHead.{on_head}
-use Rattle.refusal.specs.Reasons.{told_of}
-use Rattle.call_refusals.proofs.Calls.{best_first}
-use Rattle.line_calls.proofs.Plans.{best-refused}
 use Rattle.file_calls.proofs.Left.{best_few, best_entries, best_checked}
 use Rattle.file_calls.proofs.Stopped.{best_read}
 use Rattle.file_calls.proofs.ReadLines.{best-in}
@@ -30,35 +25,6 @@ returns-in_err-lines c =
       cases = told;
     })
 
--- a mounted tip outside the rack refuses the call before the lines are looked at
-pub returns-in_err-mounted_refusal : goal.returns-in_err-mounted_refusal
-returns-in_err-mounted_refusal c =
-    let a = c.args in
-    let e = c.in_err-mounted_refusal.field-0.0 in
-    let same : c.from_residual-in_err-mounted_refusal.result ≡ Err e = search rules in
-    let read = c.in_ok-lines.ensures in
-    let d = told_of e in
-    let n = reason_not_0 e.reason in
-    let l = c.in_ok-lines.lines in
-    let sets = l.sets.now in
-    let first = best_first d n l.rack sets (length a.plan.now) (length a.table.now) in
-    let (p, (q, (t, half))) =
-    best-refused d l.rack (on_head a.mounted) l.quantities.now sets a.plan.now a.table.now first n in
-    let (outcome, (plan, (table, rule))) =
-    best-in a.file.now read.refusal (λ _. (read.rack, read.quantities, read.sets)) (on_head a.mounted) c.in_err-mounted_refusal.ensures
-    a.plan.now a.table.now p q t half in
-    let told = best_told a.file.now (on_head a.mounted) _ _ outcome in
-    rw same (record {
-      outcome = outcome;
-      plan = plan;
-      table = table;
-      rule = rule;
-      few = best_few a.file.now (on_head a.mounted) a.plan.now a.table.now outcome;
-      entries = best_entries a.file.now (on_head a.mounted) a.plan.now a.table.now outcome table;
-      checked = best_checked a.file.now (on_head a.mounted) a.plan.now a.table.now outcome table plan;
-      cases = told;
-    })
-
 pub returns-in_err-pairs : goal.returns-in_err-pairs
 returns-in_err-pairs c =
     let a = c.args in
@@ -68,7 +34,7 @@ returns-in_err-pairs c =
     let laid = c.in_err-pairs.ensures in
     let (outcome, (plan, (table, rule))) =
     best-in a.file.now read.refusal (λ _. (read.rack, read.quantities, read.sets))
-    (on_head a.mounted) c.in_ok-mounted_refusal.ensures a.plan.now a.table.now
+    (on_head a.mounted) refl a.plan.now a.table.now
     laid.answer laid.plan laid.table laid.rule in
     let told = best_told a.file.now (on_head a.mounted) _ _ outcome in
     rw same (record {
@@ -89,7 +55,7 @@ returns c =
     let laid = c.in_ok-pairs.ensures in
     let (outcome, (plan, (table, rule))) =
     best-in a.file.now read.refusal (λ _. (read.rack, read.quantities, read.sets))
-    (on_head a.mounted) c.in_ok-mounted_refusal.ensures a.plan.now a.table.now
+    (on_head a.mounted) refl a.plan.now a.table.now
     laid.answer laid.plan laid.table laid.rule in
     let told = best_told a.file.now (on_head a.mounted) _ _ outcome in
     rw (c.one.ensures, c.from.ensures) (record {

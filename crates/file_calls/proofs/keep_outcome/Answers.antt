@@ -5,7 +5,7 @@ use lib.Seq.{length-take-le}
 use Rattle.std.proofs.Common.{rules, Err, pos}
 use Rattle.model.proofs.Lists.{all_get_d}
 use Rattle.refusal.specs.Refusal.{none}
-use Rattle.reading.proofs.Lines.{first_good, given_read}
+use Rattle.job_read.proofs.ReadLines.{first_good, given_read}
 use Rattle.line_calls.proofs.KeepWithin.{keep_bits}
 use Rattle.file_calls.proofs.ReadLines.{same_lines}
 use Rattle.file_calls.proofs.KeptFile.{kept-lines, good-kept, kept-ruled, margin-refused, write-refused, kept-written}

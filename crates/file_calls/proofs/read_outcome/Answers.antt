@@ -24,7 +24,7 @@ pub returns-clause-outcome : goal.returns-clause-outcome
 unfolding read_in
 returns-clause-outcome c =
     let told = c.in_ok-opened.ensures in
-    let header = c.in_ok-opened.opened.header_is in
+    let header = c.in_ok-opened.opened.file.header_is in
     rw (← told.refusal, header.rack-is, header.count-is, told.same) refl
 
 pub returns-in_err-opened-clause-cases : goal.returns-in_err-opened-clause-cases

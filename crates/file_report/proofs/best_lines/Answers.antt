@@ -1,9 +1,12 @@
 use mathlib.Core.Path.{refl}
+use Rattle.line_calls.proofs.Plans.{bare_none}
 use Rattle.file_report.proofs.Answers.{best_is, best_ok}
 use Rattle.file_report.proofs.best_lines.Goals as goal
 
 pub returns : goal.returns
 returns c =
     let laid = c.best.ensures in
-    let good = c.args.lines.good in
-    best_ok c.best.result c.ok.ensures.value (best_is good c.args.plan.now c.requires refl laid.answer laid.plan)
+    let l = c.args.lines in
+    let good = l.good in
+    best_ok c.best.result c.ok.ensures.value
+    (best_is good c.args.plan.now c.requires refl (rw (bare_none l.rack) at laid.answer) (rw (bare_none l.rack) at laid.plan))

@@ -33,7 +33,7 @@ loop-i-preserved c =
     let line-is = line-put v (get_or sets i 0) q p at.out (omega (arith, c.type_inv.quantities i)) room
     c.put_quantity.ensures c.put_set_by_bytes.ensures in
     ap (take (file_length v (i + 1))) (rw c.file_length-at.ensures at line-is)
-    ∙ written-more v (take header_length a.out.now) at.out sets qs i c.requires.quantities_len (omega arith) (omega arith) at.invariant
+    ∙ written-more v header_length (take header_length a.out.now) at.out sets qs i c.requires.quantities_len (omega arith) (omega arith) at.invariant
 
 pub returns : goal.returns
 returns c =

@@ -1,4 +1,4 @@
-use Rattle.std.proofs.Common.{sym, ◌∙◌, arith, ◌≡◌, ◌+◌, ◌*◌, ap}
+use Rattle.std.proofs.Common.{sym, ◌∙◌, arith, ◌≡◌, ◌+◌, ◌*◌, length, take, ap}
 use Rattle.junior.proofs.Search.{sought_none, sought_same, sought_next, sought_skip, sought_all}
 use Rattle.junior.proofs.choose_tips.Goals as goal
 use Rattle.junior.proofs.choose_tips.Goals.{in-Some, in_default}
@@ -6,16 +6,18 @@ use Rattle.junior.proofs.choose_tips.Goals.{in-Some, in_default}
 pub loop-u-init : goal.loop-u-init
 loop-u-init c =
     let e : 0 * c.args.m ≡ 0 = omega arith in
-    rw e (sought_none c.args.m c.args.quantities.now c.args.lines.now)
+    rw e (sought_none c.args.m c.args.quantities.now (take (length c.args.quantities.now) c.args.sets.now))
 
 pub loop-v-init : goal.loop-v-init
-loop-v-init c = sought_skip c.args.m c.args.quantities.now c.args.lines.now c.loop-u.u c.loop-u.u (omega arith) (omega arith) c.loop-u.invariant
+loop-v-init c =
+    let qs = c.args.quantities.now in
+    sought_skip c.args.m qs (take (length qs) c.args.sets.now) c.loop-u.u c.loop-u.u (omega arith) (omega arith) c.loop-u.invariant
 
 pub loop-v-preserved : goal.loop-v-preserved
 loop-v-preserved c =
     let m = c.args.m in
     let qs = c.args.quantities.now in
-    let lines = c.args.lines.now in
+    let lines = take (length qs) c.args.sets.now in
     let u = c.loop-u.u in
     let v = c.loop-v.v in
     let e : u * m + (v + 1) ≡ u * m + v + 1 = omega arith in
@@ -37,4 +39,4 @@ loop-u-preserved c =
 pub returns : goal.returns
 returns c =
     let e : c.loop-u.u ≡ c.args.m = omega arith in
-    sought_all c.args.m c.args.quantities.now c.args.lines.now c.requires.good.some (rw e at c.loop-u.invariant)
+    sought_all c.args.m c.args.quantities.now (take (length c.args.quantities.now) c.args.sets.now) c.requires.good.some (rw e at c.loop-u.invariant)

@@ -3,7 +3,7 @@ use mathlib.Core.List.{append-nil}
 use Rattle.std.proofs.lemmas.List.{take_all}
 use Rattle.model.specs.Plan.{prefer}
 use Rattle.model.proofs.Loops.{map_more}
-use Rattle.holders.specs.Holders.{gathered}
+use Rattle.holder_rules.specs.Holders.{gathered}
 use Rattle.junior.proofs.lay_lines.Goals as goal
 
 pub loop-i-preserved : goal.loop-i-preserved

@@ -1,5 +1,5 @@
 use Rattle.std.proofs.Common.{arith}
-use Rattle.holders.specs.Holders.{side_pairs}
+use Rattle.holder_rules.specs.Holders.{side_pairs}
 use Rattle.junior.proofs.Sides.{side_few}
 use Rattle.junior.proofs.side_pairs.Goals as goal
 

@@ -4,17 +4,34 @@ use Rattle.std.proofs.Common.{length}
 use Rattle.refusal.specs.Refusal.{none}
 use Rattle.refusal.proofs.Laws.{err_of, reason_not_0}
 use Rattle.head.specs.OnHead.{on_head}
+use Rattle.call_refusals.specs.Calls.{mounted_refusal}
 use Rattle.call_refusals.proofs.Calls.{best_none}
-use Rattle.line_calls.proofs.Plans.{best-refused, best_accepted}
+use Rattle.line_calls.proofs.Plans.{best_later, best_as, best-refused, best_accepted}
 use Rattle.line_calls.proofs.best.Goals as goal
+
+-- a mounted tip outside the rack refuses the call before the lines are looked at
+pub returns-in_err-mounted_refusal : goal.returns-in_err-mounted_refusal
+returns-in_err-mounted_refusal c =
+    let a = c.args in
+    let e = c.in_err-mounted_refusal.field-0.0 in
+    let same = err_of _ e c.from_residual.ensures in
+    let n = reason_not_0 e.reason in
+    let asked = c.in_err-mounted_refusal.ensures in
+    let (answer, (plan, (table, rule))) =
+    best-refused (mounted_refusal none a.lines.rack (on_head a.mounted)) a.lines.rack (on_head a.mounted) a.lines.quantities.now a.lines.sets.now
+    a.plan.now
+    a.table.now (best_later asked n a.lines.rack a.lines.sets.now (length a.plan.now) (length a.table.now)) n in
+    rw same (record { answer = answer; plan = plan; table = table; rule = rule })
 
 pub returns-in_err-best_refusal : goal.returns-in_err-best_refusal
 returns-in_err-best_refusal c =
     let a = c.args in
     let e = c.in_err-best_refusal.field-0.0 in
-    let same = err_of _ e c.from_residual.ensures in
+    let same = err_of _ e c.from_residual-in_err-best_refusal.ensures in
     let (answer, (plan, (table, rule))) =
-    best-refused none a.lines.rack (on_head a.mounted) a.lines.quantities.now a.lines.sets.now a.plan.now a.table.now c.in_err-best_refusal.ensures
+    best-refused (mounted_refusal none a.lines.rack (on_head a.mounted)) a.lines.rack (on_head a.mounted) a.lines.quantities.now a.lines.sets.now
+    a.plan.now a.table.now
+    (best_as a.lines.rack a.lines.sets.now (length a.plan.now) (length a.table.now) c.in_err-best_refusal.ensures c.in_ok-mounted_refusal.ensures)
     (reason_not_0 e.reason) in
     rw same (record { answer = answer; plan = plan; table = table; rule = rule })
 
@@ -33,15 +50,19 @@ slice_bounds-plan_lines-end-3 c = (best_none none _ _ _ _ (ap (λ r. r.number) (
 pub slice_bounds-plan_lines-end-4 : goal.slice_bounds-plan_lines-end-4
 slice_bounds-plan_lines-end-4 c = sym (length-take-le _ _ (best_none none _ _ _ _ (ap (λ r. r.number) (sym c.in_ok-best_refusal.ensures))).cells)
 
-pub plan_lines-requires : goal.plan_lines-requires
-plan_lines-requires c =
+pub plan_lines-requires-clause-runs : goal.plan_lines-requires-clause-runs
+plan_lines-requires-clause-runs c =
     let free = best_none none _ _ _ _ (ap (λ r. r.number) (sym c.in_ok-best_refusal.ensures)) in
-    let same = c.copy_sets.ensures in
-    let room = rw (← c.len-count.ensures) at free.bytes in (
-      rw same (record { good = c.args.lines.good; runs = free.runs }),
-      length-take-le _ _ room ∙ c.len-count.ensures ∙ sym (ap length same),
-      length-take-le _ _ free.cells,
-    )
+    rw c.copy_sets.ensures (record { good = c.args.lines.good; runs = free.runs })
+
+pub plan_lines-requires-clause-lines : goal.plan_lines-requires-clause-lines
+plan_lines-requires-clause-lines c =
+    let free = best_none none _ _ _ _ (ap (λ r. r.number) (sym c.in_ok-best_refusal.ensures)) in
+    length-take-le _ _ (rw (← c.len-count.ensures) at free.bytes) ∙ c.len-count.ensures ∙ sym (ap length c.copy_sets.ensures)
+
+pub plan_lines-requires-clause-cells : goal.plan_lines-requires-clause-cells
+plan_lines-requires-clause-cells c =
+    length-take-le _ _ (best_none none _ _ _ _ (ap (λ r. r.number) (sym c.in_ok-best_refusal.ensures))).cells
 
 pub returns : goal.returns
 returns c =
@@ -49,7 +70,9 @@ returns c =
     let laid = c.plan_lines.ensures in
     let same = c.copy_sets.ensures in
     let (answer, (plan, (table, rule))) =
-    best_accepted none a.lines.rack (on_head a.mounted) a.lines.quantities.now a.lines.sets.now a.plan.now a.table.now
-    c.in_ok-best_refusal.ensures refl a.lines.good c.len-count.ensures
+    best_accepted (mounted_refusal none a.lines.rack (on_head a.mounted)) a.lines.rack (on_head a.mounted) a.lines.quantities.now a.lines.sets.now
+    a.plan.now a.table.now
+    (best_as a.lines.rack a.lines.sets.now (length a.plan.now) (length a.table.now) c.in_ok-best_refusal.ensures c.in_ok-mounted_refusal.ensures)
+    refl a.lines.good c.len-count.ensures
     (rw same at laid.answer) (rw same at laid.plan) (rw same at laid.table) in
     record { answer = answer; plan = plan; table = table; rule = rule }

@@ -1,7 +1,7 @@
 use Rattle.std.proofs.Common.{rules, length}
 use Rattle.head.specs.OnHead.{on_head}
 use Rattle.refusal.specs.Reasons.{refusal_of, count_in}
-use Rattle.ordering.proofs.TipCall.{tips_rule}
+use Rattle.order_rules.proofs.TipCall.{tips_rule}
 use Rattle.placing.specs.ByTips.{PlacedByTips}
 use Rattle.placing.proofs.CasesTold.{parts_by_tips_told}
 use Rattle.placing.proofs.order_by_tips.Goals as goal

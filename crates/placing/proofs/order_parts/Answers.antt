@@ -1,5 +1,5 @@
 use Rattle.std.proofs.Common.{rules, length}
-use Rattle.ordering.proofs.Ruling.{placing_rule}
+use Rattle.order_rules.proofs.Ruling.{placing_rule}
 use Rattle.refusal.specs.Reasons.{refusal_of}
 use Rattle.placing.specs.Rows.{Placed}
 use Rattle.placing.proofs.CasesTold.{parts_told}

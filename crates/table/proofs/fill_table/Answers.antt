@@ -5,4 +5,4 @@ use Rattle.table.proofs.fill_table.Goals as goal
 pub returns : goal.returns
 returns c =
     let e : c.loop-b.b ≡ c.args.m = omega arith in
-    λ lines k. columns_all k.runs.good.some (rw e at (c.loop-b.invariant lines k))
+    λ lines k. columns_all k.good.some (rw e at (c.loop-b.invariant lines k))

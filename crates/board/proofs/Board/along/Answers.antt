@@ -1,7 +1,7 @@
 use Rattle.std.proofs.Common.{rules}
-use mathlib.Core.Path.{ap, ◌∙◌}
+use mathlib.Core.Path.{refl, ap, ◌∙◌}
 use Rattle.board.specs.Told.{along_answered}
-use Rattle.board.proofs.Answers.{by_state, along_answer}
+use Rattle.board.proofs.Answers.{along_answer}
 use Rattle.board.proofs.Stopped.{mounted_state, along_stopped, along_same}
 use Rattle.refusal.proofs.Laws.{err_of}
 use Rattle.board.proofs.Sets.{Full}
@@ -21,31 +21,19 @@ returns-in_err-lines-clause-buffer c =
     let x = c.in_err-lines.field-0.0 in
     along_same x c.args.self.now _ (mounted_state x c.args.self.now c.in_err-lines.ensures.refusal _) _
 
-pub returns-in_err-mounted_refusal-clause-answer : goal.returns-in_err-mounted_refusal-clause-answer
-returns-in_err-mounted_refusal-clause-answer c =
-    let x = c.in_err-mounted_refusal.field-0.0 in
-    let e = err_of _ x c.from_residual-in_err-mounted_refusal.ensures in
-    ap (along_answered c.args.self.now) e
-    ∙ along_stopped x c.args.self.now _ (by_state c.args.self.now _ c.in_ok-lines.ensures.refusal c.in_err-mounted_refusal.ensures) _
-
-pub returns-in_err-mounted_refusal-clause-buffer : goal.returns-in_err-mounted_refusal-clause-buffer
-returns-in_err-mounted_refusal-clause-buffer c =
-    along_same c.in_err-mounted_refusal.field-0.0 c.args.self.now _
-    (by_state c.args.self.now _ c.in_ok-lines.ensures.refusal c.in_err-mounted_refusal.ensures) _
-
 pub returns-clause-answer : goal.returns-clause-answer
 returns-clause-answer c =
     let q = c.along in
     let l = c.in_ok-lines.ensures in
-    (along_answer c.args.self.now _ c.in_ok-lines.ensures.refusal c.in_ok-mounted_refusal.ensures _
-    (rw (l.quantities, l.sets) at q.ensures.answer) (rw l.sets at q.ensures.plan)).0
+    (along_answer c.args.self.now _ c.in_ok-lines.ensures.refusal refl _
+    (rw (l.rack, l.quantities, l.sets) at q.ensures.answer) (rw (l.rack, l.sets) at q.ensures.plan)).0
 
 pub returns-clause-buffer : goal.returns-clause-buffer
 returns-clause-buffer c =
     let q = c.along in
     let l = c.in_ok-lines.ensures in
-    (along_answer c.args.self.now _ c.in_ok-lines.ensures.refusal c.in_ok-mounted_refusal.ensures _
-    (rw (l.quantities, l.sets) at q.ensures.answer) (rw l.sets at q.ensures.plan)).1
+    (along_answer c.args.self.now _ c.in_ok-lines.ensures.refusal refl _
+    (rw (l.rack, l.quantities, l.sets) at q.ensures.answer) (rw (l.rack, l.sets) at q.ensures.plan)).1
 
 full : (c : After-lines) → Full c.args.self.now
 full c = record { sets_full = search rules; quantities_full = search rules }
@@ -53,11 +41,6 @@ full c = record { sets_full = search rules; quantities_full = search rules }
 pub returns-in_err-lines-clause-cases : goal.returns-in_err-lines-clause-cases
 returns-in_err-lines-clause-cases c =
     along_told c.args.self.now (full (goal.at.returns-in_err-lines-clause-cases c).After-lines) _ _ _ (returns-in_err-lines-clause-answer c)
-
-pub returns-in_err-mounted_refusal-clause-cases : goal.returns-in_err-mounted_refusal-clause-cases
-returns-in_err-mounted_refusal-clause-cases c =
-    let all = full (goal.at.returns-in_err-mounted_refusal-clause-cases c).After-lines in
-    along_told c.args.self.now all _ _ _ (returns-in_err-mounted_refusal-clause-answer c)
 
 pub returns-clause-cases : goal.returns-clause-cases
 returns-clause-cases c =

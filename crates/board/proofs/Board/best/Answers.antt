@@ -1,7 +1,7 @@
 use Rattle.std.proofs.Common.{rules}
-use mathlib.Core.Path.{ap, ◌∙◌}
+use mathlib.Core.Path.{refl, ap, ◌∙◌}
 use Rattle.board.specs.Told.{shared_answered}
-use Rattle.board.proofs.Answers.{by_state, best-answer}
+use Rattle.board.proofs.Answers.{best-answer}
 use Rattle.board.proofs.Stopped.{mounted_state, best_stopped, best_same, table_same}
 use Rattle.refusal.proofs.Laws.{err_of}
 use Rattle.board.proofs.Sets.{Full}
@@ -26,28 +26,11 @@ returns-in_err-lines-clause-table c =
     let x = c.in_err-lines.field-0.0 in
     table_same x c.args.self.now _ (mounted_state x c.args.self.now c.in_err-lines.ensures.refusal _) _ _
 
-pub returns-in_err-mounted_refusal-clause-answer : goal.returns-in_err-mounted_refusal-clause-answer
-returns-in_err-mounted_refusal-clause-answer c =
-    let x = c.in_err-mounted_refusal.field-0.0 in
-    let e = err_of _ x c.from_residual-in_err-mounted_refusal.ensures in
-    ap (shared_answered c.args.self.now) e
-    ∙ best_stopped x c.args.self.now _ (by_state c.args.self.now _ c.in_ok-lines.ensures.refusal c.in_err-mounted_refusal.ensures) _ _
-
-pub returns-in_err-mounted_refusal-clause-plan : goal.returns-in_err-mounted_refusal-clause-plan
-returns-in_err-mounted_refusal-clause-plan c =
-    best_same c.in_err-mounted_refusal.field-0.0 c.args.self.now _
-    (by_state c.args.self.now _ c.in_ok-lines.ensures.refusal c.in_err-mounted_refusal.ensures) _ _
-
-pub returns-in_err-mounted_refusal-clause-table : goal.returns-in_err-mounted_refusal-clause-table
-returns-in_err-mounted_refusal-clause-table c =
-    table_same c.in_err-mounted_refusal.field-0.0 c.args.self.now _
-    (by_state c.args.self.now _ c.in_ok-lines.ensures.refusal c.in_err-mounted_refusal.ensures) _ _
-
 pub returns-clause-answer : goal.returns-clause-answer
 returns-clause-answer c =
     let p = c.best in
     let l = c.in_ok-lines.ensures in
-    (best-answer c.args.self.now _ c.in_ok-lines.ensures.refusal c.in_ok-mounted_refusal.ensures _ _
+    (best-answer c.args.self.now _ c.in_ok-lines.ensures.refusal refl _ _
     (rw (l.rack, l.quantities, l.sets) at p.ensures.answer) (rw (l.rack, l.quantities, l.sets) at p.ensures.plan)
     (rw (l.rack, l.quantities, l.sets) at p.ensures.table)).0
 
@@ -55,7 +38,7 @@ pub returns-clause-plan : goal.returns-clause-plan
 returns-clause-plan c =
     let p = c.best in
     let l = c.in_ok-lines.ensures in
-    (best-answer c.args.self.now _ c.in_ok-lines.ensures.refusal c.in_ok-mounted_refusal.ensures _ _
+    (best-answer c.args.self.now _ c.in_ok-lines.ensures.refusal refl _ _
     (rw (l.rack, l.quantities, l.sets) at p.ensures.answer) (rw (l.rack, l.quantities, l.sets) at p.ensures.plan)
     (rw (l.rack, l.quantities, l.sets) at p.ensures.table)).1.0
 
@@ -63,7 +46,7 @@ pub returns-clause-table : goal.returns-clause-table
 returns-clause-table c =
     let p = c.best in
     let l = c.in_ok-lines.ensures in
-    (best-answer c.args.self.now _ c.in_ok-lines.ensures.refusal c.in_ok-mounted_refusal.ensures _ _
+    (best-answer c.args.self.now _ c.in_ok-lines.ensures.refusal refl _ _
     (rw (l.rack, l.quantities, l.sets) at p.ensures.answer) (rw (l.rack, l.quantities, l.sets) at p.ensures.plan)
     (rw (l.rack, l.quantities, l.sets) at p.ensures.table)).1.1
 
@@ -73,11 +56,6 @@ full c = record { sets_full = search rules; quantities_full = search rules }
 pub returns-in_err-lines-clause-cases : goal.returns-in_err-lines-clause-cases
 returns-in_err-lines-clause-cases c =
     best_told c.args.self.now (full (goal.at.returns-in_err-lines-clause-cases c).After-lines) _ _ _ _ (returns-in_err-lines-clause-answer c)
-
-pub returns-in_err-mounted_refusal-clause-cases : goal.returns-in_err-mounted_refusal-clause-cases
-returns-in_err-mounted_refusal-clause-cases c =
-    let all = full (goal.at.returns-in_err-mounted_refusal-clause-cases c).After-lines in
-    best_told c.args.self.now all _ _ _ _ (returns-in_err-mounted_refusal-clause-answer c)
 
 pub returns-clause-cases : goal.returns-clause-cases
 returns-clause-cases c =

@@ -1,6 +1,6 @@
 use Rattle.std.proofs.Common.{◌≡◌, length, drop}
 use Rattle.model.specs.Plan.{pairs}
-use Rattle.goals.specs.Check.{is_valid}
+use Rattle.goal_rules.specs.Check.{is_valid}
 use Rattle.plan_pairs.specs.OnTips.{on_tips}
 use Rattle.plan_pairs.proofs.Joined.{placed}
 use Rattle.checking.proofs.claimed.claim_refusal.Given as goal

@@ -1,11 +1,6 @@
 use mathlib.Core.Path.{◌≡◌, refl}
 use Rattle.std.proofs.Common.{rules, Err}
-use lib.ListN.{length}
-use Rattle.refusal.proofs.Laws.{reason_not_0}
 use Rattle.head.specs.OnHead.{on_head}
-use Rattle.refusal.specs.Reasons.{told_of}
-use Rattle.call_refusals.proofs.Calls.{plan_first}
-use Rattle.line_calls.proofs.AlongPlan.{along_refused}
 use Rattle.file_calls.proofs.Left.{along_holds}
 use Rattle.file_calls.proofs.Stopped.{along_read}
 use Rattle.file_calls.proofs.ReadLines.{along-in}
@@ -22,27 +17,6 @@ returns-in_err-lines c =
     let (rule, few) = along_holds file (on_head a.mounted) a.plan.now outcome plan in
     rw same (record { outcome = outcome; plan = plan; rule = rule; few = few; cases = along_told file (on_head a.mounted) _ outcome })
 
--- a mounted tip outside the rack refuses the call before the lines are looked at
-pub returns-in_err-mounted_refusal : goal.returns-in_err-mounted_refusal
-returns-in_err-mounted_refusal c =
-    let a = c.args in
-    let file = a.file.now in
-    let e = c.in_err-mounted_refusal.field-0.0 in
-    let same : c.from_residual-in_err-mounted_refusal.result ≡ Err e = search rules in
-    let read = c.in_ok-lines.ensures in
-    let d = told_of e in
-    let n = reason_not_0 e.reason in
-    let l = c.in_ok-lines.lines in
-    let sets = l.sets.now in
-    let (p, q) =
-    along_refused d (on_head a.mounted) l.quantities.now sets a.plan.now {n = length sets}
-    (plan_first d n (length sets) (length a.plan.now)) (λ _. refl) n in
-    let (outcome, plan) =
-    along-in file read.refusal (λ _. (read.rack, read.quantities, read.sets))
-    (on_head a.mounted) c.in_err-mounted_refusal.ensures a.plan.now p q in
-    let (rule, few) = along_holds file (on_head a.mounted) a.plan.now outcome plan in
-    rw same (record { outcome = outcome; plan = plan; rule = rule; few = few; cases = along_told file (on_head a.mounted) _ outcome })
-
 pub returns-in_err-laid : goal.returns-in_err-laid
 returns-in_err-laid c =
     let a = c.args in
@@ -52,7 +26,7 @@ returns-in_err-laid c =
     let read = c.in_ok-lines.ensures in
     let laid = c.in_err-laid.ensures in
     let (outcome, plan) =
-    along-in file read.refusal (λ _. (read.rack, read.quantities, read.sets)) (on_head a.mounted) c.in_ok-mounted_refusal.ensures a.plan.now
+    along-in file read.refusal (λ _. (read.rack, read.quantities, read.sets)) (on_head a.mounted) refl a.plan.now
     laid.answer laid.plan in
     let (rule, few) = along_holds file (on_head a.mounted) a.plan.now outcome plan in
     rw same (record { outcome = outcome; plan = plan; rule = rule; few = few; cases = along_told file (on_head a.mounted) _ outcome })
@@ -64,7 +38,7 @@ returns c =
     let read = c.in_ok-lines.ensures in
     let laid = c.in_ok-laid.ensures in
     let (outcome, plan) =
-    along-in file read.refusal (λ _. (read.rack, read.quantities, read.sets)) (on_head a.mounted) c.in_ok-mounted_refusal.ensures a.plan.now
+    along-in file read.refusal (λ _. (read.rack, read.quantities, read.sets)) (on_head a.mounted) refl a.plan.now
     laid.answer laid.plan in
     let (rule, few) = along_holds file (on_head a.mounted) a.plan.now outcome plan in
     let told = along_told file (on_head a.mounted) _ outcome in

@@ -1,7 +1,7 @@
 use Rattle.std.proofs.Common.{◌≡◌, ◌≤◌, Bool, true, false, cond, refl, get_or, ap, ◌∙◌, arith}
 use mir.Val.{bool_byte}
 use Rattle.head.specs.OnHead.{on_head}
-use Rattle.ordering.specs.Tips.{has_other, is_change}
+use Rattle.order_rules.specs.Tips.{has_other, is_change}
 use Rattle.flat_order.proofs.Counted.{changes_more, changes_over}
 use Rattle.flat_order.proofs.changes.count_changes.Goals as goal
 

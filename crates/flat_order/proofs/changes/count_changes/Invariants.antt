@@ -1,6 +1,6 @@
 use Rattle.std.proofs.Common.{◌≡◌, ◌+◌, ◌≤◌, drop}
 use Rattle.head.specs.OnHead.{on_head}
-use Rattle.ordering.specs.Tips.{changes}
+use Rattle.order_rules.specs.Tips.{changes}
 use Rattle.flat_order.proofs.changes.count_changes.Given as goal
 
 abbrev pub invariant-loop-part : goal.invariant-loop-part

@@ -1,16 +1,15 @@
-use Rattle.std.proofs.Common.{◌≡◌, ℕ, ◌<◌, ◌^◌, T, ap, ◌∙◌, arith}
+use Rattle.std.proofs.Common.{◌≡◌, ℕ, ◌<◌, ◌^◌, List, length, T, ap, ◌∙◌, arith}
 use Rattle.flat_order.specs.declared.sets.PartSet.{PartSet}
 use Rattle.flat_order.specs.Sets.{has_part, single, removed, met}
-use Rattle.flat_order.specs.Flat.{row_at}
-use Rattle.flat_order.proofs.Free.{trying_none, trying_found, trying_more, trying_all, fewer_parts, held_more, is_free, not_free}
+use Rattle.flat_order.specs.Flat.{row_at, Held}
+use Rattle.flat_order.proofs.Free.{trying_none, trying_found, trying_more, trying_all, fewer_parts, b_left, held_more, is_free, not_free}
 use Rattle.flat_order.proofs.picking.lowest_free.Goals as goal
 
 pub loop-x-init : goal.loop-x-init
 loop-x-init c =
     let a = c.args in
-    let w = a.waiting.now in
     record {
-      trying = rw c.sub-rest.ensures (trying_none a.left w.parts a.rows.now w.noted c.requires.held a.among);
+      trying = rw c.sub-rest.ensures (trying_none a.left a.waiting.now a.rows.now a.noted.now c.requires.held a.among);
       held = c.requires.held;
     }
 
@@ -40,6 +39,26 @@ loop-x-smaller c =
     let (l, is) = c.in-Some.ensures.some in
     rw (c.sub-rest-in-Some-lowest.ensures, c.single-one.ensures) (fewer_parts c.loop-x.rest c.in-Some.x l is)
 
+-- the part waited for has a place
+noted_in : (left : PartSet) (rows noted : List PartSet) (waiting one others row : PartSet) (x b : ℕ) → Held left waiting rows noted
+    → one ≡ single x → others ≡ removed left one → row ≡ met (row_at rows x) others → T (has_part row b) → b < length noted
+noted_in left rows noted waiting one others row x b h e f g t =
+    h.places b (b_left left waiting rows noted h x b (rw (met-is _ _ _ _ _ x e f g) at t))
+
+pub bounds-noted-b : goal.bounds-noted-b
+bounds-noted-b c =
+    let l = c.loop-x in
+    let (k, is) = c.in-Some-lowest.ensures.some in
+    noted_in c.args.left c.args.rows.now l.noted l.waiting _ _ _ c.in-Some.x c.in-Some-lowest.b l.invariant.held
+    c.single-one.ensures c.sub.ensures c.bitand.ensures (is.found k)
+
+pub slice_copy_out-bitor : goal.slice_copy_out-bitor
+slice_copy_out-bitor c =
+    let l = c.loop-x in
+    let (k, is) = c.in-Some-lowest.ensures.some in
+    noted_in c.args.left c.args.rows.now l.noted l.waiting _ _ _ c.in-Some.x c.in-Some-lowest.b l.invariant.held
+    c.single-one.ensures c.sub.ensures c.bitand.ensures (is.found k)
+
 pub loop-x-preserved : goal.loop-x-preserved
 loop-x-preserved c =
     let a = c.args in
@@ -52,8 +71,8 @@ loop-x-preserved c =
     record {
       trying = rw (c.sub-rest-in-Some-lowest.ensures, c.single-one.ensures)
           (trying_more a.among a.left a.rows.now l.rest l.invariant.trying x (not_free a.left a.rows.now x b due));
-      held = rw (c.bitor-waiting.ensures, c.bitor.ensures, c.single-one.ensures)
-          (held_more a.left l.waiting.parts a.rows.now l.waiting.noted l.invariant.held x b k due);
+      held = rw (c.bitor-in-Some-lowest.ensures, c.bitor.ensures, c.single-one.ensures)
+          (held_more a.left l.waiting a.rows.now l.noted l.invariant.held x b due);
     }
 
 pub returns-clause-none : goal.returns-clause-none

@@ -1,4 +1,4 @@
-use Rattle.ordering.specs.Number.{number}
+use Rattle.order_rules.specs.Number.{number}
 use Rattle.flat_order.specs.Sets.{has_part}
 use Rattle.flat_order.specs.Flat.{Held}
 use Rattle.flat_order.proofs.Free.{Trying}
@@ -7,7 +7,7 @@ use Rattle.flat_order.proofs.picking.lowest_free.Given as goal
 abbrev pub invariant-loop-x : goal.invariant-loop-x
 invariant-loop-x l = record {
   trying : Trying l.fn.among l.left l.rows l.rest;
-  held : Held l.left l.waiting.parts l.rows l.waiting.noted;
+  held : Held l.left l.waiting l.rows l.noted;
 }
 
 abbrev pub decreases-loop-x : goal.decreases-loop-x

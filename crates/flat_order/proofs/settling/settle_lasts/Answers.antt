@@ -11,7 +11,7 @@ loop-e-init c =
     let r = c.requires in
     record {
       before = before_none a.rows.now a.lasts.now a.all r.all r.within;
-      ended = ended-none a.all a.lasts.now a.ends.now a.levels.now r.ends r.levels;
+      ended = ended-none a.all a.lasts.now a.ends.now a.levels.now r.ends r.places r.levels;
     }
 
 pub loop-b-init : goal.loop-b-init
@@ -21,7 +21,7 @@ loop-b-init c =
     record {
       turn = rw (c.bitand-due.ensures, c.bitor.ensures)
           (turn_begins c.args.rows.now c.args.lasts.now c.requires.few l.settled l.lasts l.left l.due l.e
-          (row_at l.ends (l.e + 1)) (λ x. i.ended.rest (l.e + 1) x (omega arith) (omega (arith, c.loop-e-test.true, c.requires.few))) i.before);
+          (row_at l.ends (l.e + 1)) (λ x. i.ended.rest (l.e + 1) x (omega arith) (omega (arith, c.loop-e-test.true, i.ended.size))) i.before);
       ended = i.ended;
     }
 
@@ -58,7 +58,7 @@ loop-e-preserved c =
     record {
       before = turn_ends a.rows.now a.lasts.now c.requires.few l.settled l.lasts l.left l.due e t none;
       ended = ended_next a.all a.lasts.now l.lasts l.settled e c.loop-e.ends c.loop-e.levels l.left l.due c.requires.all t.waiting l.invariant.ended
-          (turn_later a.rows.now a.lasts.now c.requires.few l.settled l.lasts l.left l.due e t none) c.requires.few c.loop-e-test.true _
+          (turn_later a.rows.now a.lasts.now c.requires.few l.settled l.lasts l.left l.due e t none) c.loop-e-test.true _
           c.sub.ensures;
     }
 

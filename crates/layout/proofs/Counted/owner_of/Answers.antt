@@ -17,16 +17,17 @@ in_owners {m} {line} owner narrow d room =
 pub overflow_mul-result : goal.overflow_mul-result
 overflow_mul-result c =
     let a = c.args in
-    rw c.lowest.ensures (record { fits = omega (arith, in_owners a.owner.now a.self.now.searchable.rack c.requires.domain c.requires.places) })
+    rw c.lowest.ensures
+    (record { fits = omega (arith, in_owners a.owner.now a.self.now.searchable.readable.rack c.requires.domain c.requires.places) })
 
 pub overflow_add-result : goal.overflow_add-result
 overflow_add-result c =
     rw (c.lowest.ensures, c.highest.ensures)
-    (record { fits = omega (arith, in_owners c.args.owner.now c.args.self.now.searchable.rack c.requires.domain c.requires.places) })
+    (record { fits = omega (arith, in_owners c.args.owner.now c.args.self.now.searchable.readable.rack c.requires.domain c.requires.places) })
 
 pub bounds-owner-lowest : goal.bounds-owner-lowest
 bounds-owner-lowest c =
-    rw (c.lowest.ensures, c.highest.ensures) (in_owners c.args.owner.now c.args.self.now.searchable.rack c.requires.domain c.requires.places)
+    rw (c.lowest.ensures, c.highest.ensures) (in_owners c.args.owner.now c.args.self.now.searchable.readable.rack c.requires.domain c.requires.places)
 
 pub returns : goal.returns
 unfolding owner_of

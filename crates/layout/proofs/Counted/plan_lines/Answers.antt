@@ -7,4 +7,4 @@ pub returns : goal.returns
 returns c =
     let s = c.args.self.now in
     let p = c.requires in
-    λ lines r. c.plan_owners.ensures ∙ rw c.lay.ensures (plan_laid (on_head s.mounted) r c.args.owner.now p.places p.domains p.runs)
+    λ lines k filled. c.plan_owners.ensures ∙ rw c.lay.ensures (plan_laid (on_head s.mounted) k filled c.args.owner.now p.places p.domains p.runs)

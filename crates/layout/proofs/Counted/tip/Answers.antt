@@ -3,7 +3,7 @@ use Rattle.head.specs.OnHead.{on_head}
 use Rattle.layout.specs.Picks.{pick_by}
 use Rattle.layout.proofs.Picks.{wins, loses, pick_bare, lowest-by_lt}
 use Rattle.layout.proofs.Counted.tip.Goals as goal
-use Rattle.layout.proofs.Counted.tip.Goals.{in_default-via-in-Some+then-a-t+then-t-a+else-most-split, in_default-via-in-Some+then-a-t+else-t-a}
+use Rattle.layout.proofs.Counted.tip.Goals.{in_default-via-in-Some+then-a-t+then-t-a+else-entry_at-split, in_default-via-in-Some+then-a-t+else-t-a}
 use Rattle.layout.proofs.Counted.tip.Goals.{in_default-via-in-Some+else-a-t, in_default-via-in_default}
 
 pub returns-in-Some : goal.returns-in-Some
@@ -13,7 +13,7 @@ returns-in-Some c =
     let is : c.in-Some.t - a.a ≡ pick_by (on_head s.mounted) s.m s.sums.now s.table.now a.a a.w =
     rw c.in-Some.is
     (wins s.searchable c.in-Some.t a.a a.w c.requires.inside c.if-a-t.true c.if-t-a.true
-    (omega (arith, c.most.ensures, c.split.ensures, c.if-most-split.true))) in
+    (omega (arith, c.entry_at.ensures, c.split.ensures, c.if-entry_at-split.true))) in
     record { inside = c.if-t-a.true; is = is }
 
 pub returns-in_default : goal.returns-in_default
@@ -24,9 +24,9 @@ returns-in_default c =
     let found = c.lowest.ensures in
     let is : c.lowest.result ≡ pick_by (on_head s.mounted) s.m s.sums.now s.table.now a.a a.w =
     elim c.in_default.branch [
-      | in_default-via-in-Some+then-a-t+then-t-a+else-most-split w ↦
+      | in_default-via-in-Some+then-a-t+then-t-a+else-entry_at-split w ↦
           rw w.in-Some.is (loses s.searchable w.in-Some.t a.a a.w h found
-          (λ p l. omega (arith, w.most.ensures, w.split.ensures, w.if-most-split.false)))
+          (λ p l. omega (arith, w.entry_at.ensures, w.split.ensures, w.if-entry_at-split.false)))
       | in_default-via-in-Some+then-a-t+else-t-a w ↦
           rw w.in-Some.is (loses s.searchable w.in-Some.t a.a a.w h found (λ p l. absurd (omega (arith, w.if-t-a.false))))
       | in_default-via-in-Some+else-a-t w ↦

@@ -1,20 +1,36 @@
 use mathlib.Core.Path.{refl, sym, ap}
 use lib.Seq.{length-take-le}
-use Rattle.std.proofs.Common.{◌∙◌}
+use Rattle.std.proofs.Common.{◌∙◌, length}
 use Rattle.refusal.specs.Refusal.{none}
 use Rattle.refusal.proofs.Laws.{err_of, reason_not_0}
 use Rattle.head.specs.OnHead.{on_head}
+use Rattle.call_refusals.specs.Calls.{mounted_refusal}
 use Rattle.call_refusals.proofs.Calls.{plan_none}
+use Rattle.line_calls.proofs.Plans.{plan_later, plan_as}
 use Rattle.line_calls.proofs.AlongPlan.{along_refused, along_accepted}
 use Rattle.line_calls.proofs.along_call.along.Goals as goal
+
+-- a mounted tip outside the rack refuses the call before the lines are looked at
+pub returns-in_err-mounted_refusal : goal.returns-in_err-mounted_refusal
+returns-in_err-mounted_refusal c =
+    let a = c.args in
+    let e = c.in_err-mounted_refusal.field-0.0 in
+    let same = err_of _ e c.from_residual.ensures in
+    let n = reason_not_0 e.reason in
+    let asked = c.in_err-mounted_refusal.ensures in
+    let (answer, plan) =
+    along_refused (mounted_refusal none a.lines.rack (on_head a.mounted)) (on_head a.mounted) a.lines.quantities.now a.lines.sets.now a.plan.now
+    {n = length a.lines.sets.now} (plan_later asked n (length a.lines.sets.now) (length a.plan.now)) (λ _. refl) n in
+    rw same (record { answer = answer; plan = plan })
 
 pub returns-in_err-plan_refusal : goal.returns-in_err-plan_refusal
 returns-in_err-plan_refusal c =
     let a = c.args in
     let e = c.in_err-plan_refusal.field-0.0 in
-    let same = err_of _ e c.from_residual.ensures in
+    let same = err_of _ e c.from_residual-in_err-plan_refusal.ensures in
     let (answer, plan) =
-    along_refused none (on_head a.mounted) a.lines.quantities.now a.lines.sets.now a.plan.now c.in_err-plan_refusal.ensures
+    along_refused (mounted_refusal none a.lines.rack (on_head a.mounted)) (on_head a.mounted) a.lines.quantities.now a.lines.sets.now a.plan.now
+    (plan_as c.len-count.result (length a.plan.now) c.in_err-plan_refusal.ensures c.in_ok-mounted_refusal.ensures)
     (λ _. c.len-count.ensures) (reason_not_0 e.reason) in
     rw same (record { answer = answer; plan = plan })
 
@@ -33,6 +49,7 @@ pub returns : goal.returns
 returns c =
     let a = c.args in
     let (answer, plan) =
-    along_accepted none (on_head a.mounted) a.lines.quantities.now a.lines.sets.now a.plan.now c.in_ok-plan_refusal.ensures
+    along_accepted (mounted_refusal none a.lines.rack (on_head a.mounted)) (on_head a.mounted) a.lines.quantities.now a.lines.sets.now a.plan.now
+    (plan_as c.len-count.result (length a.plan.now) c.in_ok-plan_refusal.ensures c.in_ok-mounted_refusal.ensures)
     (λ _. c.len-count.ensures) refl c.len-count.ensures c.plan_lines.ensures.counts c.plan_lines.ensures.plan in
     record { answer = answer; plan = plan }

@@ -9,7 +9,7 @@ use Rattle.refusal.specs.Reasons.{refusal_of}
 use Rattle.refusal.specs.declared.Reason.TheVariants.{NoTwoTips}
 use Rattle.refusal.specs.declared.Refused.{Refused}
 use Rattle.refusal.proofs.Laws.{err_of, reason_not_0}
-use Rattle.call_refusals.proofs.Junior.{junior_none}
+use Rattle.call_refusals.proofs.Junior.{junior_none, junior_few}
 use Rattle.junior.specs.declared.Found.{Found}
 use Rattle.junior.specs.Found.{found_of, plan_of}
 use Rattle.line_calls.specs.Answers.{junior_told}
@@ -35,8 +35,13 @@ slice_bounds-plan_lines-end-2 c = sym (length-take-le _ _ (junior_none none _ _ 
 
 pub plan_lines-requires : goal.plan_lines-requires
 plan_lines-requires c =
-    let room = (junior_none none _ _ _ (ap (λ r. r.number) (sym c.in_ok-junior_refusal.ensures))).1 in
-    length-take-le _ _ room ∙ c.len-count.ensures
+    let asked = ap (λ r. r.number) (sym c.in_ok-junior_refusal.ensures) in
+    let few = junior_few none _ _ _ asked in
+    record {
+      size = length-take-le _ _ (junior_none none _ _ _ asked).1 ∙ c.len-count.ensures;
+      short = rw c.len-count.ensures at few.0;
+      narrow = few.1;
+    }
 
 -- what is answered and left where the tips are sought: the plan that is found, or none
 module _ (m : ℕ) (qs lines old : List ℕ) (asked_none : (asked none m qs lines old).number ≡ 0) (good : GoodLines m qs lines)

@@ -1,9 +1,9 @@
-use mir.Val.{bool_byte}
-use Rattle.std.proofs.Common.{◌+◌, ◌≤◌, ◌≡◌, Bool, true, false, cond, length, refl, sym, ap, ap₂, ◌∙◌, arith}
+use Rattle.std.proofs.Common.{◌+◌, cond, length, refl, sym, ap, ap₂, ◌∙◌, arith}
 use Rattle.job.specs.Job.{rack_in}
-use Rattle.mending.specs.Mending.{kept, changes}
-use Rattle.mending.proofs.Files.{read_few}
+use Rattle.mend_rules.specs.Mending.{kept, changes}
+use Rattle.mend_rules.proofs.Files.{read_few}
 use Rattle.mend.proofs.Pass.{pass_start, pass_end, pass_next, kept_next, changes_next}
+use Rattle.mend.proofs.One.{one_or_none}
 use Rattle.mend.proofs.measure.measure.Goals as goal
 
 pub loop-i-init : goal.loop-i-init
@@ -19,11 +19,6 @@ loop-i-init c =
       changes = refl;
       changes_few = omega arith;
     }
-
--- a line is counted where it is kept, and counts at most 1
-one_or_none : (b : Bool) → (bool_byte b ≡ cond b 1 0) × (bool_byte b ≤ 1)
-one_or_none true = (refl, omega arith)
-one_or_none false = (refl, omega arith)
 
 pub overflow_add-kept : goal.overflow_add-kept
 overflow_add-kept c =

@@ -6,6 +6,7 @@ use Rattle.refusal.specs.Refusal.{none}
 use Rattle.refusal.proofs.Laws.{reason_not_0}
 use Rattle.model.proofs.Loops.{part-rest}
 use Rattle.call_refusals.proofs.Calls.{plan_none}
+use Rattle.line_calls.proofs.Plans.{bare_none}
 use Rattle.panel.proofs.BothPlans.{quick_number, alone_refused, alone_accepted}
 use Rattle.panel.proofs.alone_lines.alone.Goals as goal
 
@@ -27,7 +28,7 @@ returns-in_err-first_pairs c =
     let few = (plan_none none _ _ (ap (λ r. r.number) (sym c.in_ok-plan_refusal.ensures))).1 in
     absurd (reason_not_0 c.in_err-first_pairs.field-0.0.reason
     (quick_number none refl x.rack x.quantities.now x.sets.now (length c.args.plan.now) (omega (arith, few, c.len-count.ensures))
-    c.in_err-first_pairs.ensures.answer))
+    (rw (bare_none x.rack) at c.in_err-first_pairs.ensures.answer)))
 
 pub slice_bounds-quick-count : goal.slice_bounds-quick-count
 slice_bounds-quick-count c =
@@ -46,7 +47,7 @@ returns-in_err-second_pairs c =
     let room : length y.sets.now ≤ length (take (length first - n) (drop n first)) =
     rw (part-rest first n, length-drop) (omega (arith, few, c.len.ensures, c.quick.auto.plan)) in
     absurd (reason_not_0 c.in_err-second_pairs.field-0.0.reason
-    (quick_number none refl y.rack y.quantities.now y.sets.now _ room c.in_err-second_pairs.ensures.answer))
+    (quick_number none refl y.rack y.quantities.now y.sets.now _ room (rw (bare_none y.rack) at c.in_err-second_pairs.ensures.answer)))
 
 pub returns : goal.returns
 returns c =
@@ -57,5 +58,6 @@ returns c =
     let (answer, (plan, rule)) =
     alone_accepted none x.rack x.quantities.now x.sets.now y.rack y.quantities.now y.sets.now c.args.plan.now
     (rw (c.len-count.ensures, c.len.ensures) at c.in_ok-plan_refusal.ensures) refl c.len-count.ensures
-    first.answer first.plan first.rule second.answer second.plan second.rule in
+    (rw (bare_none x.rack) at first.answer) (rw (bare_none x.rack) at first.plan) first.rule
+    (rw (bare_none y.rack) at second.answer) (rw (bare_none y.rack) at second.plan) second.rule in
     record { answer = answer; plan = plan; rule = rule }

@@ -1,10 +1,9 @@
 use Rattle.std.proofs.Common.{rules}
 use Rattle.refusal.proofs.Laws.{reason_not_0, number_not, told_err}
-use Rattle.placing.specs.Numbers.{parts_in, rules_in}
-use Rattle.placing.proofs.Numbered.{misfit_in, many_given, parts_given, rules_given}
+use Rattle.placing.proofs.Numbered.{misfit_in, parts_given, rules_given}
 use Rattle.placing.proofs.CasesTold.{numbers_told}
 use Rattle.part_windows.specs.Call.{room}
-use Rattle.part_windows.proofs.Ruling.{given_answer, misfit_buffers, fit_answer}
+use Rattle.part_windows.proofs.Ruling.{misfit_buffers, fit_answer}
 use Rattle.part_windows.proofs.numbers.window_numbers.Goals as goal
 
 pub returns-in_err-records : goal.returns-in_err-records
@@ -22,21 +21,10 @@ returns-in_err-records c =
       cases = numbers_told a.parts.now a.rules.now _ refusal;
     })
 
-pub returns-in_err-given : goal.returns-in_err-given
-returns-in_err-given c =
-    let a = c.args in
-    let e = told_err c.from_residual-in_err-given.result c.in_err-given.field-0.0 c.from_residual-in_err-given.ensures in
-    let many = many_given a.parts.now a.rules.now (room a.first.now a.last.now) c.in_ok-records.ensures.parts
-    c.in_err-given.ensures.refusal (reason_not_0 _) in
-    let x = fit_answer a.parts.now a.rules.now a.first.now a.last.now c.in_ok-records.ensures.refusal
-    (given_answer (parts_in a.parts.now) (rules_in a.rules.now) a.first.now a.last.now many (reason_not_0 _)) in
-    rw e (record { refusal = x.refusal; first = x.firsts; last = x.lasts; rule = x.rule; cases = numbers_told a.parts.now a.rules.now _ x.refusal })
-
 pub returns : goal.returns
 returns c =
     let a = c.args in
-    let g = c.in_ok-given.ensures in
-    let e = parts_given a.parts.now c.in_ok-given.given c.in_ok-records.ensures.parts g.few g.size g.parts in
-    let p = c.place_windows.ensures _ (rules_given a.rules.now c.in_ok-records.ensures.rules (λ i r h q. search rules)) in
-    let x = fit_answer a.parts.now a.rules.now a.first.now a.last.now c.in_ok-records.ensures.refusal (rw e at p) in
+    let p = c.place_windows.ensures _ (parts_given a.parts.now c.in_ok-records.ensures.parts (λ i r h q. search rules))
+    _ (rules_given a.rules.now c.in_ok-records.ensures.rules (λ i r h q. search rules)) in
+    let x = fit_answer a.parts.now a.rules.now a.first.now a.last.now c.in_ok-records.ensures.refusal p in
     record { refusal = x.refusal; first = x.firsts; last = x.lasts; rule = x.rule; cases = numbers_told a.parts.now a.rules.now _ x.refusal }

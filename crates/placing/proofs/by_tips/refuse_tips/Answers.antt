@@ -1,7 +1,7 @@
 use Rattle.std.proofs.Common.{ap, take, ◌∙◌}
 use Rattle.refusal.proofs.Laws.{told_err, or_err, or_ok}
 use Rattle.refusal.specs.Reasons.{refused_at}
-use Rattle.ordering.specs.TipCall.{tips_refusal}
+use Rattle.order_rules.specs.TipCall.{tips_refusal}
 use Rattle.placing.proofs.Readied.{tips_scan}
 use Rattle.placing.proofs.by_tips.refuse_tips.Goals as goal
 

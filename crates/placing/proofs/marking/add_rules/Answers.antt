@@ -1,5 +1,5 @@
 use Rattle.std.proofs.Common.{◌≡◌, ◌<◌, T, true, false, not, refl, sym, ◌∙◌, length, arith}
-use Rattle.ordering.specs.Parts.{rule_ok}
+use Rattle.order_rules.specs.Parts.{rule_ok}
 use Rattle.placing.proofs.Marks.{marked_none, marked_more, marked_bad, marked_all}
 use Rattle.placing.proofs.marking.add_rules.Goals as goal
 

@@ -1,5 +1,5 @@
 use Rattle.std.proofs.Common.{List, take}
-use Rattle.ordering.specs.declared.Rule.{Rule}
+use Rattle.order_rules.specs.declared.Rule.{Rule}
 use Rattle.placing.specs.Rows.{GivesRules, Marked}
 use Rattle.placing.proofs.marking.add_rules.Given as goal
 

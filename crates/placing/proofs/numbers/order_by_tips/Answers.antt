@@ -2,7 +2,7 @@ use Rattle.std.proofs.Common.{rules}
 use Rattle.head.specs.OnHead.{on_head}
 use Rattle.refusal.proofs.Laws.{err_of, reason_not_0}
 use Rattle.placing.proofs.Numbered.{parts_given, rules_given}
-use Rattle.placing.proofs.TipNumbered.{misfit, fit_answer, too_many}
+use Rattle.placing.proofs.TipNumbered.{misfit, fit_answer}
 use Rattle.placing.proofs.CasesTold.{numbers_by_tips_told}
 use Rattle.placing.proofs.numbers.order_by_tips.Goals as goal
 
@@ -14,21 +14,11 @@ returns-in_err-records c =
     rw (err_of c.from_residual.result _ c.from_residual.ensures)
     (record { refusal = x.refusal; order = x.order; changes = x.changes; rule = x.rule; cases = told })
 
-pub returns-in_err-given : goal.returns-in_err-given
-returns-in_err-given c =
-    let a = c.args in
-    let x = too_many a.parts.now a.rules.now a.plan.now (on_head a.mounted) a.order.now c.in_ok-records.ensures.refusal
-    c.in_ok-records.ensures.parts c.in_err-given.ensures.refusal (reason_not_0 _) in
-    let told = numbers_by_tips_told a.plan.now (on_head a.mounted) _ a.parts.now a.rules.now x.refusal in
-    rw (err_of c.from_residual-in_err-given.result _ c.from_residual-in_err-given.ensures)
-    (record { refusal = x.refusal; order = x.order; changes = x.changes; rule = x.rule; cases = told })
-
 pub returns : goal.returns
 returns c =
     let a = c.args in
-    let g = c.in_ok-given.ensures in
-    let e = parts_given a.parts.now c.in_ok-given.given c.in_ok-records.ensures.parts g.few g.size g.parts in
-    let p = c.place_by_tips.ensures _ (rules_given a.rules.now c.in_ok-records.ensures.rules (λ i r h q. search rules)) in
-    let x = fit_answer a.parts.now a.rules.now a.plan.now (on_head a.mounted) a.order.now c.in_ok-records.ensures.refusal (rw e at p) in
+    let p = c.place_by_tips.ensures _ (parts_given a.parts.now c.in_ok-records.ensures.parts (λ i r h q. search rules))
+    _ (rules_given a.rules.now c.in_ok-records.ensures.rules (λ i r h q. search rules)) in
+    let x = fit_answer a.parts.now a.rules.now a.plan.now (on_head a.mounted) a.order.now c.in_ok-records.ensures.refusal p in
     let told = numbers_by_tips_told a.plan.now (on_head a.mounted) _ a.parts.now a.rules.now x.refusal in
     record { refusal = x.refusal; order = x.order; changes = x.changes; rule = x.rule; cases = told }

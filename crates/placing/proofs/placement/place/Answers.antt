@@ -1,43 +1,10 @@
-use Rattle.std.proofs.Common.{◌≡◌, ap, sym, take, length}
-use Rattle.refusal.specs.Reasons.{reason_number, number_in}
-use Rattle.refusal.proofs.Laws.{reason_not_0, told_err, told_reason}
-use Rattle.ordering.proofs.Ruling.{windows_passed}
-use Rattle.placing.proofs.Answers.{placed_given, placed_none, placed_order}
-use Rattle.placing.proofs.Windows.{size, flat-order, order_some, order_none}
+use Rattle.std.proofs.Common.{◌<◌, length, arith}
+use Rattle.order_rules.proofs.Refused.{over}
+use Rattle.placing.proofs.Answers.{placed_given}
 use Rattle.placing.proofs.placement.place.Goals as goal
 
-pub returns-in_err-firsts : goal.returns-in_err-firsts
-returns-in_err-firsts g c =
-    λ rules r.
-    let e = told_err c.from_residual.result c.in_err-firsts.field-0.0 c.from_residual.ensures in
-    rw e (placed_given c.args.parts.now rules c.args.order.now (c.in_err-firsts.ensures.refusal rules r) (reason_not_0 _))
-
-pub returns-in_err-found : goal.returns-in_err-found
-returns-in_err-found g c =
-    λ rules r.
-    let parts = c.args.parts.now in
-    let flat = c.in_ok-firsts in
-    let passed = flat.ensures.refusal rules r in
-    let windows = windows_passed parts rules (length c.args.order.now) (sym (ap (λ q. q.number) passed)) in
-    let few = flat.ensures.sized.parts in
-    let at = flat.ensures.positions in
-    let found = order_none (size parts windows few _ _ at) (flat-order parts windows few _ _ at rules _ (flat.ensures.rows rules r))
-    c.least_order.result c.least_order.ensures.none in
-    let no = rw c.in_err-found.ensures.ok_part at found in
-    let e = told_reason c.from_residual-in_err-found.result c.in_err-found.field-0.0 c.from_residual-in_err-found.ensures in
-    let number : reason_number c.in_err-found.field-0.0 ≡ 29 = ap number_in (rw c.in_err-found.ensures.ok_part at c.in_err-found.ensures.value) in
-    rw (e, number) (placed_none parts rules c.args.order.now passed no)
-
-pub returns : goal.returns
-returns g c =
-    λ rules r.
-    let parts = c.args.parts.now in
-    let flat = c.in_ok-firsts in
-    let passed = flat.ensures.refusal rules r in
-    let windows = windows_passed parts rules (length c.args.order.now) (sym (ap (λ q. q.number) passed)) in
-    let few = flat.ensures.sized.parts in
-    let at = flat.ensures.positions in
-    let found = order_some (size parts windows few _ _ at) (flat-order parts windows few _ _ at rules _ (flat.ensures.rows rules r))
-    c.least_order.result c.least_order.ensures.some in
-    let some = rw c.in_ok-found.ensures.ok_part at found in
-    rw c.copy_from_slice.ensures.after (placed_order parts rules c.args.order.now passed (take (length parts) c.in_ok-found.found) some)
+pub returns-then-n-gt-MOST_PARTS : goal.returns-then-n-gt-MOST_PARTS
+returns-then-n-gt-MOST_PARTS g c =
+    λ parts p rules r.
+    let many : 128 < length parts = omega (arith, p.size, c.if-n-gt-MOST_PARTS.true) in
+    rw c.at.ensures (placed_given parts rules c.args.order.now (over parts rules (length c.args.order.now) many) (λ z. omega (arith, z)))

@@ -1,30 +1,22 @@
-use Rattle.std.proofs.Common.{◌-◌, ◌^◌, ◌<◌, length, arith}
-use Rattle.model.proofs.Lists.{all-at}
-use Rattle.subsets.proofs.Drop.{drop_lt}
-use Rattle.subset_table.proofs.Adding.{adding_left, adding_more, adding_all}
+use Rattle.std.proofs.Common.{◌+◌, ◌*◌, ◌-◌, ◌<◌, length, arith}
+use lib.Pow.{pow_pos}
+use Rattle.subset_table.proofs.Adding.{next_block, blocks_more, summing_all}
 use Rattle.subset_table.proofs.counting.add_tip.Goals as goal
 
-pub with_tip-requires : goal.with_tip-requires
-with_tip-requires c =
-    let a = c.loop-u.invariant in
-    let u = c.loop-u.u in
-    let old = c.args.counts.now in
-    let inside : u < length old = c.loop-u-test.true in
-    record {
-      tip = c.requires.tip;
-      inside = omega (arith, c.loop-u-test.true, a.size);
-      own = omega (arith, a.left u (omega arith), all-at 0 c.requires.few u inside);
-      less = λ h.
-          let d = drop_lt u c.args.t h in
-          omega (arith, adding_left a h, all-at 0 c.requires.few (u - 2 ^ c.args.t) (omega (arith, d, inside)));
-    }
+pub add_half-requires : goal.add_half-requires
+add_half-requires c = next_block c.requires c.loop-start.invariant c.loop-start-test.true
 
-pub loop-u-preserved : goal.loop-u-preserved
-loop-u-preserved c =
-    let a = c.loop-u.invariant in
-    adding_more a c.with_tip.result (omega (arith, c.loop-u-test.true, a.size)) c.with_tip.ensures
+pub loop-start-smaller : goal.loop-start-smaller
+loop-start-smaller c =
+    let l = c.loop-start in
+    let smaller : length c.add_half.new.counts - (l.start + 2 * c.set_count.result) < length l.counts - l.start =
+    omega (arith, c.set_count.ensures, pow_pos c.args.t, c.add_half.ensures.size, c.loop-start-test.true) in
+    smaller
+
+pub loop-start-preserved : goal.loop-start-preserved
+loop-start-preserved c = rw c.set_count.ensures (blocks_more c.requires c.loop-start.invariant c.add_half.ensures)
 
 pub returns : goal.returns
 returns c =
-    let a = c.loop-u.invariant in
-    adding_all a (omega (arith, a.size, c.loop-u-test.false))
+    let l = c.loop-start in
+    summing_all l.invariant.summed (omega (arith, c.loop-start-test.false, l.invariant.summed.size))

@@ -1,5 +1,9 @@
-use Rattle.subset_table.proofs.Adding.{Adding}
+use Rattle.std.proofs.Common.{◌-◌, length}
+use Rattle.subset_table.proofs.Adding.{Blocks}
 use Rattle.subset_table.proofs.counting.add_tip.Given as goal
 
-abbrev pub invariant-loop-u : goal.invariant-loop-u
-invariant-loop-u l = Adding l.t l.initial.counts l.u l.counts
+abbrev pub invariant-loop-start : goal.invariant-loop-start
+invariant-loop-start l = Blocks l.t l.initial.counts l.start l.counts
+
+abbrev pub decreases-loop-start : goal.decreases-loop-start
+decreases-loop-start l = length l.counts - l.start

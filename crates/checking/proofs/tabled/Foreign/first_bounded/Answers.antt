@@ -19,7 +19,7 @@ first c o = first_fits c.args.self.now.ready c.args.a c.args.c c.requires.from c
     c.entry_at.ensures.entry c.if-entry_at-from.false
 
 pub inside_at-requires : goal.inside_at-requires
-inside_at-requires c = c.args.self.now.ready.summed c.args.a (c.args.c + 1 - c.args.a) c.args.c (omega arith) (omega arith) (omega arith)
+inside_at-requires c = c.args.self.now.ready.sums.summed c.args.a (c.args.c + 1 - c.args.a) c.args.c (omega arith) (omega arith) (omega arith)
 
 pub returns-then-entry_at-from : goal.returns-then-entry_at-from
 returns-then-entry_at-from c =

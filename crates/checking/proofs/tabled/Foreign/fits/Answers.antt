@@ -2,7 +2,7 @@ use Rattle.std.proofs.Common.{◌≡◌, ◌==◌, eq-eqb, ◌∙◌, ℕ, Bool,
 use Rattle.std.proofs.lemmas.Iterator.{YieldsList-from_range}
 use Rattle.std.proofs.lemmas.Iterator.Search.{all_from_yields_List}
 use Rattle.model.specs.Plan.{has}
-use Rattle.goals.specs.Check.{entry}
+use Rattle.goal_rules.specs.Check.{entry}
 use Rattle.checking.specs.Checking.{tip_by, bounds_by}
 use Rattle.checking.proofs.Bounds.{every_listed}
 use Rattle.checking.proofs.tabled.Foreign.fits.Goals as goal

@@ -2,7 +2,7 @@ use Rattle.std.proofs.Common.{◌≤◌, ◌<◌, ◌^◌, refl, arith}
 use lib.Pow.{pow_mono}
 use Rattle.model.specs.CommonTip.{set_of}
 use Rattle.model.proofs.Sets.{set_of_lt}
-use Rattle.subsets.specs.Exact.{most_named}
+use Rattle.subset_rules.specs.Exact.{most_named}
 use Rattle.subset_table.specs.Scores.{tied_at}
 use Rattle.exact.proofs.Picks.{set_of-more, bit_is}
 use Rattle.exact.proofs.picking.Tables.tied_tips.Goals as goal

@@ -4,10 +4,10 @@ use Rattle.model.specs.Limits.{most_placements}
 use Rattle.model.proofs.Tests.{T_true, and_left, and_right}
 use Rattle.job.specs.Job.{line_number}
 use Rattle.job.proofs.Reading.{line-number}
-use Rattle.mending.specs.Mending.{after, stays, codes}
-use Rattle.mending.proofs.Lines.{GoodLine}
-use Rattle.mending.proofs.Kept.{good_fate}
-use Rattle.mending.proofs.Codes.{codes-none}
+use Rattle.mend_rules.specs.Mending.{after, stays, codes}
+use Rattle.mend_rules.proofs.Lines.{GoodLine}
+use Rattle.mend_rules.proofs.Kept.{good_fate}
+use Rattle.mend_rules.proofs.Codes.{codes-none}
 use Rattle.mend.specs.Mend.{line_with}
 use Rattle.mend.proofs.running.Running.step.Goals as goal
 

@@ -1,8 +1,9 @@
 use Rattle.placements.specs.Repeated.{repeated}
-use Rattle.goals.specs.Goal.{others}
-use Rattle.striking.specs.Striking.{RunSums, Known}
-use Rattle.striking.proofs.Read.{ready, counted}
-use Rattle.striking.proofs.Others.{all-sums, removable, rest-sums}
+use Rattle.goal_rules.specs.Goal.{others}
+use Rattle.spans.specs.Spans.{RunSums}
+use Rattle.striking.specs.Striking.{Known}
+use Rattle.spans.proofs.Read.{run_ready}
+use Rattle.striking.proofs.Others.{all-sums, counted, removable, rest-sums}
 use Rattle.striking.proofs.Kept.{known, kept_iff}
 use Rattle.striking.proofs.each.Each.asked_tips.Goals.{After-from}
 use Rattle.striking.proofs.each.Each.asked_tips.Goals as goal
@@ -27,7 +28,7 @@ pub sums_without-requires-clause-removable : goal.sums_without-requires-clause-r
 sums_without-requires-clause-removable c = rw c.args.self.now.summed (removable c.requires.full c.args.i c.requires.line)
 
 pub invariant_of-others : goal.invariant_of-others
-invariant_of-others c = record { ready = ready (sums-of (goal.at.invariant_of-others c).After-from) }
+invariant_of-others c = record { ready = run_ready (sums-of (goal.at.invariant_of-others c).After-from) }
 
 pub invariant_of-reach : goal.invariant_of-reach
 invariant_of-reach c =
@@ -37,6 +38,7 @@ invariant_of-reach c =
       counted = counted (sums-of (goal.at.invariant_of-reach c).After-from) c.requires.domain;
       inner_size = s.inside.room;
       upper_size = s.outside.room;
+      listed = s.listed;
     }
 
 pub kept_tips-requires-clause-known : goal.kept_tips-requires-clause-known

@@ -1,7 +1,7 @@
 use Rattle.std.proofs.Common.{◌≡◌, ℕ, take, take_all, length, refl, ap, sym, ◌∙◌, arith}
 use Rattle.model.specs.Count.{list_of}
 use Rattle.model.proofs.ListOf.{filled_more}
-use Rattle.goals.specs.Goal.{goal_tips, strike}
+use Rattle.goal_rules.specs.Goal.{goal_tips, strike}
 use Rattle.striking.proofs.each.Each.strike.Goals as goal
 
 pub loop-i-init : goal.loop-i-init

@@ -1,6 +1,6 @@
 use Rattle.std.proofs.Common.{◌≡◌, take}
 use Rattle.model.specs.Count.{list_of}
-use Rattle.goals.specs.Goal.{goal_tips}
+use Rattle.goal_rules.specs.Goal.{goal_tips}
 use Rattle.striking.proofs.each.Each.strike.Given as goal
 
 -- the lines before i are struck

@@ -1,14 +1,17 @@
 use Rattle.std.proofs.Common.{ℕ, ◌∙◌, arith}
-use Rattle.goals.specs.Goal.{goal_tips}
-use Rattle.goals.proofs.Same.{same_tips}
+use Rattle.goal_rules.specs.Goal.{goal_tips}
+use Rattle.goal_rules.proofs.Same.{same_tips}
 use Rattle.striking.proofs.Kept.{struck-before}
-use Rattle.striking.proofs.One.{one-tip}
+use Rattle.goal_rules.proofs.One.{one-tip}
+use Rattle.ranks.proofs.Runs.{full-named}
 use Rattle.striking.proofs.each.Each.struck_at.Goals as goal
 
 pub returns-then-lowest-highest : goal.returns-then-lowest-highest
 returns-then-lowest-highest c =
     let s = c.args.self.now in
-    one-tip c.requires.full c.args.i c.requires.line s.goal s.reached (omega (arith, c.if-lowest-highest.true, c.highest.ensures, c.lowest.ensures))
+    let full = c.requires.full in
+    one-tip full.good (full-named full) c.args.i c.requires.line s.goal s.reached
+    (omega (arith, c.if-lowest-highest.true, c.highest.ensures, c.lowest.ensures))
 
 pub returns-in-Some : goal.returns-in-Some
 returns-in-Some c =

@@ -3,8 +3,7 @@ use Rattle.model.specs.Plan.{has}
 use Rattle.model.proofs.Lists.{all-at}
 use Rattle.model.proofs.Run.{high-below}
 use Rattle.striking.specs.Early.{firsts_by, Finds}
-use Rattle.striking.proofs.Read.{counted}
-use Rattle.striking.proofs.Others.{all-sums}
+use Rattle.striking.proofs.Others.{all-sums, counted}
 use Rattle.striking.proofs.Settled.{leaving, asked_domain, settled_all, settled, settled_asked}
 use Rattle.striking.proofs.each.Each.tips_of.Goals.{After-first_on-known}
 use Rattle.striking.proofs.each.Each.tips_of.Goals as goal
@@ -26,6 +25,7 @@ invariant_of-line c =
       counted = rw s.no_more (counted (all-sums full s.summed) domain);
       inner_size = s.inside.room;
       upper_size = s.outside.room;
+      listed = s.listed;
     }
 
 pub returns-then-asked-eq0 : goal.returns-then-asked-eq0
@@ -44,7 +44,7 @@ invariant_of-start c =
     (found (goal.at.invariant_of-start c).After-first_on-known) c.if-asked-eq0.false in
     record {
       leaving = rw (c.from.ensures, c.lowest.ensures, c.highest.ensures)
-          (leaving full c.args.i c.requires.line sums s.inside s.outside (high-below sums.rack domain));
+          (leaving full c.args.i c.requires.line sums s.inside s.outside (high-below sums.good.most domain));
     }
 
 pub returns-then-not-has_start : goal.returns-then-not-has_start

@@ -8,19 +8,19 @@ use Rattle.striking.proofs.reach.Reach.ended_tips.Goals as goal
 
 pub overflow_add-highest : goal.overflow_add-highest
 overflow_add-highest c =
-    record { fits = omega (arith, c.highest.ensures, high-below c.args.self.now.lines.ready.rack c.args.self.now.domain) }
+    record { fits = omega (arith, c.highest.ensures, high-below c.args.self.now.lines.ready.rack c.requires.domain) }
 
 pub loop-t-init : goal.loop-t-init
 loop-t-init c =
     let s = c.args.self.now in
-    sym (tips-before s.lines.m s.lines.sums.now s.inner.now s.lines.added s.set s.goal c.args.outside c.args.of.first
+    sym (tips-before s.lines.m s.lines.sums.now s.inner.now s.lines.added c.args.set s.goal c.args.outside c.args.of.first
     c.args.of.width _ (omega (arith, c.min-begin.ensures, c.max.ensures, c.lowest.ensures)))
 
 pub loop-t-preserved : goal.loop-t-preserved
 loop-t-preserved c =
     let s = c.args.self.now in
     let f : ℕ → Bool
-    = ends_by s.lines.m s.lines.sums.now s.inner.now s.lines.added s.set s.goal c.args.outside c.args.of.first c.args.of.width in
+    = ends_by s.lines.m s.lines.sums.now s.inner.now s.lines.added c.args.set s.goal c.args.outside c.args.of.first c.args.of.width in
     let below : 2 ^ c.loop-t.t < 2 ^ 64 = pow-lt {j = 64} (omega (arith, c.min-end.ensures, s.lines.ready.rack)) in
     let bit : 1 * 2 ^ c.loop-t.t % 2 ^ 64 ≡ 2 ^ c.loop-t.t = omega arith in
     elim c.if-ends_at.branch [
@@ -31,6 +31,6 @@ loop-t-preserved c =
 pub returns : goal.returns
 returns c =
     let s = c.args.self.now in
-    let after = tips-after s.lines.m s.lines.sums.now s.inner.now s.lines.added s.set s.goal c.args.outside c.args.of.first
-    c.args.of.width s.lines.ready.rack s.domain c.loop-t.t (omega (arith, c.min-end.ensures, c.highest.ensures)) in
+    let after = tips-after s.lines.m s.lines.sums.now s.inner.now s.lines.added c.args.set s.goal c.args.outside c.args.of.first
+    c.args.of.width s.lines.ready.rack c.requires.domain c.loop-t.t (omega (arith, c.min-end.ensures, c.highest.ensures)) in
     c.loop-t.invariant ∙ after

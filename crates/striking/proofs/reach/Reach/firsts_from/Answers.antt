@@ -1,7 +1,7 @@
 use Rattle.std.proofs.Common.{arith}
 use Rattle.model.proofs.Run.{low-high, high-below}
-use Rattle.goals.specs.Tables.{Whole}
-use Rattle.striking.proofs.Early.{firsts-out, found-more, found_all}
+use Rattle.goal_rules.specs.Tables.{Whole}
+use Rattle.striking.proofs.Early.{firsts-out, firsts-none, found-more, found_past, found_all}
 use Rattle.striking.proofs.reach.Reach.firsts_from.Goals as goal
 
 pub overflow_add-w : goal.overflow_add-w
@@ -13,11 +13,6 @@ pub overflow_step-w : goal.overflow_step-w
 overflow_step-w c =
     let s = c.args.self.now in
     omega (arith, c.highest.ensures, low-high s.lines.ready.rack s.domain)
-
-pub overflow_sub-w-end : goal.overflow_sub-w-end
-overflow_sub-w-end c =
-    let s = c.args.self.now in
-    omega (arith, low-high s.lines.ready.rack s.domain, high-below s.lines.ready.rack s.domain)
 
 pub returns-then-known-self : goal.returns-then-known-self
 returns-then-known-self c =
@@ -31,6 +26,12 @@ loop-w-preserved c =
     let whole : Whole s.lines.m s.set c.args.a c.loop-w.w = record {
       from = c.requires.first;
       to = omega (arith, c.highest.ensures, c.loop-w.auto.w);
-      ends = omega (arith, c.loop-w-test.true);
+      ends = omega (arith, c.loop-w-test.true, c.widest_live-w-end.ensures.inside);
     } in
     found-more whole c.firsts_in-known.ensures c.loop-w.invariant
+
+pub returns : goal.returns
+returns c =
+    let s = c.args.self.now in
+    found_past (λ v t p x h. firsts-none s.lines.m s.lines.sums.now s.inner.now s.upper.now s.lines.added s.set s.goal c.args.a v t
+    (c.widest_live-w-end.ensures.past v x.ends (omega arith)) h) c.loop-w.invariant

@@ -10,7 +10,6 @@ pub returns : goal.returns
 unfolding limit_by
 returns c = rw (← c.lowest-l.ensures, ← c.highest-h.ensures) (omega (
   arith,
-  c.entry_at-outside.ensures.entry,
   c.entry_at-inside.ensures.entry,
   c.from-own.ensures,
   c.pairs_among.ensures,

@@ -1,11 +1,11 @@
 use Rattle.std.proofs.Common.{◌≡◌, ◌+◌, ◌-◌, sym, ◌∙◌, arith}
-use Rattle.striking.proofs.Follow.{follow_past}
+use Rattle.striking.proofs.Follow.{follow_closed}
 use Rattle.striking.proofs.reach.Reach.next_open.Goals as goal
 
 pub loop-a-preserved : goal.loop-a-preserved
 loop-a-preserved c = λ kept lines rest k f.
-    follow_past k c.args.self.now.set c.args.self.now.goal (c.loop-a.invariant kept lines rest k f) (omega arith) (omega arith)
-    (sym c.is_open.ensures ∙ c.if-is_open.false)
+    follow_closed k c.args.self.now.set c.args.self.now.goal (c.loop-a.invariant kept lines rest k f) (omega arith) (omega arith)
+    (rw c.entry_at.ensures.entry at (sym c.is_open.ensures ∙ c.if-is_open.false))
 
 pub returns-clause-outer : goal.returns-clause-outer
 returns-clause-outer c = λ kept lines rest k f.

@@ -1,6 +1,6 @@
 use Rattle.std.proofs.Common.{◌≡◌, ℕ, false, rules, arith}
 use Rattle.model.proofs.Run.{low-high, high-below}
-use Rattle.goals.specs.Tables.{Whole}
+use Rattle.goal_rules.specs.Tables.{Whole}
 use Rattle.striking.specs.Early.{leaves_by}
 use Rattle.striking.proofs.Ranges.{none_from_any}
 use Rattle.striking.proofs.start.Start.has_start.Goals as goal

@@ -1,0 +1,14 @@
+pub mod Without
+pub mod Only
+pub mod Solved
+pub mod Joined
+pub mod Reach
+pub mod Outer
+pub mod Fast
+pub mod Strike
+pub mod Same
+pub mod Check
+pub mod Narrow
+pub mod Starts
+pub mod Ranked
+pub mod One

@@ -1,9 +1,0 @@
-pub mod Counts
-pub mod HiddenOrder
-pub mod Refusals
-pub mod Boards
-pub mod Example
-pub mod Files
-pub mod ExactOrder
-pub mod ExactBoards
-pub mod ExactFiles
