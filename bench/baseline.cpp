@@ -292,7 +292,10 @@ Along lay_along(const uint64_t *sets, Quantities quantities, size_t count, size_
     return {changes, pairs_of(placements)};
 }
 
-/* The placements of the lines within each set of ranks: those of each set alone, and then tip by tip those without the tip. */
+/*
+ * The placements of the lines within each set of ranks: those of each set alone, and then tip by tip those without the tip, in
+ * blocks of the sets that lack it and the same with it.
+ */
 template <typename Quantities>
 void count_within_sets(const uint64_t *sets, Quantities quantities, size_t count, const Named &named, uint32_t *within)
 {
@@ -301,10 +304,10 @@ void count_within_sets(const uint64_t *sets, Quantities quantities, size_t count
     for (size_t line = 0; line < count; line++) {
         within[ranks_of(named, sets[line])] += quantities[line];
     }
-    for (size_t rank = 0; rank < named.count; rank++) {
-        for (size_t set = 0; set < all; set++) {
-            if ((set >> rank & 1) != 0) {
-                within[set] += within[set ^ size_t{1} << rank];
+    for (size_t half = 1; half < all; half *= 2) {
+        for (size_t start = 0; start < all; start += 2 * half) {
+            for (size_t set = start; set < start + half; set++) {
+                within[set + half] += within[set];
             }
         }
     }
@@ -355,7 +358,7 @@ struct Around {
     uint32_t inside[kEnds][kEnds];
     uint32_t outside[kEnds][kEnds];
 
-    /* The pairs on tip c of a stretch, with so many placements more; no line has a tip that is not named. */
+    /* The pairs on tip c of a stretch, with these placements more; no line has a tip that is not named. */
     uint32_t pairs_at(size_t a, size_t end, size_t c, uint32_t more) const
     {
         const uint32_t taken = (named >> c & 1) != 0 ? within[a][end] - within[a][c] - within[c + 1][end] : 0;
@@ -404,7 +407,7 @@ struct Around {
     }
 
     /*
-     * The tips of the set with which a plan has the goal's pairs, where so many placements more are on the tip. The longest
+     * The tips of the set with which a plan has the goal's pairs, where these placements more are on the tip. The longest
      * stretches first, and only those that may have a tip of the set and where the goal can be had: by the tables of all
      * lines, and each of those placements with all that lie within the stretch.
      */

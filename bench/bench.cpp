@@ -19,13 +19,13 @@ constexpr double kBatchSeconds = 200e-6;
 constexpr size_t kDefaultRounds = 201;
 constexpr size_t kMostCalls = 1 << 20;
 constexpr size_t kFilesCounted = 8;
-/* Where a call takes longer than a batch, each batch goes through so many files, in fewer rounds: about so many nanoseconds. */
+/* Where a call takes longer than a batch: the files that a batch goes through, and the nanoseconds of all rounds. */
 constexpr size_t kFilesOfSlow = 3;
 constexpr double kSlowRounds = 5e8;
 /* The price of a tip in exact sharing. */
 constexpr uint32_t kPrice = 10;
 
-/* One implementation of include/tipshare.h. */
+/* One implementation of include/tipshare.h; that of a table has some calls alone. */
 struct Library {
     const char *name;
     const char *title;
@@ -58,8 +58,12 @@ const Library kLibraries[] = {
     {"tuned", "tuned", tuned_read, tuned_common, tuned_keep, tuned_goal, tuned_quick, tuned_best, tuned_along,
      tuned_exact, tuned_check, tuned_junior, tuned_merge, tuned_alone, tuned_mend, tuned_order, tuned_windows,
      tuned_order_by_tips, tuned_report},
+    {"table", "tuned, with a table", nullptr, nullptr, nullptr, table_goal, nullptr, table_best, nullptr, table_exact,
+     table_check, nullptr, nullptr, nullptr, nullptr, nullptr, nullptr, nullptr, table_report},
 };
 constexpr size_t kNumber = std::size(kLibraries);
+/* Their places. */
+enum { kProved, kPlain, kTuned, kTable };
 
 enum class Call {
     read,
@@ -93,9 +97,14 @@ const NamedCall kCalls[] = {{Call::read, "read"}, {Call::common, "common"}, {Cal
                             {Call::mend, "mend"}, {Call::order, "order"}, {Call::windows, "windows"},
                             {Call::order_by_tips, "order_by_tips"}, {Call::report, "report"}};
 
-/* The most named tips of exact sharing, and the most places of its table. */
-constexpr size_t kExactTips = 20;
-constexpr size_t kExactPlaces = size_t{2} << kExactTips;
+/* Whether a call counts the pairs of many sets of tips, so that there is a form of it that reads them from a table. */
+bool has_table(Call call)
+{
+    return call == Call::goal || call == Call::best || call == Call::exact || call == Call::check || call == Call::report;
+}
+
+/* How many libraries have a call. */
+size_t libraries_of(Call call) { return has_table(call) ? kNumber : size_t{kTable}; }
 
 /* What a call can write to, lent at the lengths that always do. */
 struct Buffers {
@@ -128,7 +137,7 @@ struct Buffers {
 };
 
 /* The placements within each set of tips, and its score: the table of exact sharing alone. */
-alignas(64) uint32_t of_sets[kExactPlaces];
+alignas(64) uint32_t of_sets[TIPSHARE_EXACT_PLACES];
 
 uint64_t make_call(const Library &library, Call call, const File &file, Buffers &lent)
 {
@@ -150,7 +159,7 @@ uint64_t make_call(const Library &library, Call call, const File &file, Buffers 
     case Call::along:
         return library.along(bytes, length, file.mounted, lent.plan, sizeof lent.plan, lent.answer, places);
     case Call::exact:
-        return library.exact(bytes, length, file.mounted, kPrice, lent.plan, sizeof lent.plan, of_sets, kExactPlaces,
+        return library.exact(bytes, length, file.mounted, kPrice, lent.plan, sizeof lent.plan, of_sets, TIPSHARE_EXACT_PLACES,
                              lent.answer, places);
     case Call::check:
         return library.check(bytes, length, file.plan.data(), file.plan.size(), file.claim, file.table.data(),
@@ -184,7 +193,7 @@ uint64_t make_call(const Library &library, Call call, const File &file, Buffers 
 bool all_agree(Call call, const char *call_name, const Boards &boards)
 {
     static Buffers expected, other;
-    static uint32_t expected_sets[kExactPlaces];
+    static uint32_t expected_sets[TIPSHARE_EXACT_PLACES];
     const bool slow = call == Call::goal || call == Call::exact || call == Call::windows;
     const size_t files = slow ? std::min(kFilesOfSlow, boards.files.size()) : boards.files.size();
     const size_t bytes_of_sets = call == Call::exact ? sizeof of_sets : 0;
@@ -194,7 +203,7 @@ bool all_agree(Call call, const char *call_name, const Boards &boards)
         memset(of_sets, 0xA5, bytes_of_sets);
         const uint64_t returned = make_call(kLibraries[0], call, file, expected);
         memcpy(expected_sets, of_sets, bytes_of_sets);
-        for (size_t i = 1; i < kNumber; i++) {
+        for (size_t i = 1; i < libraries_of(call); i++) {
             other.fill_with_junk();
             memset(of_sets, 0xA5, bytes_of_sets);
             if (make_call(kLibraries[i], call, file, other) != returned || !other.equals(expected) ||
@@ -255,23 +264,30 @@ Spread spread_of(std::vector<double> values)
     return {values[last / 4], values[last / 2], values[last - last / 4]};
 }
 
+/* What was measured of one call on one board, for each library that has the call. */
 struct Measured {
-    Spread nanoseconds[kNumber];
+    std::vector<Spread> nanoseconds;
+
+    double median(size_t library) const { return nanoseconds[library].median; }
+
+    /* The proved library's time by that of another. */
+    double ratio(size_t library) const { return median(kProved) / median(library); }
 };
 
 /* Nanoseconds a call for each library, in turn within each round. */
 Measured measure(Call call, const Boards &boards, size_t rounds)
 {
     static Buffers lent[kNumber];
+    const size_t number = libraries_of(call);
     std::vector<Runner> runners;
     bool slow = false;
-    for (size_t i = 0; i < kNumber; i++) {
+    for (size_t i = 0; i < number; i++) {
         lent[i].fill_with_junk();
         runners.push_back({kLibraries[i], call, boards, lent[i]});
         slow = slow || runners[i].batch(1) >= 1e9 * kBatchSeconds;
     }
     size_t calls[kNumber];
-    for (size_t i = 0; i < kNumber; i++) {
+    for (size_t i = 0; i < number; i++) {
         runners[i].next = 0;
         runners[i].files = slow ? std::min(kFilesOfSlow, boards.files.size()) : boards.files.size();
         // Warms up, and finds how many calls a batch needs; of slow ones each file as often.
@@ -286,14 +302,14 @@ Measured measure(Call call, const Boards &boards, size_t rounds)
     }
     std::vector<double> results[kNumber];
     for (size_t round = 0; round < rounds; round++) {
-        for (size_t turn = 0; turn < kNumber; turn++) {
-            const size_t i = (round + turn) % kNumber;
+        for (size_t turn = 0; turn < number; turn++) {
+            const size_t i = (round + turn) % number;
             results[i].push_back(runners[i].batch(calls[i]) / static_cast<double>(calls[i]));
         }
     }
     Measured measured;
-    for (size_t i = 0; i < kNumber; i++) {
-        measured.nanoseconds[i] = spread_of(results[i]);
+    for (size_t i = 0; i < number; i++) {
+        measured.nanoseconds.push_back(spread_of(results[i]));
     }
     return measured;
 }
@@ -302,6 +318,7 @@ struct Settings {
     size_t rounds = kDefaultRounds;
     bool json = false;
     bool ratios = false;
+    bool times = false;
     bool growth = false;
     std::string only_call;
     std::string only_board;
@@ -315,7 +332,7 @@ public:
     /* With an axis along which a call's time grows, also what its steps depend on. */
     void result(const char *call, const Boards &boards, const Measured &measured, const char *axis = nullptr)
     {
-        for (size_t i = 0; json && i < kNumber; i++) {
+        for (size_t i = 0; json && i < measured.nanoseconds.size(); i++) {
             const Spread &spread = measured.nanoseconds[i];
             printf("%s{\"call\":\"%s\",\"board\":\"%s\",\"lines\":%zu,\"tips\":%zu,\"parts\":%zu,\"library\":\"%s\","
                    "\"median_ns\":%.1f,\"lower_quartile_ns\":%.1f,\"upper_quartile_ns\":%.1f",
@@ -373,14 +390,15 @@ std::string shown(double nanoseconds)
 /*
  * A goal, best sharing and the check refuse a board with a line that is no run, the Junior what it has no two tips for, and
  * exact sharing what names more than 20 tips, so there is nothing to time; parts and rules are no board. Boards for exact
- * sharing are measured with that call alone.
+ * sharing or a goal are measured with that call alone.
  */
 bool is_measured(const NamedCall &named, const Boards &boards, const Settings &settings)
 {
     const bool on_parts =
         named.call == Call::order || named.call == Call::windows || named.call == Call::order_by_tips;
     if (boards.is_order() != on_parts || (boards.exact_tips != 0 && named.call != Call::exact) ||
-        (named.call == Call::exact && boards.exact_tips == 0 && boards.rack > kExactTips)) {
+        (boards.goal_alone && named.call != Call::goal) ||
+        (named.call == Call::exact && boards.exact_tips == 0 && boards.rack > TIPSHARE_EXACT_TIPS)) {
         return false;
     }
     const bool needs_runs = named.call == Call::goal || named.call == Call::best || named.call == Call::check;
@@ -393,7 +411,7 @@ bool main_table(const Settings &settings, Output &output)
     const std::vector<Boards> all = main_boards(settings.only_board);
     if (!output.json) {
         printf("## Nanoseconds a call\n\n| Call | Board | Proved | C++, same steps | Ratio | C++, tuned | Ratio "
-               "|\n|---|---|---:|---:|---:|---:|---:|\n");
+               "| with a table | Ratio |\n|---|---|---:|---:|---:|---:|---:|---:|---:|\n");
     }
     for (const NamedCall &named : kCalls) {
         for (const Boards &boards : all) {
@@ -406,12 +424,15 @@ bool main_table(const Settings &settings, Output &output)
             const Measured measured = measure(named.call, boards, settings.rounds);
             output.result(named.name, boards, measured);
             if (!output.json) {
-                const double proved = measured.nanoseconds[0].median;
-                const double plain = measured.nanoseconds[1].median;
-                const double tuned = measured.nanoseconds[2].median;
-                printf("| %s | %s | %s | %s | %.2f | %s | %.2f |\n", named.name, boards.name.c_str(),
-                       shown(proved).c_str(), shown(plain).c_str(), proved / plain, shown(tuned).c_str(),
-                       proved / tuned);
+                printf("| %s | %s | %s |", named.name, boards.name.c_str(), shown(measured.median(kProved)).c_str());
+                for (size_t i = kPlain; i < kNumber; i++) {
+                    if (i < libraries_of(named.call)) {
+                        printf(" %s | %.2f |", shown(measured.median(i)).c_str(), measured.ratio(i));
+                    } else {
+                        printf(" | |");
+                    }
+                }
+                printf("\n");
                 fflush(stdout);
             }
         }
@@ -446,13 +467,13 @@ bool anew_table(const Settings &settings, const Output &output)
     static Buffers expected, lent;
     printf("\n## A goal, the board solved anew for each tip of each line\n\n| Board | Nanoseconds |\n|---|---:|\n");
     for (const Boards &boards : main_boards(settings.only_board)) {
-        if (!boards.runs) {
+        if (!boards.runs || boards.goal_alone) {
             continue;
         }
         const File &file = boards.files[0];
         lent.fill_with_junk();
         expected.fill_with_junk();
-        const uint64_t returned = make_call(kLibraries[2], Call::goal, file, expected);
+        const uint64_t returned = make_call(kLibraries[kTuned], Call::goal, file, expected);
         const double start = nanoseconds();
         const uint64_t anew = anew_goal(file.bytes.data(), file.bytes.size(), file.claim, lent.out, job::kLongestFile,
                                         lent.answer, TIPSHARE_ANSWER_PLACES);
@@ -484,12 +505,19 @@ bool growth(const Settings &settings, Output &output)
     for (size_t rack = 2; rack <= TIPSHARE_JUNIOR_TIPS; rack *= 2) {
         junior_rack.push_back(growth_junior(64, rack));
     }
+    std::vector<Boards> exact_tips;
+    for (Boards &boards : main_boards()) {
+        if (boards.exact_tips != 0 && !boards.counted) {
+            exact_tips.push_back(std::move(boards));
+        }
+    }
     Settings junior = settings;
     junior.only_call = "junior";
     return measure_growth(settings, output, "lines", by_lines) && measure_growth(settings, output, "tips", by_rack) &&
            measure_growth(settings, output, "parts", by_parts) &&
            measure_growth(settings, output, "rack", {eight_tips(1), eight_tips(9)}) &&
-           measure_growth(junior, output, "lines", junior_lines) && measure_growth(junior, output, "tips", junior_rack);
+           measure_growth(junior, output, "lines", junior_lines) && measure_growth(junior, output, "tips", junior_rack) &&
+           measure_growth(settings, output, "tips", exact_tips);
 }
 
 /* Boards of one size: the largest with quantities 1 and with others, and small ones. */
@@ -502,7 +530,7 @@ enum Size { kFull, kCounted, kSmall, kSizes };
 Size size_of(Call call, const Boards &boards)
 {
     if (boards.exact_tips != 0) {
-        return boards.exact_tips == kExactTips ? (boards.counted ? kCounted : kFull) : kSmall;
+        return boards.exact_tips == TIPSHARE_EXACT_TIPS ? (boards.counted ? kCounted : kFull) : kSmall;
     }
     const bool junior = call == Call::junior;
     const size_t lines = junior ? TIPSHARE_JUNIOR_LINES : TIPSHARE_MOST_LINES;
@@ -516,11 +544,18 @@ Size size_of(Call call, const Boards &boards)
     return boards.lines == 20 && boards.rack == 8 ? kSmall : kSizes;
 }
 
-/* The ratio to the tuned C++ that is wanted. */
-double wanted(Call call, Size size)
+/* The ratio that is wanted, to the tuned C++ or to that with a table: docs/measurements/ratios.md says why. */
+double wanted(Call call, Size size, size_t library)
 {
-    const bool on_parts = call == Call::order || call == Call::windows || call == Call::order_by_tips;
-    return call == Call::goal || (size == kSmall && !on_parts) ? 1.5 : 1.2;
+    switch (call) {
+    case Call::exact: return library == kTable && size != kSmall ? 2 : 2.5;
+    case Call::windows: return 4;
+    case Call::order:
+    case Call::order_by_tips: return 1.2;
+    case Call::goal:
+    case Call::along: return 1.5;
+    default: return library == kTable || size == kSmall ? 1.5 : 1.2;
+    }
 }
 
 /* Two times in the unit of the larger. */
@@ -534,20 +569,53 @@ std::string shown_range(double least, double most)
     return text;
 }
 
+/* For each size the board with the largest ratio of the proved library's time to that of another. */
+struct Worst {
+    Call call;
+    size_t library;
+    double ratio[kSizes] = {};
+    std::string cell[kSizes] = {};
+
+    void take(Size size, const Measured &measured, const std::string &board)
+    {
+        const double found = measured.ratio(library);
+        if (found > ratio[size]) {
+            ratio[size] = found;
+            char text[64];
+            const char *const mark = found > wanted(call, size, library) ? "**" : "";
+            snprintf(text, sizeof text, "%s%.2f%s %s", mark, found, mark, board.c_str());
+            cell[size] = text;
+        }
+    }
+
+    bool is_empty() const { return (cell[kFull] + cell[kSmall]).empty(); }
+
+    std::string row(const char *name) const
+    {
+        char text[512];
+        snprintf(text, sizeof text, "| %s | %.1f | %s | %s | %.1f | %s |", name, wanted(call, kFull, library),
+                 cell[kFull].c_str(), cell[kCounted].c_str(), wanted(call, kSmall, library), cell[kSmall].c_str());
+        return text;
+    }
+};
+
+const char kRatioHead[] = "| Call | Goal | 512 lines, 64 tips | with quantities | Goal | 20 lines, 8 tips |";
+const char kRatioRule[] = "|---|---:|---|---|---:|---|";
+
 /*
- * For each call and size the board with the largest ratio of the proved library's time to that of the tuned C++, and the
- * times of the proved library on the largest boards.
+ * The worst ratios to the tuned C++ with the times of the proved library on the largest boards, and those to the tuned C++ that
+ * reads the pairs from a table.
  */
 bool ratio_table(const Settings &settings, Output &output)
 {
     const std::vector<Boards> all = main_boards();
-    printf("| Call | Goal | 512 lines, 64 tips | with quantities | Goal | 20 lines, 8 tips | Time, 512 lines, 64 tips |\n"
-           "|---|---:|---|---|---:|---|---:|\n");
+    std::string with_table;
+    printf("%s Time, 512 lines, 64 tips |\n%s---:|\n", kRatioHead, kRatioRule);
     for (const NamedCall &named : kCalls) {
-        double worst[kSizes] = {};
         double least_time = 1e18;
         double most_time = 0;
-        std::string cell[kSizes] = {"", "", ""};
+        Worst of_tuned{named.call, kTuned};
+        Worst of_table{named.call, kTable};
         for (const Boards &boards : all) {
             const Size size = size_of(named.call, boards);
             if (size == kSizes || !is_measured(named, boards, settings)) {
@@ -558,24 +626,86 @@ bool ratio_table(const Settings &settings, Output &output)
             }
             const Measured measured = measure(named.call, boards, settings.rounds);
             output.result(named.name, boards, measured);
-            const double time = measured.nanoseconds[0].median;
             if (size != kSmall) {
-                least_time = std::min(least_time, time);
-                most_time = std::max(most_time, time);
+                least_time = std::min(least_time, measured.median(kProved));
+                most_time = std::max(most_time, measured.median(kProved));
             }
-            const double ratio = time / measured.nanoseconds[2].median;
-            if (ratio > worst[size]) {
-                worst[size] = ratio;
-                char text[64];
-                const char *const mark = ratio > wanted(named.call, size) ? "**" : "";
-                snprintf(text, sizeof text, "%s%.2f%s %s", mark, ratio, mark, boards.name.c_str());
-                cell[size] = text;
+            of_tuned.take(size, measured, boards.name);
+            if (has_table(named.call)) {
+                of_table.take(size, measured, boards.name);
             }
         }
-        if (!(cell[kFull] + cell[kSmall]).empty()) {
-            printf("| %s | %.1f | %s | %s | %.1f | %s | %s |\n", named.name, wanted(named.call, kFull),
-                   cell[kFull].c_str(), cell[kCounted].c_str(), wanted(named.call, kSmall), cell[kSmall].c_str(),
-                   shown_range(least_time, most_time).c_str());
+        if (!of_tuned.is_empty()) {
+            printf("%s %s |\n", of_tuned.row(named.name).c_str(), shown_range(least_time, most_time).c_str());
+            fflush(stdout);
+        }
+        if (!of_table.is_empty()) {
+            with_table += of_table.row(named.name) + "\n";
+        }
+    }
+    printf("\nTo the tuned C++ that reads the pairs from a table:\n\n%s\n%s\n%s", kRatioHead, kRatioRule, with_table.c_str());
+    return true;
+}
+
+/* Two significant digits. */
+std::string rounded(double number)
+{
+    char text[32];
+    snprintf(text, sizeof text, "%.*f", number < 0.0995 ? 3 : number < 0.995 ? 2 : number < 9.95 ? 1 : 0, number);
+    return text;
+}
+
+/* The shortest and the longest time of some boards. */
+struct Range {
+    double least = 1e18;
+    double most = 0;
+
+    void take(double nanoseconds)
+    {
+        least = std::min(least, nanoseconds);
+        most = std::max(most, nanoseconds);
+    }
+
+    /* In the unit of the larger, once where both look alike; nothing where no board was measured. */
+    std::string shown() const
+    {
+        if (most == 0) {
+            return "";
+        }
+        const double unit = most >= 995000 ? 1e6 : most >= 99.5 ? 1e3 : 1;
+        const std::string from = rounded(least / unit), to = rounded(most / unit);
+        const std::string name = unit == 1 ? "ns" : unit == 1e3 ? "µs" : "ms";
+        return (from == to ? to : from + " to " + to) + " " + name;
+    }
+};
+
+/*
+ * The times of the proved library, on the largest boards and on small ones; of exact sharing by the tips named. The others are
+ * measured in turn with it too: alone it would find the processor ready for its branches.
+ */
+bool times_table(const Settings &settings, Output &output)
+{
+    const std::vector<Boards> all = main_boards();
+    printf("| Call | 512 lines, 64 tips | 20 lines, 8 tips |\n|---|---:|---:|\n");
+    for (const NamedCall &named : kCalls) {
+        Range large, small;
+        for (const Boards &boards : all) {
+            const Size size = size_of(named.call, boards);
+            if (size == kSizes || !is_measured(named, boards, settings)) {
+                continue;
+            }
+            const Measured measured = measure(named.call, boards, settings.rounds);
+            output.result(named.name, boards, measured);
+            if (boards.exact_tips != 0) {
+                Range alone;
+                alone.take(measured.median(kProved));
+                printf("| %s | %s | |\n", boards.name.c_str(), alone.shown().c_str());
+            } else {
+                (size == kSmall ? small : large).take(measured.median(kProved));
+            }
+        }
+        if (large.most != 0 || small.most != 0) {
+            printf("| %s | %s | %s |\n", named.name, large.shown().c_str(), small.shown().c_str());
             fflush(stdout);
         }
     }
@@ -621,7 +751,8 @@ int run_for_counting(const std::string &call, const std::string &board, const st
         boards.files.resize(kFilesCounted);
         for (const NamedCall &named : kCalls) {
             for (const Library &candidate : kLibraries) {
-                if (board == boards.name && call == named.name && library == candidate.name) {
+                if (board == boards.name && call == named.name && library == candidate.name &&
+                    (&candidate != &kLibraries[kTable] || has_table(named.call))) {
                     Runner{candidate, named.call, boards, lent}.make_calls(calls);
                     printf("%zu\n", calls);
                     return 0;
@@ -675,14 +806,15 @@ int describe()
 
 const char kUsage[] =
     "bench [--rounds N] [--json] [--call CALL] [--board BOARD]   time the calls and print tables\n"
-    "bench --ratios [--rounds N] [--call CALL]                   the worst ratios to the tuned C++, by sizes of boards\n"
+    "bench --ratios [--rounds N] [--call CALL]                   the worst ratios to both tuned forms, by sizes of boards\n"
+    "bench --times [--rounds N] [--call CALL]                    the proved library's times, for docs/PERFORMANCE.md\n"
     "bench --growth [--rounds N]                                 how the times grow with lines, tips and parts, as JSON\n"
     "bench --callgrind CALL BOARD LIBRARY [TIMES]                make one call only, and print how often it was made\n"
     "bench --list                                                the calls and boards, a pair a line\n"
     "bench --boards                                              the boards, described\n"
     "CALL: read, common, keep, goal, quick, best, along, exact, check, junior, merge, alone, mend, order, windows,\n"
     "order_by_tips, report.\n"
-    "LIBRARY: tipshare, baseline, tuned.\n";
+    "LIBRARY: tipshare, baseline, tuned; table for goal, best, exact, check and report.\n";
 
 int usage()
 {
@@ -715,6 +847,8 @@ int main(int argc, char **argv)
             settings.json = true;
         } else if (arguments[i] == "--ratios") {
             settings.ratios = true;
+        } else if (arguments[i] == "--times") {
+            settings.times = true;
         } else if (arguments[i] == "--growth") {
             settings.growth = true;
         } else if (arguments[i] == "--rounds" && has_value) {
@@ -727,8 +861,9 @@ int main(int argc, char **argv)
             return usage();
         }
     }
-    const bool whole = !settings.ratios && !settings.growth;
-    if (!is_known(settings) || (settings.ratios && (settings.growth || settings.json)) ||
+    const bool whole = !settings.ratios && !settings.times && !settings.growth;
+    if (!is_known(settings) || settings.ratios + settings.times + settings.growth > 1 ||
+        ((settings.ratios || settings.times) && settings.json) ||
         (!whole && !settings.only_board.empty()) || (settings.growth && !settings.only_call.empty())) {
         return usage();
     }
@@ -738,6 +873,7 @@ int main(int argc, char **argv)
         introduction(settings);
     }
     const bool done = settings.ratios   ? ratio_table(settings, output)
+                      : settings.times  ? times_table(settings, output)
                       : settings.growth ? growth(settings, output)
                                         : main_table(settings, output) && anew_table(settings, output);
     if (!done) {

@@ -252,6 +252,16 @@ Boards for_exact(Boards boards)
     return boards;
 }
 
+/* The boards, for a goal alone, of so many hundredths of the best plan's pairs. */
+Boards for_goal(Boards boards, uint32_t hundredths)
+{
+    boards.goal_alone = true;
+    for (File &file : boards.files) {
+        file.claim = file.claim * hundredths / 100;
+    }
+    return boards;
+}
+
 }  // namespace
 
 std::vector<Boards> main_boards(const std::string &only)
@@ -291,6 +301,18 @@ std::vector<Boards> main_boards(const std::string &only)
     add("runs-of-1", "any-runs in a file of version 2, every quantity 1", 512, 64, any_run, all_1);
     if (is_wanted("runs-mounted")) {
         all.push_back(with_mounted(boards_of("runs-mounted", "any-runs with the last tip mounted", 512, 64, any_run), 63));
+    }
+    // Where the goal is a little below the best plan's pairs, more plans meet it, and more intervals are followed.
+    for (const uint32_t hundredths : {80, 90, 99}) {
+        for (const bool counted : {false, true}) {
+            const std::string name = (counted ? "goal-counted-" : "goal-") + std::to_string(hundredths);
+            if (is_wanted(name)) {
+                const std::string part = std::to_string(hundredths) + " % of the best pairs";
+                all.push_back(for_goal(counted ? boards_of(name, "a goal alone: runs-counted, " + part, 512, 64, any_run, from_1_to_7)
+                                               : boards_of(name, "a goal alone: long-runs, " + part, 512, 64, run_of(16, 48)),
+                                       hundredths));
+            }
+        }
     }
     for (const size_t tips : {8, 12, 16, 20}) {
         const std::string name = "exact-" + std::to_string(tips);

@@ -42,6 +42,8 @@ struct Boards {
     size_t parts = 0;
     // Of a board for exact sharing alone, how many tips are named; else 0.
     size_t exact_tips = 0;
+    // For a goal alone: `claim` is less than the pairs of the best plan.
+    bool goal_alone = false;
 
     bool is_order() const { return parts != 0; }
 };

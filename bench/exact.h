@@ -6,11 +6,6 @@
 
 namespace job {
 
-constexpr uint32_t kManyTips = 35;
-constexpr size_t kExactTips = 20;
-/* A higher price counts as this one. */
-constexpr uint32_t kHighestPrice = 2096129;
-
 /* What exact sharing lends, beside the mounted tip. */
 struct Exact {
     uint32_t price;
@@ -53,13 +48,13 @@ template <typename Share>
         return refused(answer, TIPSHARE_SHORT_PLAN);
     }
     const Named named(sets, job.count);
-    if (named.count > kExactTips) {
-        return refused(answer, kManyTips);
+    if (named.count > TIPSHARE_EXACT_TIPS) {
+        return refused(answer, TIPSHARE_TOO_MANY_NAMED);
     }
     if (exact.table_len < size_t{2} << named.count) {
         return refused(answer, TIPSHARE_SHORT_TABLE);
     }
-    const Shared shared = share(named, exact.price < kHighestPrice ? exact.price : kHighestPrice);
+    const Shared shared = share(named, exact.price < TIPSHARE_MOST_PRICE ? exact.price : TIPSHARE_MOST_PRICE);
     return answered(answer, TIPSHARE_ACCEPTED, 0, shared.pairs, shared.tips, 0);
 }
 

@@ -22,14 +22,6 @@ constexpr uint32_t kMostPlacements = 2048;
 constexpr int64_t kMostQuantity = 255;
 constexpr size_t kLongestFile = kHead + (kSet + 1) * kMostLines;
 
-constexpr uint32_t kZeroQuantity = 15;
-constexpr uint32_t kForeignTip = 19;
-constexpr uint32_t kWrongClaim = 20;
-constexpr uint32_t kTooManyLines = 24;
-constexpr uint32_t kTooManyPlacements = 30;
-constexpr uint32_t kNoTwoTips = 31;
-constexpr uint32_t kTableFails = 33;
-constexpr uint32_t kGoalMissed = 34;
 
 /* A job file that was accepted, or the number and the line of its refusal. */
 struct Job {
@@ -48,7 +40,7 @@ struct Job {
 
 inline Job not_read(uint32_t number, uint32_t line = 0) { return {number, line, 0, 0, 0, 0}; }
 
-/* The length of a file with so many lines of so many bytes. */
+/* The length of a file with these numbers of lines and of bytes a line. */
 constexpr size_t length_of(size_t count, size_t step) { return kHead + step * count; }
 
 inline uint64_t raw_at(const uint8_t *at)
@@ -122,7 +114,7 @@ inline uint32_t quantity_at(const uint8_t *at, const Job &job) { return job.step
             return not_read(TIPSHARE_TIP_OUTSIDE, line);
         }
         if (quantity_at(at, job) == 0) {
-            return not_read(kZeroQuantity, line);
+            return not_read(TIPSHARE_ZERO_QUANTITY, line);
         }
     }
     uint32_t line = 0;
@@ -131,7 +123,7 @@ inline uint32_t quantity_at(const uint8_t *at, const Job &job) { return job.step
         line++;
         at += job.step;
     }
-    return not_read(kTooManyPlacements, line);
+    return not_read(TIPSHARE_TOO_MANY_PLACEMENTS, line);
 }
 
 /* Reads the file and hands each set, as its bytes stand, to take; in version 2 with its quantity. */
@@ -482,7 +474,7 @@ template <typename Most, typename Strike>
         return refused(answer, TIPSHARE_NO_RUN, no_run);
     }
     if (most(named) < goal.pairs) {
-        return refused(answer, kGoalMissed);
+        return refused(answer, TIPSHARE_GOAL_MISSED);
     }
     const size_t written = length_of(job.count, job.single() ? kSet : kSet + 1);
     if (goal.out_len < written) {
@@ -508,7 +500,7 @@ template <typename Choose>
                                                      const Choose &choose)
 {
     if (job.count > TIPSHARE_JUNIOR_LINES) {
-        return refused(answer, kTooManyLines);
+        return refused(answer, TIPSHARE_TOO_MANY_LINES);
     }
     if (job.rack > TIPSHARE_JUNIOR_TIPS) {
         return refused(answer, TIPSHARE_RACK_SIZE);
@@ -518,7 +510,7 @@ template <typename Choose>
     }
     const Junior junior = job.count == 0 ? Junior{0, 0, 0} : choose();
     if (junior.u >= job.rack) {
-        return refused(answer, kNoTwoTips);
+        return refused(answer, TIPSHARE_NO_TWO_TIPS);
     }
     return answered(answer, TIPSHARE_ACCEPTED, 0, junior.pairs, junior.u, junior.v);
 }
@@ -570,17 +562,17 @@ template <typename TableHolds>
         return has_own_tips(lines.sets, quantities, job.count, handed.plan, placements);
     });
     if (!own) {
-        return refused(answer, kForeignTip);
+        return refused(answer, TIPSHARE_FOREIGN_TIP);
     }
     uint32_t pairs = 0;
     for (uint32_t on_tip : placements) {
         pairs += pairs_on(on_tip);
     }
     if (pairs != handed.claim) {
-        return refused(answer, kWrongClaim);
+        return refused(answer, TIPSHARE_WRONG_CLAIM);
     }
     if (handed.table[job.rack - 1] != handed.claim || !table_holds(named)) {
-        return refused(answer, kTableFails);
+        return refused(answer, TIPSHARE_WRONG_TABLE);
     }
     return answered(answer, TIPSHARE_ACCEPTED, 0, 0, 0, 0);
 }

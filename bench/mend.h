@@ -19,7 +19,7 @@ struct Mend {
     size_t report_len;
 };
 
-/* Goes through so many lines: each is kept with its tips and quantity, or not, and what changes is told. */
+/* Goes through the lines: each is kept with its tips and quantity, or not, and what changes is told. */
 template <typename Keep, typename Tell>
 [[gnu::always_inline]] inline void mend_lines(const uint8_t *file, const Job &job, size_t lines, const Keep &keep,
                                               const Tell &tell)

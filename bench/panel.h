@@ -5,7 +5,6 @@
 
 namespace job {
 
-constexpr uint32_t kRacksDiffer = 17;
 
 /* Answers a call on two files: refused where the answer is short or a file not good, the first first, else by work. */
 template <typename ReadFirst, typename ReadSecond, typename Work>
@@ -26,16 +25,16 @@ template <typename ReadFirst, typename ReadSecond, typename Work>
 inline Job panel_of(const Job &first, const Job &second)
 {
     if (first.rack != second.rack) {
-        return not_read(kRacksDiffer);
+        return not_read(TIPSHARE_RACKS_DIFFER);
     }
     Job panel = first;
     panel.count += second.count;
     panel.total += second.total;
     if (panel.count > kMostLines) {
-        return not_read(kTooManyLines);
+        return not_read(TIPSHARE_TOO_MANY_LINES);
     }
     if (panel.total > kMostPlacements) {
-        return not_read(kTooManyPlacements);
+        return not_read(TIPSHARE_TOO_MANY_PLACEMENTS);
     }
     panel.step = panel.single() ? kSet : kSet + 1;
     return panel;

@@ -25,6 +25,7 @@ BOUNDS = {
     "best": TABLE,
     "check": TABLE,
     "along": LINES,
+    "exact": ("r · 2^r", lambda at: at["named"] * 2 ** at["named"]),
     "goal": ("(1 + d) · m³/2", lambda at: (1 + at["distinct"]) * at["tips"] ** 3 / 2),
     "junior": ("n · m²/2", lambda at: at["lines"] * at["tips"] ** 2 / 2),
     "report": ("n · rounds + r³/6", lambda at: at["line_rounds"] + at["named"] ** 3 / 6),
@@ -34,7 +35,7 @@ BOUNDS = {
 }
 TITLES = {
     "lines": "Time a call against lines, 64 tips (the Junior: 8 tips)",
-    "tips": "Time a call against tips, 512 lines (the Junior: 64 lines)",
+    "tips": "Time a call against tips, 512 lines (the Junior: 64 lines; exact sharing: the tips in use)",
     "parts": "Time of the calls on parts and rules against parts, each anywhere, eight rules a part",
     "rack": "The same 20 lines on 8 named tips, in a rack of 8 and of 64",
 }
