@@ -5,11 +5,22 @@ const WASM = "WASM_BASE64", EXAMPLE = EXAMPLE_TEXT, CALLS_SOURCE = CALLS_TEXT;
 const KEPT_TABLE = "tipshare-table";
 // What the page shows: the bytes of a job file that was opened, the other boards of a panel, and the last answer.
 let opened_job = null, others = [], last = null;
+// What the text of the list is, a list or placements, and OpenPnP's files, which may be opened one after another.
+let kind = "list", openpnp = {};
 
-// ---- the module runs in a worker, so that typing and scrolling never wait for it
+// ---- the module runs in two workers: typing and scrolling never wait for it, and a slider's step never waits for a plan
 
-const ask = (() => {
-  const bytes = Uint8Array.from(atob(WASM), letter => letter.charCodeAt(0));
+// A bar shows what takes longer than 300 ms.
+let under_way = 0, late;
+function busy(more) {
+  under_way += more;
+  clearTimeout(late);
+  if (under_way) late = setTimeout(() => { at("busy").hidden = false; }, at("busy").hidden ? 300 : 0);
+  else at("busy").hidden = true;
+}
+
+const BYTES = Uint8Array.from(atob(WASM), letter => letter.charCodeAt(0));
+function worker_of() {
   const source = CALLS_SOURCE + `
     let call;
     onmessage = ({ data: [number, fields] }) => {
@@ -26,30 +37,29 @@ const ask = (() => {
         if (number < 0) { if (answer) failed(answer); else done(); return; }
         waiting.get(number)(answer);
         waiting.delete(number);
-        busy();
+        busy(-1);
       };
-      worker.postMessage([-1, bytes]);
+      worker.postMessage([-1, BYTES]);
     });
   } catch (error) { begun = Promise.reject(error); }
-  let late;
-  // A bar shows what takes longer than 300 ms.
-  const busy = () => {
-    clearTimeout(late);
-    if (waiting.size) late = setTimeout(() => { at("busy").hidden = false; }, 300);
-    else at("busy").hidden = true;
-  };
   return async (...fields) => {
     await begun;
-    return new Promise(done => { waiting.set(++count, done); busy(); worker.postMessage([count, fields]); });
+    return new Promise(done => { waiting.set(++count, done); busy(1); worker.postMessage([count, fields]); });
   };
-})();
+}
+const ask = worker_of(), ask_beside = worker_of();
 
 // ---- what is planned
 
 let asked = 0, moved = 0;
+const source = () => ["list", at("name").textContent, opened_job ?? at("list").value, at("tips").value, columns(), at("side").value];
 async function plan(is_new) {
   const mine = ++asked;
-  const list = await ask("list", at("name").textContent, opened_job ?? at("list").value, at("tips").value, columns(), at("side").value);
+  no_sheet();
+  if (is_new) await read_kind();
+  if (mine === asked && is_new) await lacking(mine);
+  if (mine !== asked) return;
+  const list = await ask(...source());
   if (mine !== asked) return;
   if (!list.ok) return refuse(list.why);
   const text = opened_job ?? list.fields[0];
@@ -62,12 +72,36 @@ async function plan(is_new) {
   if (mine === asked && is_new) await more(mine, text);
 }
 
+// ---- what is printed: made after the plans and again after a slider's step, once nothing has been asked for a while
+
+let later;
+function no_sheet() {
+  clearTimeout(later);
+  document.body.classList.remove("ready");
+  at("sheet").replaceChildren();
+}
+
+function sheet_later() {
+  no_sheet();
+  later = setTimeout(sheet, 600);
+}
+
+async function sheet() {
+  const mine = asked, step = moved, { text } = last;
+  const told = await ask("sheet", at("name").textContent, text, at("k").value, at("mounted").value, at("price").value);
+  if (mine !== asked || step !== moved || !told.ok) return;
+  const [body, wide] = told.fields.map(words);
+  at("sheet").innerHTML = body;
+  at("sheet").classList.toggle("wide", wide !== "");
+  document.body.classList.add("ready");
+}
+
 // The placing order, by the tips of a plan where one is chosen.
 let ordered = 0;
 async function order(text) {
   const mine = ++ordered;
   const told = await ask("order", text, at("by-tips").value, at("mounted").value, at("price").value);
-  if (mine === ordered) at("order-text").textContent = told.ok ? words(told.fields[0]) : told.why;
+  if (mine === ordered) say("order-text", told);
 }
 
 // What the sliders strike. Only the last of many steps is shown.
@@ -75,15 +109,29 @@ async function struck() {
   const mine = ++moved, { text, has_best } = last;
   at("k-is").textContent = at("k").value;
   at("goal-is").textContent = has_best ? at("goal").value : "-";
-  const kept = await ask("keep", text, at("k").value);
+  const kept = await ask_beside("keep", text, at("k").value);
   if (mine !== moved) return;
-  at("keep-text").textContent = kept.ok ? words(kept.fields[0]) : kept.why;
+  say("keep-text", kept);
   last.kept = kept.ok ? kept.fields[1] : null;
   mark(last.kept);
-  const goal = has_best ? await ask("goal", text, at("goal").value) : { ok: false, why: "A goal needs a best plan." };
+  const goal = has_best ? await ask_beside("goal", text, at("goal").value) : { ok: false, why: "A goal needs a best plan." };
   if (mine !== moved) return;
-  at("goal-text").textContent = goal.ok ? words(goal.fields[0]) : goal.why;
+  say("goal-text", goal);
   last.goal = goal.ok ? goal.fields[1] : null;
+  sheet_later();
+}
+
+// The first field of an answer, or why there is none; a reason has its lines broken, and a text with columns has not.
+function say(id, told) {
+  at(id).textContent = told.ok ? words(told.fields[0]) : told.why;
+  at(id).classList.toggle("why", !told.ok);
+}
+
+// A drawing, not smaller than its letters can be read.
+function draw(id, drawing) {
+  at(id).innerHTML = drawing;
+  const svg = at(id).querySelector("svg");
+  if (svg) svg.style.minWidth = `${0.6 * svg.getAttribute("width")}px`;
 }
 
 // What does not depend on a slider.
@@ -91,17 +139,26 @@ async function more(mine, text) {
   for (const [command, id] of [["windows", "windows-text"], ["junior", "junior-text"]]) {
     const told = await ask(command, text);
     if (mine !== asked) return;
-    at(id).textContent = told.ok ? words(told.fields[0]) : told.why;
+    say(id, told);
   }
   await panel(mine, text);
 }
 
+// The other boards are read as the list is, by the same table of tips.
 async function panel(mine, text) {
   if (!others.length) return;
-  const told = await ask("panel", text, ...others.map(([, bytes]) => bytes));
+  const lists = [];
+  for (const [name, bytes] of others) {
+    const list = words((await ask("kind", bytes)).fields[0]) === "job" ? { ok: true, fields: [bytes] } :
+      await ask("list", name, bytes, at("tips").value, "", at("side").value);
+    if (mine !== asked) return;
+    if (!list.ok) { last.panel = null; return say("panel-text", { ok: false, why: in_page(list.why) }); }
+    lists.push(list.fields[0]);
+  }
+  const told = await ask("panel", text, ...lists);
   if (mine !== asked) return;
-  at("panel-text").textContent = told.ok ? words(told.fields[0]) : told.why;
-  last.panel = told.ok && told.fields[1].length ? told.fields[1] : null;
+  say("panel-text", told);
+  last.panel = told.ok && told.fields[1].length ? told.fields.slice(1) : null;
 }
 
 // ---- which tips are kept: a mark for each tip of each part, made of two paths, so that a slider's step is drawn at once
@@ -160,7 +217,10 @@ function show(text, fields, is_new) {
   const [no_best, no_exact, drawing] = told.slice(16, 19);
   const has_best = best[0] !== "-";
   at("faults").replaceChildren();
+  for (const id of ["list", "tips"]) if (at(id).previousElementSibling.querySelector("b")) number_lines(id);
   at("shown").hidden = false;
+  if (goes_on) at("plans-head").focus();
+  goes_on = false;
   at("counts").textContent = `${parts} parts, ${placements} placements, a rack of ${rack} tips`;
   const body = at("numbers").tBodies[0];
   body.replaceChildren();
@@ -169,19 +229,26 @@ function show(text, fields, is_new) {
   row(body, ["exact", ...exact]);
   at("no-best").textContent = no_best ? `There is no best plan: ${no_best}.` : "";
   at("no-exact").textContent = no_exact ? `There is no exact plan: ${no_exact}.` : "";
-  at("picture").innerHTML = drawing;
+  draw("picture", drawing);
   at("plan").textContent = told[21];
-  last = { text, job: fields[19], csv: fields[20], kept: null, drawing, numbers: { quick, best, exact }, has_best, panel: null };
+  last = { text, job: fields[19], csv: fields[20], kept: null, drawing, has_best, panel: null };
+  const which = at("which").value;
+  const there = [["best", best], ["exact", exact], ["quick", quick]].filter(([, numbers]) => numbers[0] !== "-").map(([name]) => name);
+  at("which").replaceChildren(...there.map(name => new Option(name, name)));
+  at("which").value = there.includes(which) ? which : there[0];
   if (!is_new) return;
   Object.assign(at("k"), { min: 0, max: placements, value: least });
   Object.assign(at("goal"), { min: 0, max: has_best ? best[0] : 0, disabled: !has_best, value: has_best ? best[0] : 0 });
   const tips = Array.from({ length: rack }, (_, tip) => tip), chosen = at("mounted").value;
   at("mounted").replaceChildren(new Option("none", ""), ...tips.map(tip => new Option(tip, tip)));
   at("mounted").value = rack > Number(chosen) ? chosen : "";
-  at("if-tip").replaceChildren(...tips.map(tip => new Option(tip, tip)));
+  at("if-tip").replaceChildren(...tips.map(tip => new Option("tip " + tip, tip)));
+  if (rack < 64) at("if-tip").append(new Option(`one more tip in the rack, ${rack}`, rack));
   const names = rows_of(last.csv).map(cells => cells[0]);
   at("if-part").replaceChildren(...names.map((name, line) => new Option(name, line)));
   at("if").tBodies[0].replaceChildren();
+  at("if-same").textContent = "";
+  at("if-picture").hidden = true;
   draw_kept(names, rack);
 }
 
@@ -191,24 +258,195 @@ function rows_of(csv) {
   return words(csv).split("\r\n").slice(1).filter(Boolean).map(cells);
 }
 
-// ---- faults, each at its line, with what can be clicked
+// ---- what is still to be written: the tips of packages that no row of the table picks, and the size of the rack
 
-const EMPTY_TABLE = "The table of tips is empty. Write `rack 4` there if your rack has 4 tips, then a row for each package.";
+// The rows of the table that name no tips.
+function rows_without_tips() {
+  return at("tips").value.split("\n").flatMap((line, number) => {
+    const [, pattern] = line.match(/^\s*([^\s#:]+)[^#:]*:\s*(?:#.*)?$/) ?? [];
+    return pattern ? [{ number, pattern, where: (line.split("#")[1] ?? "").trim() }] : [];
+  });
+}
+
+const RACK = /^\s*rack\b[^#:]*$/;
+function rack_line() {
+  return at("tips").value.split("\n").findIndex(line => RACK.test(line.split("#")[0]));
+}
+const has_rack = () => /^\s*rack\s+\d+\s*$/.test((at("tips").value.split("\n")[rack_line()] ?? "").split("#")[0]);
+
+let unwritten = new Set(); // the lines of the table, from 1, that only lack what is asked for
+let goes_on = false; // whether the focus was there, and comes to the plans once they are shown
+async function lacking(mine) {
+  const rows = rows_without_tips();
+  const is_placed = kind === "placements" && !opened_job;
+  const [, ...given] = source();
+  const told = is_placed ? await ask("packages", ...given) : { ok: true, fields: [new Uint8Array()] };
+  if (mine !== asked) return;
+  const missing = told.ok ? words(told.fields[0]).split("\n").filter(Boolean).map(line => line.split("\t")) : [];
+  const items = [...rows, ...missing.map(([pattern, where, skip]) => ({ pattern, where, skip }))];
+  const lacks_rack = is_placed && !has_rack();
+  unwritten = new Set(rows.map(({ number }) => number + 1));
+  if (lacks_rack) unwritten.add(rack_line() + 1).add(1);
+  const had_focus = at("lacking").contains(document.activeElement);
+  at("lacking").hidden = !items.length && !lacks_rack;
+  at("rack-of").hidden = !lacks_rack;
+  const is_empty = !at("tips").value.trim();
+  at("start").hidden = !is_placed || !is_empty || !missing.length;
+  at("add-all").hidden = !is_placed || is_empty || !missing.length;
+  at("packages").hidden = !items.length;
+  at("lacking-what").textContent = [
+    lacks_rack ? "Write how many tips your rack has." : "",
+    items.length ? `${items.length === 1 ? "1 package has" : `${items.length} packages have`} no tips yet. ` +
+      "Write them as 0-1 or 2 4, and press Enter. Tip 0 is the first tip of the rack." : "",
+  ].filter(Boolean).join(" ");
+  list_packages(items);
+  if (had_focus && at("lacking").hidden) goes_on = true;
+}
+
+// A row for each, and the same as before where there was one, so that the focus stays.
+const TIPS = /^\d{1,2}(-\d{1,2})?([ ,;]+\d{1,2}(-\d{1,2})?)*$/;
+const shown_rows = new Map();
+function list_packages(items) {
+  const body = at("packages").tBodies[0], patterns = new Set(items.map(({ pattern }) => pattern));
+  for (const [pattern, made] of shown_rows) if (!patterns.has(pattern)) { made.remove(); shown_rows.delete(pattern); }
+  for (const item of items) {
+    const made = shown_rows.get(item.pattern) ?? package_row(item.pattern);
+    shown_rows.set(item.pattern, made);
+    made.cells[1].textContent = item.where + (item.skip ? ", usually left out" : "");
+    made.item = item;
+    made.add.hidden = item.number !== undefined;
+  }
+  // An element that is moved loses the focus.
+  items.forEach(({ pattern }, place) => {
+    const made = shown_rows.get(pattern);
+    if (body.rows[place] !== made) body.insertBefore(made, body.rows[place] ?? null);
+  });
+}
+
+function package_row(pattern) {
+  const made = document.createElement("tr"), [name, , tips, or] = Array.from({ length: 4 }, () => made.insertCell());
+  name.textContent = pattern;
+  const input = document.createElement("input"), why = document.createElement("small");
+  Object.assign(input, { type: "text", inputMode: "text", placeholder: "0-1", spellcheck: false, autocomplete: "off" });
+  input.setAttribute("aria-label", "Tips that can pick " + pattern);
+  why.setAttribute("role", "status");
+  tips.append(input, why);
+  let done = "";
+  const write = () => {
+    const typed = input.value.trim(), good = TIPS.test(typed);
+    input.setAttribute("aria-invalid", String(typed !== "" && !good));
+    why.textContent = typed === "" || good ? "" : "Write numbers and ranges, as 0-1 or 2 4.";
+    if (!good || typed === done || !made.isConnected) return good;
+    done = typed;
+    put_row(made.item, `${pattern} : ${typed.replaceAll(/[ ,;]+/g, " ")}`);
+    return true;
+  };
+  input.onchange = write;
+  input.onkeydown = event => {
+    if (event.key !== "Enter") return;
+    event.preventDefault();
+    const next = made.nextElementSibling ?? (made.parentNode.rows[0] === made ? null : made.parentNode.rows[0]);
+    if (!write()) return;
+    (next?.querySelector("input") ?? (at("rack-of").hidden ? at("lacking-head") : at("rack"))).focus();
+  };
+  const out = button("Leave it out", () => {
+    const next = made.nextElementSibling ?? made.previousElementSibling;
+    put_row(made.item, `skip ${pattern}`);
+    (next?.querySelector("input") ?? at("lacking-head")).focus();
+  });
+  out.setAttribute("aria-label", "Leave out " + pattern);
+  const add = button("Add the row", () => {
+    put_row(made.item, `${pattern} :`);
+    input.focus();
+  });
+  add.setAttribute("aria-label", "Add a row for " + pattern);
+  made.add = add;
+  or.append(out, " ", add);
+  return made;
+}
+
+// Writes a row in the place of the one without tips, with its words and its comment, else below all others.
+function put_row({ number, where, pattern }, text) {
+  const lines = at("tips").value.split("\n"), is_out = text.startsWith("skip ");
+  if (number === undefined) return add_rows(text + (where ? ` # ${where}` : ""));
+  const [before, comment] = [lines[number].split("#")[0], lines[number].split("#").slice(1).join("#")];
+  const of_row = before.slice(before.indexOf(pattern) + pattern.length, before.lastIndexOf(":")).trim();
+  const row = is_out || !of_row ? text : text.replace(`${pattern} : `, `${pattern} ${of_row} : `);
+  lines[number] = row + (comment ? " #" + comment : "");
+  at("tips").value = lines.join("\n");
+  table_changed();
+}
+
+function add_rows(text) {
+  const before = at("tips").value.trimEnd();
+  at("tips").value = (before ? before + "\n" : "rack ?\n") + text.trimEnd() + "\n";
+  table_changed();
+}
+
+// Rows for all packages that have none, as `parts import --start-table` prints them.
+async function add_all() {
+  const told = await ask("start", ...source().slice(1));
+  if (!told.ok) return refuse(told.why);
+  const begun = words(told.fields[0]);
+  if (at("tips").value.trim()) add_rows(begun);
+  else { at("tips").value = begun; table_changed(); }
+  next_field().focus();
+}
+
+// What is typed next: the size of the rack, then the tips of the first package.
+const next_field = () => at("rack-of").hidden ? at("packages").querySelector("input") ?? at("lacking-head") : at("rack");
+
+function set_rack() {
+  const size = at("rack").value.trim();
+  if (!/^([1-9]|[1-5]\d|6[0-4])$/.test(size)) return;
+  const lines = at("tips").value.split("\n"), line = rack_line();
+  if (line < 0) lines.unshift("rack " + size); else lines[line] = "rack " + size;
+  at("tips").value = lines.join("\n");
+  const had_focus = document.activeElement === at("rack");
+  table_changed();
+  if (had_focus) (at("packages").querySelector("input") ?? at("lacking-head")).focus();
+}
+
+// ---- faults, each beside its line, with what can be clicked
+
+// The program says what to type; the page says what to choose.
+const IN_PAGE = [
+  [/^--columns needs a ref and a package.*/, "Choose the columns with the references and with the packages, at Columns"],
+  [/; add --side top, --side bottom or --side both/, "; choose the top, the bottom or both at Side"],
+  [/take --side out, or name the sides/, "choose `as in the file` at Side, or the column of the sides"],
+  [/take --side \w+ out, or name another file/, "choose another side, or open another file"],
+  [/add value=COLUMN to --columns/, "choose the column of the values"],
+  [/; name OpenPnP's parts\.xml with --parts/, "; open OpenPnP's parts.xml too"],
+  [/name yours by its number/, "choose another one, or rename one of them"],
+  [/ with --rack$/, " in packages.xml"],
+];
+const in_page = why => why.split("\n").map(line => IN_PAGE.reduce((said, [typed, chosen]) => said.replace(typed, chosen), line)).join("\n");
+
+const of_table = file => file === "tips";
 
 function refuse(why) {
   at("shown").hidden = true;
-  const found = why.split("\n").map(line => {
+  if (goes_on) at("tips").focus();
+  goes_on = false;
+  const faulty = { list: new Set(), tips: new Set() };
+  const found = in_page(why).split("\n").flatMap(line => {
+    const [, file, number] = line.match(/^(.+?):(\d+): /) ?? [];
+    // What is asked for above is no fault.
+    if (of_table(file) && unwritten.has(Number(number)) && !at("lacking").hidden && /no tip after the colon|rack/.test(line)) return [];
+    if (/no row matches /.test(line) && !at("lacking").hidden) return [];
     const told = document.createElement("p");
-    const [, file, number] = line.match(/^([^:]+):(\d+):/) ?? [];
-    told.append((file === "tips" && !at("tips").value.trim() ? EMPTY_TABLE : line) + " ");
-    if (number) told.append(button("Go to the line", () => go_to(file === "tips" ? "tips" : "list", Number(number))));
-    const [, pattern] = line.match(/add `([^`]+) : TIPS`/) ?? [];
-    if (pattern) {
-      told.append(button("Add a row", () => add_row(pattern + " : ")), button("Leave it out", () => add_row("skip " + pattern)));
+    told.append(line + " ");
+    if (number) {
+      const id = of_table(file) ? "tips" : "list", text = at(id).value.split("\n")[number - 1] ?? "";
+      faulty[id].add(Number(number));
+      told.append(button("Go to the line", () => go_to(id, Number(number))));
+      if (text.trim()) told.append(Object.assign(document.createElement("code"), { textContent: text.slice(0, 200) }));
     }
-    return told;
+    return [told];
   });
-  at("faults").replaceChildren(...found);
+  const is_rest = found.every(told => / more lines are wrong $/.test(told.textContent));
+  at("faults").replaceChildren(...(is_rest && !at("lacking").hidden ? [] : found));
+  for (const id of ["list", "tips"]) number_lines(id, faulty[id]);
 }
 
 function button(name, then) {
@@ -222,21 +460,28 @@ function go_to(id, number) {
   const lines = at(id).value.split("\n"), start = lines.slice(0, number - 1).reduce((sum, line) => sum + line.length + 1, 0);
   at(id).focus();
   at(id).setSelectionRange(start, start + (lines[number - 1] ?? "").length);
+  at(id).scrollTop = (number - 3) * at(id).scrollHeight / Math.max(lines.length, 1);
 }
 
-function add_row(text) {
-  const before = at("tips").value.trimEnd();
-  at("tips").value = (before || "rack 1") + "\n" + text + "\n";
-  table_changed();
-  // A row without its tips is a fault: the cursor is where they are to be typed.
-  const end = at("tips").value.length - 1;
-  at("tips").focus();
-  at("tips").setSelectionRange(end, end);
+// The numbers of the lines beside them, and a mark at those that are faulty.
+const MOST_NUMBERS = 20000;
+function number_lines(id, faulty = new Set()) {
+  const beside = at(id).previousElementSibling, count = Math.min(at(id).value.split("\n").length, MOST_NUMBERS);
+  const pieces = [];
+  let text = "";
+  for (let line = 1; line <= count; line++) {
+    if (!faulty.has(line)) { text += line + "\n"; continue; }
+    pieces.push(text, Object.assign(document.createElement("b"), { textContent: `\u25cf ${line}` }), "\n");
+    text = "";
+  }
+  beside.replaceChildren(...pieces, text + "\n");
+  beside.scrollTop = at(id).scrollTop;
 }
 
 // ---- the table of tips is kept in the browser, where that is allowed
 
 function table_changed() {
+  number_lines("tips");
   try {
     localStorage.setItem(KEPT_TABLE, at("tips").value);
     at("remembered").textContent = "This browser keeps the table on this computer.";
@@ -250,57 +495,87 @@ function remembered() {
 
 // ---- files
 
-const is_job = bytes => words(bytes.slice(0, 3)) === "TIP";
-const is_xml = bytes => /^\s*</.test(words(bytes.slice(0, 200)));
+async function read_kind() {
+  kind = opened_job ? "job" : words((await ask("kind", at("list").value)).fields[0]);
+  at("reading").hidden = kind !== "placements";
+  await pick_columns();
+}
 
+// Lists and placements come to the list, and to the panel from the second on; a table of tips comes to its place.
 async function load(files, into) {
   const read = await Promise.all(Array.from(files, async file => [file.name, new Uint8Array(await file.arrayBuffer())]));
-  const boards = read.filter(([, bytes]) => is_xml(bytes));
-  if (boards.length) return load_openpnp(boards);
+  const boards = [];
   for (const [name, bytes] of read) {
-    // A table begins as a list does: only its place, or its name, tells them apart.
-    const is_table = into === "tips" || read.length > 1 && /tips|table/i.test(name) && !is_job(bytes);
-    if (is_table) { at("tips").value = words(bytes); table_changed(); }
-    else await load_list(name, bytes);
+    const is = words((await ask("kind", bytes)).fields[0]);
+    const is_table = is === "table" || is === "list" && (into === "tips" || read.length > 1 && /tips|table/i.test(name));
+    if (is === "xml") openpnp_file(bytes);
+    else if (is_table) { at("tips").value = words(bytes); table_changed(); }
+    else boards.push([name, bytes]);
   }
+  if (boards.length > 1) show_others(boards.slice(1));
+  if (boards.length) await load_list(...boards[0]);
+  else if (Object.keys(openpnp).length) await load_openpnp();
 }
 
 async function load_list(name, bytes) {
+  openpnp = {};
   at("name").textContent = name;
-  opened_job = is_job(bytes) ? bytes : null;
+  opened_job = words((await ask("kind", bytes)).fields[0]) === "job" ? bytes : null;
   const listed = opened_job ? await ask("list", name, bytes, "", "", "") : null;
   at("list").value = opened_job ? words(listed.fields[0] ?? new Uint8Array()) : words(bytes);
-  await pick_columns(name, bytes);
+  number_lines("list");
+  at("side").value = "";
   await plan(true);
+  if (at("lacking").hidden) return;
+  at("lacking").scrollIntoView({ block: "start" });
+  next_field().focus({ preventScroll: true });
 }
 
 // OpenPnP has a board, packages and, where they are saved, parts: the first element tells which is which.
-async function load_openpnp(boards) {
-  const of = tag => boards.find(([, bytes]) => words(bytes).includes("<" + tag))?.[1];
-  const [packages, board, parts] = [of("openpnp-packages"), of("openpnp-board"), of("openpnp-parts")];
-  if (!packages || !board) return refuse("An OpenPnP board comes with packages.xml: open both files, and parts.xml if you have it.");
-  const told = await ask("openpnp", packages, board, parts ?? "", at("side").value || "both");
-  if (!told.ok) return refuse(told.why);
-  await load_list("board.txt", told.fields[0]);
+function openpnp_file(bytes) {
+  const text = words(bytes);
+  const name = ["packages", "board", "parts"].find(name => text.includes("<openpnp-" + name)) ?? "other";
+  openpnp[name] = bytes;
 }
 
-// A CSV file that is none of KiCad's has columns of its own: the user picks them.
-async function pick_columns(name, bytes) {
-  const told = /\.csv$/i.test(name) ? await ask("columns", bytes) : null;
-  const names = told?.ok ? words(told.fields[0]).split("\n").filter(Boolean) : [];
-  const own = names.length > 1 && !/^Ref,Val,Package,PosX/.test(words(bytes.slice(0, 200)).replaceAll('"', ""));
-  at("columns").hidden = !own;
-  for (const id of ["reference", "package", "value"]) {
-    const guess = names.find(column => column.toLowerCase().startsWith({ reference: "ref", package: "pack", value: "val" }[id]));
-    at("c-" + id).replaceChildren(new Option("-", ""), ...names.map(column => new Option(column, column)));
-    at("c-" + id).value = own && guess ? guess : "";
+async function load_openpnp() {
+  const { packages, board, parts } = openpnp;
+  if (!packages || !board) {
+    const lacks = packages ? "Now open the board too, a file that ends in .board.xml." : board ? "Now open packages.xml too." :
+      "This is no board of OpenPnP and no packages.xml of it.";
+    return refuse(`${lacks} They are in OpenPnP's folder .openpnp2; open parts.xml too if it is there.`);
+  }
+  const told = await ask("openpnp", packages, board, parts ?? "", at("side").value || "both");
+  if (!told.ok) return refuse(told.why);
+  const files = openpnp;
+  await load_list("board.txt", told.fields[0]);
+  openpnp = files;
+}
+
+// A file that is none of KiCad's has columns of its own: the user picks them, and the page begins with a guess.
+const COLUMNS = {
+  ref: /^(ref|designator|part ?ref)/i, package: /^(pack|footprint|pattern|case)/i, value: /^(val|comment|designation)/i,
+  side: /^(side|layer)/i, quantity: /^(qty|quant|count)/i,
+};
+let head = "";
+async function pick_columns() {
+  const text = at("list").value.trimStart(), before = head;
+  head = kind === "placements" ? text.split("\n", 1)[0].replaceAll('"', "").trim() : "";
+  if (head === before) return;
+  const is_kicad = head.startsWith("#") || head === "Ref,Val,Package,PosX,PosY,Rot,Side";
+  const told = kind === "placements" && !is_kicad ? await ask("columns", at("list").value) : null;
+  const names = told?.ok ? words(told.fields[0]).split("\n") : [];
+  at("columns").hidden = names.length < 2;
+  for (const [id, guess] of Object.entries(COLUMNS)) {
+    at("c-" + id).replaceChildren(new Option("-", ""), ...names.map((name, place) => new Option(name || `column ${place + 1}`, place + 1)));
+    at("c-" + id).selectedIndex = names.findIndex(name => guess.test(name.trim())) + 1;
   }
 }
 
 function columns() {
   if (at("columns").hidden || opened_job) return "";
-  return ["reference", "package", "value"].map(id => [id, at("c-" + id).value]).filter(([, column]) => column)
-    .map(([id, column]) => `${id}=${column}`).join(",");
+  const chosen = Object.keys(COLUMNS).map(id => [id, at("c-" + id).value]).filter(([, column]) => column);
+  return chosen.map(([id, column]) => `${id}=${column}`).join(",") || " ";
 }
 
 // ---- what can be taken away
@@ -327,14 +602,9 @@ function save_png() {
   image.src = "data:image/svg+xml;base64," + btoa(Array.from(new TextEncoder().encode(last.drawing), byte => String.fromCharCode(byte)).join(""));
 }
 
-function plan_as_json() {
-  const number = of => of === "-" ? null : Number(of);
-  const { quick, best, exact } = last.numbers;
-  const pairs = { quick: number(quick[0]), best: number(best[0]), exact: number(exact[0]) };
-  const parts = rows_of(last.csv).map(([part, quantity, tips, of_quick, of_best, of_exact, comment]) => ({
-    part, quantity: Number(quantity), tips, quick: number(of_quick), best: number(of_best), exact: number(of_exact), comment,
-  }));
-  return JSON.stringify({ pairs, parts }, null, 2) + "\n";
+async function exported(format) {
+  const told = await ask("export", format, last.text, at("which").value, at("mounted").value, at("price").value);
+  return told.ok ? told.fields[0] : new TextEncoder().encode(told.why + "\n");
 }
 
 const SAVES = {
@@ -342,60 +612,84 @@ const SAVES = {
   kept: () => last.kept && save(stem() + "-kept.job", last.kept, "application/octet-stream"),
   goal: () => last.goal && save(stem() + "-goal.job", last.goal, "application/octet-stream"),
   text: () => save(stem() + ".txt", opened_job ? at("list").value : last.text, "text/plain"),
-  csv: () => save(stem() + "-plan.csv", last.csv, "text/csv"),
-  json: () => save(stem() + "-plan.json", plan_as_json(), "application/json"),
+  csv: async () => save(stem() + "-plan.csv", await exported("csv"), "text/csv"),
+  json: async () => save(stem() + "-plan.json", await exported("json"), "application/json"),
   svg: () => save(stem() + ".svg", last.drawing, "image/svg+xml"),
   png: save_png,
   page: async () => save(stem() + ".html", (await ask("page", at("name").textContent, last.text)).fields[0], "text/html"),
-  panel: () => last.panel && save(stem() + "-panel.job", last.panel, "application/octet-stream"),
+  panel: () => last.panel && save(stem() + "-panel.job", last.panel[0], "application/octet-stream"),
+  "panel-list": () => last.panel && save(stem() + "-panel.txt", last.panel[1], "text/plain"),
 };
 
 // ---- what if
 
-async function what_if(rack, line, tip) {
-  const text = opened_job ? at("list").value : last.text;
-  const told = await ask("changed", text, rack, line, tip);
-  const body = at("if").tBodies[0];
+async function what_if() {
+  const body = at("if").tBodies[0], parts = Array.from(at("if-part").selectedOptions, option => option.value);
   body.replaceChildren();
-  if (!told.ok) return row(body, [told.why, "", "", "", ""]);
-  const of = told.fields.map(words);
+  at("if-picture").hidden = true;
+  if (!parts.length) return at("if-same").textContent = "Choose one part or several first.";
+  const told = await ask("changed", last.text, parts.join(" "), at("if-tip").value);
+  if (!told.ok) return at("if-same").textContent = told.why;
+  const of = told.fields.map(words), drawing = of[24];
   for (const [plan, place] of [["quick", 0], ["best", 4], ["exact", 8]]) row(body, [plan, of[place], of[12 + place], of[place + 1], of[13 + place]]);
+  at("if-same").textContent = drawing ? "" : "These parts can use this tip already, so nothing changes.";
+  draw("if-picture", drawing);
+  at("if-picture").hidden = !drawing;
 }
 
 // ---- the page
 
+async function show_others(boards) {
+  others = boards;
+  at("others-names").textContent = others.map(([name]) => name).join(", ") || "none";
+  if (last && !at("shown").hidden) await panel(asked, last.text);
+}
+
 function begin() {
-  at("list").oninput = () => { opened_job = null; plan(true); };
+  at("list").oninput = () => { opened_job = null; number_lines("list"); plan(true); };
   at("tips").oninput = table_changed;
+  for (const id of ["list", "tips"]) at(id).onscroll = () => { at(id).previousElementSibling.scrollTop = at(id).scrollTop; };
   at("k").oninput = at("goal").oninput = struck;
   at("mounted").onchange = at("price").oninput = () => plan(false);
   at("fewest").onclick = () => { at("price").value = at("price").max; plan(false); };
   at("by-tips").onchange = () => last && order(last.text);
-  for (const id of ["side", "c-reference", "c-package", "c-value"]) at(id).onchange = () => plan(true);
-  at("file").onchange = event => load(event.target.files, "list");
+  for (const id of ["side", "c-ref", "c-package", "c-value", "c-side", "c-quantity"]) at(id).onchange = () => plan(true);
+  at("file").onchange = event => load(event.target.files, "list").then(() => { event.target.value = ""; });
   at("others").onchange = async event => {
-    others = await Promise.all(Array.from(event.target.files, async file => [file.name, new Uint8Array(await file.arrayBuffer())]));
-    at("others-names").textContent = others.map(([name]) => name).join(", ") || "none";
-    if (last) await panel(asked, last.text);
+    const read = Array.from(event.target.files, async file => [file.name, new Uint8Array(await file.arrayBuffer())]);
+    await show_others(await Promise.all(read));
   };
-  for (const area of document.querySelectorAll(".drop")) {
-    area.ondragover = event => { event.preventDefault(); area.classList.add("over"); };
-    area.ondragleave = () => area.classList.remove("over");
-    area.ondrop = event => { event.preventDefault(); area.classList.remove("over"); load(event.dataTransfer.files, area.dataset.into); };
-  }
+  // A file that is dropped anywhere is read, for a browser would leave the page for it.
+  const area = event => event.target.closest?.(".drop") ?? document.querySelector(".drop");
+  const none = () => document.querySelectorAll(".over").forEach(one => one.classList.remove("over"));
+  document.ondragover = event => { event.preventDefault(); none(); area(event).classList.add("over"); };
+  document.ondragleave = none;
+  document.ondrop = event => { event.preventDefault(); none(); load(event.dataTransfer.files, area(event).dataset.into); };
   for (const one of document.querySelectorAll("[data-save]")) one.onclick = () => last && SAVES[one.dataset.save]();
   at("save-tips").onclick = () => save("tips.txt", at("tips").value, "text/plain");
   at("forget").onclick = () => {
     try { localStorage.removeItem(KEPT_TABLE); } catch { /* nothing was kept */ }
     at("tips").value = "";
+    number_lines("tips");
     at("remembered").textContent = "The table is forgotten.";
     plan(true);
   };
-  at("if-allow").onclick = () => what_if("", at("if-part").value, at("if-tip").value);
-  at("if-rack").onclick = () => what_if(String(at("if-tip").options.length + 1), "", "");
-  at("print").onclick = () => window.print();
-  at("example").onclick = () => { opened_job = null; at("name").textContent = "example.txt"; at("list").value = EXAMPLE; at("columns").hidden = true; plan(true); };
+  at("start").onclick = at("add-all").onclick = add_all;
+  at("rack").onchange = set_rack;
+  at("if-allow").onclick = what_if;
+  at("print").onclick = async () => {
+    if (last && !at("shown").hidden) { clearTimeout(later); await sheet(); }
+    window.print();
+  };
+  at("example").onclick = () => {
+    opened_job = null;
+    at("name").textContent = "example.txt";
+    at("list").value = EXAMPLE;
+    number_lines("list");
+    plan(true);
+  };
   at("tips").value = remembered();
+  number_lines("tips");
   at("example").click();
 }
 

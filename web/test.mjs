@@ -1,14 +1,23 @@
 // node web/test.mjs PAGE PARTS: the module taken from the page against the native program parts, byte for byte, on every list
 // and job file of the checklist and on its imports, words of refusals included. Exit 0: no answer differs.
 import fs from "node:fs";
+import os from "node:os";
 import path from "node:path";
 import { spawnSync } from "node:child_process";
 import { opened } from "./calls.mjs";
 
 const [page, program] = process.argv.slice(2);
-const LEAST = 600; // as many answers are compared, or the test has lost its files
+const LEAST = 2000, LEAST_REFUSED = 1000; // as many answers are compared, or the test has lost its files
 const html = fs.readFileSync(page, "utf8");
+const policy = html.match(/Content-Security-Policy" content="([^"]+)"/)[1];
+const is_strict = /^default-src 'none'; style-src 'sha256-[^']+'; script-src 'sha256-[^']+' 'wasm-unsafe-eval' blob:; /.test(policy);
+if (!is_strict || /unsafe-inline/.test(policy)) {
+  console.log(`the content policy is ${policy}`);
+  process.exit(1);
+}
 const call = opened(Buffer.from(html.match(/const WASM = "([^"]+)"/)[1], "base64"));
+const work = fs.mkdtempSync(path.join(os.tmpdir(), "page-"));
+process.on("exit", () => fs.rmSync(work, { recursive: true, force: true }));
 let compared = 0, refused = 0, differ = 0;
 
 function native(...given) {
@@ -54,17 +63,37 @@ for (const file of files) {
   for (const plan of ["quick", "best", "exact"]) {
     same(`order by ${plan} ${file}`, native("order", file, "--tips", plan), call("order", bytes, plan, "", ""));
   }
+  for (const [format, plan] of [["csv", "quick"], ["json", "best"], ["csv", "exact"]]) {
+    same(`${format} of ${plan} ${file}`, native("plan", file, "--format", format, "--plan", plan),
+      call("export", format, bytes, plan, "", ""));
+  }
   same(`page ${file}`, native("page", file), call("page", file, bytes));
   for (const k of [0, 1, 5]) same(`keep ${k} ${file}`, native("keep", String(k), file), call("keep", bytes, String(k)));
 }
 const find = name => files.filter(file => path.basename(file) === name);
-for (const board of files.filter(file => /-pos\.csv$|\.pos$/.test(file))) {
-  const table = path.join(path.dirname(board), "tips.txt");
-  if (!fs.existsSync(table)) continue;
+const of_kicad = fs.readdirSync("parts/tests/kicad").filter(name => /\.csv$|\.pos$/.test(name)).map(name => "parts/tests/kicad/" + name);
+const all_packages = path.join(work, "all.txt");
+fs.writeFileSync(all_packages, "rack 4\nR_* height=0.5 : 0-1\nskip value DNP\n*0805* : 1\n* : 1-3\n");
+for (const board of [...files.filter(file => /-pos\.csv$|\.pos$/.test(file)), ...of_kicad]) {
+  const beside = path.join(path.dirname(board), "tips.txt"), table = fs.existsSync(beside) ? beside : all_packages;
   for (const side of ["", "top", "bottom", "both"]) {
     const given = side ? ["--side", side] : [];
     same(`import kicad ${board} ${side}`, native("import", "kicad", board, "--tips", table, ...given),
       call("list", board, fs.readFileSync(board), fs.readFileSync(table), "", side));
+    same(`a table for ${board} ${side}`, native("import", "kicad", board, "--start-table", ...given),
+      call("start", board, fs.readFileSync(board), "", "", side));
+  }
+  const lacks = fs.readFileSync(table, "utf8").split("\n").slice(0, 4).join("\n") + "\n", short = path.join(work, "tips.txt");
+  fs.writeFileSync(short, lacks);
+  same(`rows for ${board}`, native("import", "kicad", board, "--start-table", "--tips", short, "--side", "both"),
+    call("start", board, fs.readFileSync(board), lacks, "", "both"));
+}
+for (const bom of find("bom.csv")) {
+  const tips = files.find(file => file.endsWith("-import-kicad/tips.txt"));
+  const both = "ref=Designator,package=Footprint";
+  for (const columns of [both, both + ",quantity=Qty,side=Layer", "ref=2,package=3,value=4", "ref=99,package=1", "", "ref=1"]) {
+    same(`import csv ${bom} ${columns}`, native("import", "csv", bom, "--tips", tips, "--columns", columns || " "),
+      call("list", bom, fs.readFileSync(bom), fs.readFileSync(tips), columns || " ", ""));
   }
 }
 for (const packages of find("packages.xml")) {
@@ -77,4 +106,6 @@ for (const packages of find("packages.xml")) {
   }
 }
 console.log(`the page: ${files.length} files, ${compared} answers compared with parts, ${refused} of them refusals, ${differ} differ`);
-process.exit(differ || compared < LEAST ? 1 : 0);
+const is_whole = compared >= LEAST && refused >= LEAST_REFUSED;
+if (!is_whole) console.log(`this test compares ${LEAST} answers or more, ${LEAST_REFUSED} refusals among them`);
+process.exit(differ || !is_whole ? 1 : 0);

@@ -1,6 +1,6 @@
 //! Plans from other software, checked by the proved library.
 
-use job_file::refusal::{FOREIGN_TIP, NO_RUN, TABLE_FAILS, WRONG_CLAIM};
+use job_file::refusal::{FOREIGN_TIP, NO_RUN, WRONG_CLAIM, WRONG_TABLE};
 
 use crate::handed::Handed;
 use crate::job::{job_of, Job, Line};
@@ -25,7 +25,7 @@ impl Named {
             (Some(table), _) => self.number(&job, handed, table),
             (None, Ok((_, table))) => match self.number(&job, handed, table) {
                 // Our own table fails for a plan with fewer pairs than ours alone: that is no fault, and told below.
-                TABLE_FAILS => 0,
+                WRONG_TABLE => 0,
                 number => number,
             },
             // The library takes no plan of such a list.
@@ -78,7 +78,7 @@ impl Named {
                 format!("{} is on tip {tip} and has only {own}; give it a tip of its own", self.label(line))
             }
             (WRONG_CLAIM, _) => format!("the plan has {pairs} pairs and says {claim}; write pairs {pairs}"),
-            (TABLE_FAILS, _) => fault_of_table(job, handed),
+            (WRONG_TABLE, _) => fault_of_table(job, handed),
             _ => "see the table of refusals in include/tipshare.h".into(),
         }
     }

@@ -1,6 +1,6 @@
 //! Plans for the Junior, which carries two tips at once, by the proved library.
 
-use job_file::refusal::{FULL, NO_TWO_TIPS, RACK_SIZE};
+use job_file::refusal::{NO_TWO_TIPS, RACK_SIZE, TOO_MANY_LINES};
 use library::{JUNIOR_LINES, JUNIOR_TIPS};
 
 use crate::job::{job_of, Job};
@@ -13,7 +13,7 @@ impl Named {
         let job = job_of(&self.file)?;
         let mut tips = vec![0; job.lines.len()];
         let planned = library::junior(&self.file, &mut tips).map_err(|refusal| match refusal.number {
-            FULL => too_long(&job),
+            TOO_MANY_LINES => too_long(&job),
             RACK_SIZE => too_wide(&job),
             NO_TWO_TIPS => self.not_served(&job),
             _ => self.refused(refusal),
@@ -49,7 +49,10 @@ impl Named {
 
 /// The refusal of a list that is too long for the Junior.
 fn too_long(job: &Job) -> String {
-    format!("refused {FULL}: {} parts; the Junior takes {JUNIOR_LINES} at most, split the list", job.lines.len())
+    format!(
+        "refused {TOO_MANY_LINES}: {} parts; the Junior takes {JUNIOR_LINES} at most, split the list",
+        job.lines.len()
+    )
 }
 
 /// The refusal of a rack that is too large for the Junior.

@@ -1,5 +1,7 @@
 //! The placing order of a parts list, by name, and why there is none.
 
+use job_file::refusal::{BAD_WINDOW, NO_ORDER};
+
 use crate::list::{List, Part};
 use crate::no_order::{Because, OrderFault, Placing, Rule, Window};
 use crate::planning::{Named, Which, Wish};
@@ -108,14 +110,16 @@ impl List {
     fn no_order(&self, number: u32, place: usize) -> String {
         let count = self.parts.len();
         match number {
-            12 if count > MOST_PARTS => format!("{count} parts; an order has {MOST_PARTS} at most, split the list"),
-            12 => format!(
+            BAD_WINDOW if count > MOST_PARTS => {
+                format!("{count} parts; an order has {MOST_PARTS} at most, split the list")
+            }
+            BAD_WINDOW => format!(
                 "{} reaches past {}, the last position of {}; correct its at=",
                 self.in_order(place),
                 count - 1,
                 counted(count as u64, "part")
             ),
-            29 => format!("no order obeys: {}", self.reason()),
+            NO_ORDER => format!("no order obeys: {}", self.reason()),
             _ => "see the table of refusals in include/tipshare.h".into(),
         }
     }

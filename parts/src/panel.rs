@@ -1,6 +1,6 @@
 //! Boards on one panel, merged and planned by the proved library.
 
-use job_file::refusal::{FULL, RACKS_DIFFER, TOO_MANY_PLACEMENTS};
+use job_file::refusal::{RACKS_DIFFER, TOO_MANY_LINES, TOO_MANY_PLACEMENTS};
 
 use crate::job::{job_of, Job};
 use crate::list::List;
@@ -168,7 +168,7 @@ impl Boards<'_> {
                 let name = board_in_words(board);
                 format!("the first rack has {first} and the {name} {other}; name one rack in {all}")
             }
-            FULL => {
+            TOO_MANY_LINES => {
                 let lines: usize = self.jobs.iter().map(|job| job.lines.len()).sum();
                 format!("{lines} lines together; a panel has {MOST_LINES} at most, make two panels")
             }

@@ -16,8 +16,9 @@ const MOST_LETTERS: usize = 40;
 const SPACE: usize = 3;
 /// Between the plans.
 const BETWEEN: usize = 56;
-/// The least width of a plan, for the words above it.
+/// The least width of a plan, for the words above it, and the size of these words.
 const HEADING: usize = 228;
+const HEADING_SIZE: usize = 18;
 const MARGIN: usize = 24;
 /// Above the first part.
 const TOP: usize = 84;
@@ -35,29 +36,19 @@ const ALLOWED: &str = "#dfe6ec";
 
 /// What is drawn: a disc for quick, a square for best and a cross for a struck tip, so that they differ in black and white
 /// too.
-#[derive(Clone, Copy)]
+#[derive(Clone, Copy, PartialEq, Eq)]
 enum Kind {
     Quick,
+    /// The best plan and the exact one.
     Best,
-    /// In the place of a best plan that there is not.
-    Exact,
     Kept,
 }
 
 impl Kind {
-    fn name(self) -> &'static str {
-        match self {
-            Kind::Quick => "quick",
-            Kind::Best => "best",
-            Kind::Exact => "exact",
-            Kind::Kept => "kept",
-        }
-    }
-
     fn colour(self) -> &'static str {
         match self {
             Kind::Quick => "#1f6fb2",
-            Kind::Best | Kind::Exact => "#b8480b",
+            Kind::Best => "#b8480b",
             Kind::Kept => "#3d6b35",
         }
     }
@@ -70,7 +61,7 @@ impl Kind {
                 let (middle, radius) = (CELL / 2, CELL / 2 - 8);
                 format!(r#"<circle cx="{}" cy="{}" r="{radius}" fill="{colour}"/>"#, x + middle, y + middle)
             }
-            Kind::Best | Kind::Exact => {
+            Kind::Best => {
                 let side = CELL - 16;
                 format!(r#"<rect x="{}" y="{}" width="{side}" height="{side}" fill="{colour}"/>"#, x + 8, y + 8)
             }
@@ -80,6 +71,31 @@ impl Kind {
                 format!(r#"<path d="{lines}" stroke="{GREY}" stroke-width="2"/>"#)
             }
         }
+    }
+}
+
+/// A plan that is drawn, or a place for one that there is not.
+struct Shown<'a> {
+    /// What is above it: the name of the plan, or of several plans that are the same.
+    name: String,
+    kind: Kind,
+    plans: &'a Plans<'a>,
+    plan: Option<&'a Plan>,
+}
+
+impl Shown<'_> {
+    /// What is said of the plan behind its name.
+    fn in_words(&self) -> String {
+        self.plan.map_or("none".into(), |plan| {
+            let tips = plan.tips_used(self.plans.job.rack) as u64;
+            format!("{} on {}", counted(plan.pairs, "pair"), counted(tips, "tip"))
+        })
+    }
+
+    /// How wide it is: a cell for each tip, or what is said above.
+    fn width(&self) -> usize {
+        let words = width_of(&format!("{}: {} ", self.name, self.in_words()), HEADING_SIZE);
+        HEADING.max(CELL * self.plans.job.rack).max(words.saturating_sub(BETWEEN - MARGIN))
     }
 }
 
@@ -135,10 +151,9 @@ fn middle(left: usize, tip: usize) -> usize {
 }
 
 /// The words above what is drawn, and the number of each tip.
-fn heading(kind: Kind, left: usize, job: &Job, words: &str) -> Vec<String> {
-    let (name, colour) = (kind.name(), kind.colour());
+fn heading(name: &str, colour: &str, left: usize, job: &Job, words: &str) -> Vec<String> {
     let mut drawn = vec![
-        format!(r#"<text x="{left}" y="{}" font-size="18" fill="{INK}">"#, TOP - 50),
+        format!(r#"<text x="{left}" y="{}" font-size="{HEADING_SIZE}" fill="{INK}">"#, TOP - 50),
         format!(r#"<tspan font-weight="bold" fill="{colour}">{name}:</tspan> {words}</text>"#),
     ];
     let named = named_tips(job);
@@ -167,7 +182,7 @@ fn kept_panel(left: usize, rows: &Range<usize>, job: &Job, k: u16, kept: Option<
     let struck: Option<u64> =
         kept.map(|kept| (0..job.lines.len()).map(|row| u64::from(struck_of(kept, row).count_ones())).sum());
     let words = struck.map_or("none".into(), |struck| format!("{} struck, k {k}", counted(struck, "tip")));
-    let mut drawn = heading(Kind::Kept, left, job, &words);
+    let mut drawn = heading("kept", Kind::Kept.colour(), left, job, &words);
     for row in rows.clone() {
         let (y, struck) = (row_top(rows, row), kept.map_or(0, |kept| struck_of(kept, row)));
         drawn.extend(allowed_in(job.lines[row].set & !struck, job.rack, left, y));
@@ -179,14 +194,12 @@ fn kept_panel(left: usize, rows: &Range<usize>, job: &Job, k: u16, kept: Option<
 }
 
 /// One plan, or none: a column for each tip, a row for each part, and below the last of all the sums.
-fn panel(kind: Kind, left: usize, rows: &Range<usize>, plans: &Plans, plan: Option<&Plan>) -> Vec<String> {
+fn panel(shown: &Shown, left: usize, rows: &Range<usize>) -> Vec<String> {
+    let Shown { name, kind, plans, plan } = shown;
     let (rack, lines) = (plans.job.rack, &plans.job.lines);
     let colour = kind.colour();
     let bottom = row_top(rows, rows.end);
-    let words = plan.map_or("none".into(), |plan| {
-        format!("{} on {}", counted(plan.pairs, "pair"), counted(plan.tips_used(rack) as u64, "tip"))
-    });
-    let mut drawn = heading(kind, left, &plans.job, &words);
+    let mut drawn = heading(name, colour, left, &plans.job, &shown.in_words());
     for row in rows.clone() {
         let y = row_top(rows, row);
         drawn.extend(allowed_in(lines[row].set, rack, left, y));
@@ -232,38 +245,63 @@ fn beginning_of(comment: &str) -> String {
     comment.chars().take(MOST_LETTERS - 1).collect::<String>() + "…"
 }
 
+/// Words as a list of names, as `quick, best and exact`.
+fn listed(words: &[&str]) -> String {
+    match words {
+        [] => String::new(),
+        [one] => one.to_string(),
+        [first @ .., last] => format!("{} and {last}", first.join(", ")),
+    }
+}
+
 impl Named {
     /// The drawing of the list and both plans.
     pub fn picture(&self) -> Result<String, String> {
-        Ok(self.drawing_of(&self.plans(Wish::default())?))
+        let plans = self.plans(Wish::default())?;
+        Ok(self.drawing(&plans.all_shown(), None, 0..plans.job.lines.len()).0)
     }
 
-    /// The drawing of the list and these plans.
-    pub fn drawing_of(&self, plans: &Plans) -> String {
-        self.drawing(plans, None, 0..plans.job.lines.len()).0
+    /// The drawing of the list and all of these plans. Plans that are the same are drawn once.
+    pub fn drawing_of(&self, plans: &Plans, exact: Option<&Plan>) -> String {
+        let all = [("quick", Some(&plans.quick)), ("best", plans.best.as_ref().ok()), ("exact", exact)];
+        let there = all.into_iter().filter(|(_, plan)| plan.is_some());
+        self.drawing(&plans.shown_apart(there), None, 0..plans.job.lines.len()).0
     }
 
-    /// The drawing in pieces, each as high as a page, with what a keep within k leaves; and how wide each is.
-    pub(crate) fn pieces(&self, plans: &Plans, k: u16, kept: Option<&Job>) -> (String, usize) {
-        let (count, mut width) = (plans.job.lines.len(), 0);
-        let mut text = String::new();
-        for piece in 0..count.div_ceil(PIECE).max(1) {
-            let rows = piece * PIECE..count.min(piece * PIECE + PIECE);
-            let (drawn, drawn_width) = self.drawing(plans, Some((k, kept)), rows);
-            text += &drawn;
-            width = drawn_width;
+    /// A plan of the list as it is and one as it would be, each by its name, beside each other; nothing where both are drawn
+    /// alike.
+    pub fn drawing_beside(&self, before: (&Plans, &str, &Plan), after: (&Plans, &str, &Plan)) -> Option<String> {
+        let (is, would_be) = (&before.0.job, &after.0.job);
+        if before.2.tips == after.2.tips && is == would_be {
+            return None;
         }
-        (text, width)
+        let shown = [("before", before), ("after", after)].map(|(when, (plans, name, plan))| Shown {
+            name: format!("{name} {when}"),
+            kind: Kind::Best,
+            plans,
+            plan: Some(plan),
+        });
+        Some(self.drawing(&shown, None, 0..is.lines.len()).0)
     }
 
-    /// The drawing of these rows of the list and both plans and, where it is asked for, of what a keep within k leaves; and
+    /// The drawing in pieces, each as high as a page, with what a keep within k leaves. Plans that are the same are drawn once.
+    pub(crate) fn pieces(&self, plans: &Plans, k: u16, kept: Option<&Job>) -> String {
+        let (count, shown) = (plans.job.lines.len(), plans.shown_apart(plans.all()));
+        let rows = |piece: usize| piece * PIECE..count.min(piece * PIECE + PIECE);
+        (0..count.div_ceil(PIECE).max(1)).map(|piece| self.drawing(&shown, Some((k, kept)), rows(piece)).0).collect()
+    }
+
+    /// How wide each of these pieces is.
+    pub(crate) fn width_of_pieces(&self, plans: &Plans, k: u16) -> usize {
+        self.drawing(&plans.shown_apart(plans.all()), Some((k, None)), 0..0).1
+    }
+
+    /// The drawing of these rows of the list and these plans and, where it is asked for, of what a keep within k leaves; and
     /// its width.
-    fn drawing(&self, plans: &Plans, keep: Option<(u16, Option<&Job>)>, rows: Range<usize>) -> (String, usize) {
-        let count = plans.job.lines.len();
-        let (name, second_plan) = plans.best_or_exact();
-        let second_kind = if name == "exact" { Kind::Exact } else { Kind::Best };
-        let second_words = format!("its tip in the {name} plan");
-        let label = |line: usize| beginning_of(&self.label(line)) + &quantity_in_words(plans.job.lines[line].quantity);
+    fn drawing(&self, shown: &[Shown], keep: Option<(u16, Option<&Job>)>, rows: Range<usize>) -> (String, usize) {
+        let job = &shown[0].plans.job;
+        let count = job.lines.len();
+        let label = |line: usize| beginning_of(&self.label(line)) + &quantity_in_words(job.lines[line].quantity);
         let labels: Vec<String> = (0..count).map(label).collect();
         let comments: Vec<String> = (0..count).map(|line| beginning_of(self.comment(line))).collect();
         let widest = |words: &[String], size: usize, letter: usize| {
@@ -273,22 +311,25 @@ impl Named {
         let names_width = 14 + widest(&labels, 15, 10);
         let comments_width = COMMENTS.max(22 + widest(&comments, 14, 8));
         let first = MARGIN + names_width + comments_width;
-        let panel_width = HEADING.max(CELL * plans.job.rack);
-        let second = first + panel_width + BETWEEN;
-        let third = second + panel_width + BETWEEN;
-        let width = if keep.is_some() { third } else { second } + panel_width + MARGIN;
+        // Where each plan begins, and what is kept.
+        let mut lefts = vec![first];
+        lefts.extend(shown.iter().scan(first, |left, shown| {
+            *left += shown.width() + BETWEEN;
+            Some(*left)
+        }));
+        let third = lefts[shown.len()];
+        let width = if keep.is_some() { third + shown[0].width() } else { third - BETWEEN } + MARGIN;
         let bottom = row_top(&rows, rows.end);
         let is_last = rows.end == count;
         let height = bottom + if is_last { BELOW } else { BELOW_PIECE };
 
         let size = format!(r#"viewBox="0 0 {width} {height}" width="{width}" height="{height}""#);
+        let names: Vec<String> = shown.iter().map(|shown| format!("the {}", shown.name)).collect();
+        let names = listed(&names.iter().map(String::as_str).collect::<Vec<_>>());
         let mut drawn = vec![
             format!(r#"<svg xmlns="http://www.w3.org/2000/svg" {size}"#),
             r#" font-family="Helvetica, Arial, DejaVu Sans, sans-serif">"#.into(),
-            format!(
-                "<title>Lines of a parts list against tips, with the quick and the {} plan</title>",
-                second_kind.name()
-            ),
+            format!("<title>Lines of a parts list against tips, with {names} plan</title>"),
             format!(r#"<rect width="{width}" height="{height}" fill="white"/>"#),
             Text { anchor: "end", colour: GREY, ..PLAIN }.at(first - 16, TOP - 12, "tip"),
         ];
@@ -304,27 +345,64 @@ impl Named {
         }
         if is_last {
             let sums = Text { anchor: "end", colour: GREY, ..small };
-            let on_tip = if plans.job.is_single() { "parts on the tip" } else { "placements on the tip" };
+            let on_tip = if job.is_single() { "parts on the tip" } else { "placements on the tip" };
             drawn.push(sums.at(first - 16, bottom + 27, on_tip));
             drawn.push(sums.at(first - 16, bottom + 50, "pairs"));
         }
-        drawn.extend(panel(Kind::Quick, first, &rows, plans, Some(&plans.quick)));
-        drawn.extend(panel(second_kind, second, &rows, plans, second_plan));
+        for (shown, &left) in shown.iter().zip(&lefts) {
+            drawn.extend(panel(shown, left, &rows));
+        }
         let y = height - 46;
-        let mut key = vec![
-            (MARGIN - 8, allowed(MARGIN - 8, y), "tip that can pick the part"),
-            (first + 30, Kind::Quick.mark(first + 30, y), "its tip in the quick plan"),
-            (first + 270, second_kind.mark(first + 270, y), second_words.as_str()),
-        ];
+        let mut key = vec![(MARGIN - 8, allowed(MARGIN - 8, y), "tip that can pick the part".to_string())];
+        let mut x = first + 30;
+        for kind in [Kind::Quick, Kind::Best] {
+            let of_kind: Vec<&str> =
+                shown.iter().filter(|shown| shown.kind == kind).map(|shown| &shown.name[..]).collect();
+            let words = match of_kind[..] {
+                [] => continue,
+                [name] if shown.len() > 1 => format!("its tip in the {name} plan"),
+                _ => "its tip in the plan".into(),
+            };
+            key.push((x, kind.mark(x, y), words));
+            x += 240;
+        }
         if let Some((k, kept)) = keep {
-            drawn.extend(kept_panel(third, &rows, &plans.job, k, kept));
-            key.push((first + 510, Kind::Kept.mark(first + 510, y), "struck by keep"));
+            drawn.extend(kept_panel(third, &rows, job, k, kept));
+            key.push((x, Kind::Kept.mark(x, y), "struck by keep".into()));
         }
         for (x, mark, words) in key.into_iter().filter(|_| is_last) {
             drawn.push(mark);
-            drawn.push(small.at(x + CELL + 3, y + CELL / 2 + 5, words));
+            drawn.push(small.at(x + CELL + 3, y + CELL / 2 + 5, &words));
         }
         drawn.push("</svg>\n".into());
         (drawn.join("\n"), width)
+    }
+}
+
+impl Plans<'_> {
+    /// These plans, each under the names of all that are the same.
+    fn shown_apart<'a>(&'a self, all: impl IntoIterator<Item = (&'a str, Option<&'a Plan>)>) -> Vec<Shown<'a>> {
+        let mut apart: Vec<(Vec<&str>, Option<&Plan>)> = Vec::new();
+        for (name, plan) in all {
+            let is_same = |other: &Option<&Plan>| other.map(|other| &other.tips) == plan.map(|plan| &plan.tips);
+            match apart.iter_mut().find(|(_, other)| is_same(other)) {
+                Some((names, _)) => names.push(name),
+                None => apart.push((vec![name], plan)),
+            }
+        }
+        let shown = |(names, plan): (Vec<&str>, _)| Shown {
+            kind: if names == ["quick"] { Kind::Quick } else { Kind::Best },
+            name: listed(&names),
+            plans: self,
+            plan,
+        };
+        apart.into_iter().map(shown).collect()
+    }
+
+    /// All plans: the best one has a place where it is missing and there is no exact one either.
+    fn all_shown(&self) -> Vec<Shown<'_>> {
+        let kind = |name| if name == "quick" { Kind::Quick } else { Kind::Best };
+        let all = self.all().into_iter();
+        all.map(|(name, plan)| Shown { name: name.into(), kind: kind(name), plans: self, plan }).collect()
     }
 }

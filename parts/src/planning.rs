@@ -2,6 +2,7 @@
 
 use std::fmt::Display;
 
+use job_file::refusal::{MOUNTED_OUTSIDE, NO_PLAN, NO_RUN, TOO_MANY_NAMED};
 use library::CommonTip;
 
 use crate::job::{job_of, list_in_words, missed_tip, named_tips, Job};
@@ -35,9 +36,8 @@ pub struct Wish {
 
 /// A price above the most pairs that a plan has: with it an exact plan has the fewest tips.
 pub const FEWEST_TIPS: u32 = 2_096_129;
-/// The most tips that an exact plan is made for, and the refusal of more.
+/// The most tips that an exact plan is made for.
 pub const EXACT_TIPS: usize = 20;
-const TOO_MANY_TIPS: u32 = 35;
 
 /// An order along which a list is planned.
 #[derive(Clone, Copy, PartialEq, Eq, Debug)]
@@ -144,7 +144,7 @@ impl Named {
         // What is left has the quantities of what was read, so that it is never longer.
         let mut file = vec![0; self.file.len()];
         let kept = library::keep(&self.file, k, &mut file).map_err(|refusal| match refusal.number {
-            26 => without_plan(k, refusal.margin),
+            NO_PLAN => without_plan(k, refusal.margin),
             _ => self.refused(refusal),
         })?;
         file.truncate(kept.bytes as usize);
@@ -178,7 +178,7 @@ impl Named {
         let mut tips = vec![0; job.lines.len()];
         let pairs =
             library::quick(&self.file, mounted, &mut tips).map_err(|refusal| match (refusal.number, mounted) {
-                (16, Some(tip)) => not_in_rack(tip, job.rack),
+                (MOUNTED_OUTSIDE, Some(tip)) => not_in_rack(tip, job.rack),
                 _ => self.refused(refusal),
             })?;
         let quick = Plan { pairs, tips };
@@ -207,7 +207,7 @@ impl Named {
         let mut table = vec![0; if named > EXACT_TIPS { 0 } else { 2 << named }];
         let planned = library::exact(&self.file, mounted, price, &mut tips, &mut table);
         planned.map(|planned| Plan { pairs: planned.pairs, tips }).map_err(|refusal| match refusal.number {
-            TOO_MANY_TIPS => too_many_tips(named),
+            TOO_MANY_NAMED => too_many_tips(named),
             _ => self.refused(refusal),
         })
     }
@@ -238,7 +238,7 @@ impl Named {
         let mut table = vec![0; job.rack * job.rack];
         match library::best(&self.file, mounted, &mut tips, &mut table) {
             Ok(pairs) => Ok(Ok((Plan { pairs, tips }, table))),
-            Err(refusal) if refusal.number == 25 => Ok(Err(refusal.line as usize)),
+            Err(refusal) if refusal.number == NO_RUN => Ok(Err(refusal.line as usize)),
             Err(refusal) => Err(self.refused(refusal)),
         }
     }
@@ -308,7 +308,7 @@ impl Plans<'_> {
             (Some(Err(why)), _) if which == Which::Exact => why.clone(),
             (_, &Err(line)) => {
                 let instead = if called("exact").is_some() { "exact" } else { "quick" };
-                format!("refused 25: {}; take the {instead} plan", self.named.no_run(&self.job, line))
+                format!("refused {NO_RUN}: {}; take the {instead} plan", self.named.no_run(&self.job, line))
             }
             _ => "this plan was not asked for".into(),
         })
@@ -402,16 +402,16 @@ pub(crate) fn common_in_words(common: CommonTip) -> String {
 
 /// The refusal of a keep whose k no plan meets.
 fn without_plan(k: u16, margin: i64) -> String {
-    format!("refused 26: margin {margin}, no plan is within k {k}; the least k is {}", i64::from(k) - margin)
+    format!("refused {NO_PLAN}: margin {margin}, no plan is within k {k}; the least k is {}", i64::from(k) - margin)
 }
 
 /// The refusal of an exact plan of too many tips.
 fn too_many_tips(named: usize) -> String {
-    format!("refused {TOO_MANY_TIPS}: {named} tips are named and {EXACT_TIPS} is the most; take out tips that few parts need, or split the list by tips")
+    format!("refused {TOO_MANY_NAMED}: {named} tips are named and {EXACT_TIPS} is the most; take out tips that few parts need, or split the list by tips")
 }
 
 /// The refusal of a mounted tip that the rack has not.
 fn not_in_rack(tip: usize, rack: usize) -> String {
     let name = if rack == 1 { "tip 0".into() } else { format!("a tip from 0 to {}", rack - 1) };
-    format!("refused 16: the mounted tip {tip} is outside the rack of {rack}; name {name}, or none")
+    format!("refused {MOUNTED_OUTSIDE}: the mounted tip {tip} is outside the rack of {rack}; name {name}, or none")
 }

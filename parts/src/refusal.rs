@@ -1,6 +1,6 @@
 //! Refusal numbers of job files in plain words.
 
-use job_file::{Head, Version};
+use job_file::{refusal, Head, Version};
 
 use crate::{MOST_PLACEMENTS, MOST_QUANTITY};
 
@@ -12,20 +12,20 @@ pub fn in_words(number: u32, line: usize, file: &[u8]) -> String {
     let Head { version, rack, count } = head;
     let form = head.form();
     let what = match number {
-        1 => format!("the rack size is {rack}; put 1 to 64 in byte 5"),
-        2 => format!("line {line} has no tip; give that line a tip"),
-        3 => format!("line {line} has a tip outside the rack of {rack}; take it out, or name a larger rack"),
-        6 => format!("the file has {length} bytes and needs 8 at least; hand over the whole file"),
-        7 => "the file does not begin with TIP; hand over a job file, such as `parts make` writes".into(),
-        8 => format!("the version is {version}; write the file as version 1 or 2"),
-        9 => format!("the file names {count} lines and 512 is the most; split the parts list"),
-        10 => format!(
+        refusal::RACK_SIZE => format!("the rack size is {rack}; put 1 to 64 in byte 5"),
+        refusal::EMPTY_LINE => format!("line {line} has no tip; give that line a tip"),
+        refusal::TIP_OUTSIDE => format!("line {line} has a tip outside the rack of {rack}; take it out, or name a larger rack"),
+        refusal::SHORT_FILE => format!("the file has {length} bytes and needs 8 at least; hand over the whole file"),
+        refusal::WRONG_MARK => "the file does not begin with TIP; hand over a job file, such as `parts make` writes".into(),
+        refusal::WRONG_VERSION => format!("the version is {version}; write the file as version 1 or 2"),
+        refusal::FILE_LINES => format!("the file names {count} lines and 512 is the most; split the parts list"),
+        refusal::FILE_LENGTH => format!(
             "the file names {count} lines{}, which take {} bytes, and has {length}; hand over the whole file and no more, or mend it: parts mend",
             if form == Version::Two { " with quantities" } else { "" },
             form.length_of(count.into())
         ),
-        15 => format!("line {line} has quantity 0; write 1 to {MOST_QUANTITY}, or take the line out"),
-        30 => {
+        refusal::ZERO_QUANTITY => format!("line {line} has quantity 0; write 1 to {MOST_QUANTITY}, or take the line out"),
+        refusal::TOO_MANY_PLACEMENTS => {
             let quantities = (0..=line).filter_map(|line| file.get(form.at_quantity(line)?));
             let total: usize = quantities.map(|&quantity| usize::from(quantity)).sum();
             format!("{total} placements with line {line}; {MOST_PLACEMENTS} is the most, split the parts list")

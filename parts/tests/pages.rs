@@ -1,7 +1,7 @@
 //! The page of a list.
 
 use parts::list::List;
-use parts::planning::Named;
+use parts::planning::{Named, Wish, FEWEST_TIPS};
 
 fn page(text: &str, k: Option<u16>) -> String {
     let list = List::read(text.as_bytes()).unwrap_or_else(|faults| panic!("{text:?}: {faults:?}"));
@@ -57,13 +57,21 @@ fn page_has_tips_used_and_changes() {
 }
 
 #[test]
-fn page_has_three_drawings_side_by_side() {
+fn page_has_its_drawings_side_by_side() {
+    let apart = page(include_str!("../../docs/example.txt"), None);
+    for words in [
+        ">quick:</tspan> 11 pairs on 3 tips<",
+        ">best:</tspan> 12 pairs on 2 tips<",
+        ">kept:</tspan> 8 tips struck, k 3<",
+    ] {
+        assert_eq!(count(&apart, words), 1, "{words}");
+    }
+    // Plans that are the same are drawn once.
     let with = page(LIST, None);
-    for words in
-        ["quick:</tspan> 4 pairs on 2 tips<", "best:</tspan> 4 pairs on 2 tips<", "kept:</tspan> 1 tip struck, k 2<"]
-    {
+    for words in [">quick and best:</tspan> 4 pairs on 2 tips<", ">kept:</tspan> 1 tip struck, k 2<"] {
         assert_eq!(count(&with, words), 1, "{words}");
     }
+    assert_eq!(count(&with, "</tspan>"), 2);
     // A cross on the struck tip, and one in the key.
     assert_eq!(count(&with, "stroke-width=\"2\""), 2);
     assert_eq!(count(&with, "<svg "), 1);
@@ -81,7 +89,10 @@ fn refusals_stand_on_the_page() {
     // The exact plan stands in its place.
     assert_eq!(count(&gap, "<td>pairs</td><td class=\"number\">0</td><td class=\"number\">0</td>"), 1);
     assert_eq!((count(&gap, "<th class=\"number\">exact</th>"), count(&gap, "<th class=\"number\">best</th>")), (1, 0));
-    assert_eq!((count(&gap, ">exact:</tspan> 0 pairs on 2 tips<"), count(&gap, "tabindex=\"0\">exact</span>")), (1, 1));
+    assert_eq!(
+        (count(&gap, ">quick and exact:</tspan> 0 pairs on 2 tips<"), count(&gap, "tabindex=\"0\">exact</span>")),
+        (1, 1)
+    );
     let wide: String = (0..21).map(|tip| format!(": {tip}\n")).collect();
     let wide = page(&format!("rack 21\n{wide}: 0 2\n"), None);
     assert_eq!(count(&wide, "<p class=\"refused\">There is no exact plan: refused 35: 21 tips are named"), 1);
@@ -121,12 +132,13 @@ fn long_lists_are_drawn_in_pieces_of_a_page() {
     let list = |rack: usize, parts: usize| format!("rack {rack}\n") + &": 0-1\n".repeat(parts);
     for (parts, pieces) in [(0, 1), (1, 1), (16, 1), (17, 2), (512, 32)] {
         let page = page(&list(2, parts), None);
-        let heads = ["quick", "best", "kept"].map(|name| count(&page, &format!(">{name}:</tspan>")));
-        assert_eq!((count(&page, "<svg "), heads), (pieces, [pieces; 3]), "{parts}");
-        // Sums and key stand once, a disc for each part and one in the key.
-        assert_eq!((count(&page, ">parts on the tip</text>"), count(&page, "<circle ")), (1, parts + 1), "{parts}");
+        let heads = ["quick and best", "kept"].map(|name| count(&page, &format!(">{name}:</tspan>")));
+        assert_eq!((count(&page, "<svg "), heads), (pieces, [pieces; 2]), "{parts}");
+        // Sums and key stand once, a square for each part and one in the key.
+        let squares = count(&page, "height=\"22\" fill=\"#b8480b\"");
+        assert_eq!((count(&page, ">parts on the tip</text>"), squares), (1, parts + 1), "{parts}");
         // Each piece has its own first row.
-        assert_eq!(count(&page, " cy=\"103\" r="), pieces.min(parts), "{parts}");
+        assert_eq!(count(&page, " y=\"92\" width=\"22\""), pieces.min(parts), "{parts}");
     }
     assert_eq!((count(&page(&list(2, 1), None), "landscape"), count(&page(&list(12, 1), None), "landscape")), (0, 1));
 }
@@ -137,4 +149,45 @@ fn long_comments_are_cut_in_the_drawing_alone() {
     let page = page(&format!("rack 1\nA : 0 # {comment}\n"), None);
     assert_eq!(count(&page, &format!("<td>{comment}</td>")), 1);
     assert_eq!(count(&page, &format!(">{}…</text>", "m".repeat(39))), 1);
+}
+
+#[test]
+fn drawing_too_wide_for_paper_is_not_printed() {
+    let list = |rack: usize| format!("rack {rack}\nA : 0-1\n");
+    let too_wide = "The drawing is too wide for paper.";
+    for (rack, is_wide) in [(23, false), (24, true), (64, true)] {
+        let page = page(&list(rack), None);
+        let told = [too_wide, "<div class=\"wide screen\"", "<svg "].map(|words| count(&page, words));
+        assert_eq!(told, [is_wide as usize, is_wide as usize, 1], "{rack}");
+        assert_eq!(count(&page, "size: landscape;"), 1, "{rack}");
+        let named = Named::of_list(List::read(list(rack).as_bytes()).unwrap());
+        let (sheet, is_landscape) = named.sheet("board.txt", None, Wish::default()).unwrap();
+        assert_eq!(
+            (count(&sheet, too_wide), count(&sheet, "<svg ")),
+            (is_wide as usize, 1 - is_wide as usize),
+            "{rack}"
+        );
+        assert_eq!(is_landscape, !is_wide, "{rack}");
+    }
+}
+
+#[test]
+fn sheet_has_the_plans_that_are_asked_for() {
+    // Two tips do with 12 pairs, and the most pairs, 15, are on three.
+    let list = "rack 3\nA : 0\nB1 : 0-1\nB2 : 0-1\nB3 : 0-1\nC1 : 1-2\nC2 : 1-2\nC3 : 1-2\nD : 2\n";
+    let named = Named::of_list(List::read(list.as_bytes()).unwrap());
+    let wish = Wish { mounted: Some(2), price: Some(FEWEST_TIPS), along: None };
+    let (sheet, is_landscape) = named.sheet("<b>", Some(5), wish).unwrap();
+    assert!(sheet.starts_with(
+        "<h1>Plan of &lt;b&gt;</h1>\n<p>8 parts, 8 placements and a rack of 3 tips. Tip 2 is on the head.</p>\n"
+    ));
+    assert!(sheet.contains(
+        "<tr><td>pairs</td><td class=\"number\">15</td><td class=\"number\">15</td><td class=\"number\">12</td></tr>"
+    ));
+    assert!(sheet.contains("<th>kept, k 5</th><th class=\"number\">quick</th><th class=\"number\">best</th><th class=\"number\">exact</th>"));
+    assert!(sheet.contains(">exact:</tspan> 12 pairs on 2 tips<") && is_landscape);
+    // Nothing that a page of its own has: no script, no style, nothing to click on.
+    for words in ["<script", "style=", "role=", "class=\"screen\""] {
+        assert_eq!(count(&sheet, words), 0, "{words}");
+    }
 }

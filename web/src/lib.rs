@@ -7,16 +7,17 @@ use std::fmt::Display;
 use std::panic;
 
 use parts::changes::in_cell;
+use parts::exporting::Format;
 use parts::import::csv::{self, Columns};
 use parts::import::openpnp::{Board, Packages, Parts};
-use parts::import::table::Table;
-use parts::import::{is_foreign, kicad, Sides};
+use parts::import::table::{self, Missing, Table};
+use parts::import::{is_foreign, kicad, Faults, Placement, Sides};
 use parts::job::{has_mark, job_of, list_in_words};
 use parts::limits::too_large;
 use parts::list::{Fault, List};
 use parts::panel::{Merged, Panel};
 use parts::planning::{Kept, Named, Plan, Plans, Which, Wish};
-use parts::tips_in_words;
+use parts::{tips_in_words, MOST_TIPS};
 
 /// What is wrong is told of this many lines.
 const MOST_FAULTS: usize = 20;
@@ -94,15 +95,26 @@ fn answer_of(fields: &[&[u8]]) -> Result<Vec<Vec<u8>>, String> {
     let text = |words: String| Ok(vec![words.into_bytes()]);
     match fields {
         [b"list", name, bytes, table, columns, side] => text(list(name, bytes, table, columns, side)?),
+        [b"kind", bytes] => text(kind_of(bytes).into()),
         [b"columns", bytes] => text(csv::names_of(bytes).unwrap_or_default().join("\n")),
+        [b"packages", name, bytes, table, columns, side] => text(packages(name, bytes, table, columns, side)?),
+        [b"start", name, bytes, table, columns, side] => text(begun(name, bytes, table, columns, side)?),
         [b"openpnp", packages, board, parts, side] => text(openpnp(packages, board, parts, side)?),
         [b"plan", list, mounted, price] => planned(&named(list)?, wish_of(mounted, price)),
-        [b"changed", list, rack, line, tip] => changed(read(list)?, number_of(rack), number_of(line), number_of(tip)),
+        [b"changed", list, lines, tip] => changed(&named(list)?, lines, number_of(tip).ok_or("no tip is chosen")?),
         [b"text", list, price] => text(named(list)?.plan(wish_of(b"", price))?),
+        [b"export", format, list, plan, mounted, price] => text(exported(format, &named(list)?, plan, mounted, price)?),
         [b"keep", list, k] => kept(named(list)?.keep(number_of(k).ok_or("k is a number from 0 to 65535")?)?),
         [b"goal", list, goal] => kept(named(list)?.goal(number_of(goal).ok_or("a goal is a number of pairs")?)?),
         [b"picture", list] => text(named(list)?.picture()?),
         [b"page", name, list] => text(named(list)?.page(&String::from_utf8_lossy(name), None)?),
+        [b"sheet", name, list, k, mounted, price] => {
+            let wish = wish_of(mounted, price);
+            let (named, name) = (named(list)?, String::from_utf8_lossy(name));
+            let sheet = |wish| named.sheet(&name, number_of(k), wish);
+            let (text, is_wide) = sheet(wish).or_else(|_| sheet(Wish::mounted(wish.mounted)))?;
+            Ok(vec![text.into_bytes(), if is_wide { b"wide".to_vec() } else { Vec::new() }])
+        }
         [b"make", list] => Ok(vec![named(list)?.file]),
         [b"order", list, b"", _, _] => text(read(list)?.order()?),
         [b"order", list, plan, mounted, price] => {
@@ -138,27 +150,104 @@ fn faulty<W: Display>(name: &str, faults: &[Fault<W>]) -> String {
 
 /// The parts list of a file: a list, a job file, a file of KiCad, or a table with named columns.
 fn list(name: &[u8], bytes: &[u8], table: &[u8], columns: &[u8], side: &[u8]) -> Result<String, String> {
-    let [name, columns, side] = [name, columns, side].map(String::from_utf8_lossy);
+    let shown = String::from_utf8_lossy(name);
     if let Some(why) = too_large(bytes).or_else(|| too_large(table)) {
-        return Err(format!("{name}: {why}"));
+        return Err(format!("{shown}: {why}"));
     }
     if has_mark(bytes) {
         return Ok(list_in_words(&job_of(bytes)?));
     }
     if columns.is_empty() && !is_foreign(bytes) {
-        return String::from_utf8(bytes.to_vec()).map_err(|_| format!("{name}: this is no UTF-8 text"));
+        return String::from_utf8(bytes.to_vec()).map_err(|_| format!("{shown}: this is no UTF-8 text"));
     }
     let table = Table::read(table).map_err(|faults| faulty("tips", &faults))?;
-    let placements = match &*columns {
+    let placements = placements_of(name, bytes, columns)?;
+    table.list(placements, sides_of(side)?).map_err(|faults| faulty(&shown, &faults))
+}
+
+/// The placements of a file of KiCad, or of a table with named columns.
+fn placements_of(name: &[u8], bytes: &[u8], columns: &[u8]) -> Result<Vec<Placement>, String> {
+    let read: Result<Vec<Placement>, Faults> = match &*String::from_utf8_lossy(columns) {
         "" => kicad::placements_of(bytes),
         columns => csv::placements_of(bytes, &Columns::of(columns)?),
     };
-    let placements = placements.map_err(|faults| faulty(&name, &faults))?;
-    table.list(placements, sides_of(&side)?).map_err(|faults| faulty(&name, &faults))
+    read.map_err(|faults| faulty(&String::from_utf8_lossy(name), &faults))
 }
 
-fn sides_of(side: &str) -> Result<Sides, String> {
-    Sides::of(Some(side).filter(|side| !side.is_empty()))
+fn sides_of(side: &[u8]) -> Result<Sides, String> {
+    Sides::of(Some(&*String::from_utf8_lossy(side)).filter(|side| !side.is_empty()))
+}
+
+/// What a file is: a job file, a file of OpenPnP, one with placements, a table of tips, or a list.
+fn kind_of(bytes: &[u8]) -> &'static str {
+    if has_mark(bytes) {
+        "job"
+    } else if bytes.trim_ascii_start().starts_with(b"<") {
+        "xml"
+    } else if is_foreign(bytes) {
+        "placements"
+    } else if Table::read(bytes).is_ok_and(|table| table.has_patterns()) {
+        "table"
+    } else {
+        "list"
+    }
+}
+
+/// The packages of a file that no row of the table matches, a line each: the pattern of its row, its placements, and `skip` where
+/// it is left out as a rule, with tabs between them. A row without tips counts, for its tips are still to be written.
+fn packages(name: &[u8], bytes: &[u8], table: &[u8], columns: &[u8], side: &[u8]) -> Result<String, String> {
+    let table = Table::read(whole(table).as_bytes()).map_err(|faults| faulty("tips", &faults))?;
+    let line = |Missing { pattern, comment, is_left_out }: Missing| {
+        format!("{pattern}\t{comment}\t{}\n", if is_left_out { "skip" } else { "" })
+    };
+    missing(name, bytes, Some(&table), columns, side, table::missing).map(|all| all.into_iter().map(line).collect())
+}
+
+/// A table to begin with, or the rows that a table lacks.
+fn begun(name: &[u8], bytes: &[u8], table: &[u8], columns: &[u8], side: &[u8]) -> Result<String, String> {
+    let table = match table.trim_ascii() {
+        b"" => None,
+        _ => Some(Table::read(whole(table).as_bytes()).map_err(|faults| faulty("tips", &faults))?),
+    };
+    missing(name, bytes, table.as_ref(), columns, side, table::beginning)
+}
+
+/// What the placements of a file and a table come to.
+fn missing<T>(
+    name: &[u8],
+    bytes: &[u8],
+    table: Option<&Table>,
+    columns: &[u8],
+    side: &[u8],
+    of: impl FnOnce(Vec<Placement>, Sides, Option<&Table>) -> Result<T, Faults>,
+) -> Result<T, String> {
+    let placements = placements_of(name, bytes, columns)?;
+    of(placements, sides_of(side)?, table).map_err(|faults| faulty(&String::from_utf8_lossy(name), &faults))
+}
+
+/// A table in which a row without tips leaves its packages out, and with a rack if it names none.
+fn whole(table: &[u8]) -> String {
+    let mut has_rack = false;
+    let line = |line: &str| {
+        let content = line.split('#').next().unwrap_or_default().trim();
+        let mut words = content.split_whitespace();
+        match (words.next(), words.next()) {
+            (Some("rack"), size) if !content.contains(':') => {
+                has_rack = true;
+                let is_size = size.is_some_and(|size| size.parse::<usize>().is_ok());
+                if is_size {
+                    line.into()
+                } else {
+                    format!("rack {MOST_TIPS}")
+                }
+            }
+            (Some(pattern), _) if content.ends_with(':') => format!("skip {}", pattern.trim_end_matches(':')),
+            _ => line.to_string(),
+        }
+    };
+    let lines: Vec<String> = String::from_utf8_lossy(table).lines().map(line).collect();
+    let rack = if has_rack { String::new() } else { format!("rack {MOST_TIPS}\n") };
+    rack + &lines.join("\n") + "\n"
 }
 
 /// The parts list of an OpenPnP board, by its packages and, where they are given, its parts.
@@ -169,8 +258,7 @@ fn openpnp(packages: &[u8], board: &[u8], parts: &[u8], side: &[u8]) -> Result<S
         parts => Some(Parts::read(parts).map_err(|faults| faulty("parts", &faults))?),
     };
     let board = Board::read(board).map_err(|faults| faulty("board", &faults))?;
-    let side = String::from_utf8_lossy(side);
-    known.list(board, parts.as_ref(), sides_of(&side)?).map_err(|faults| faulty("board", &faults))
+    known.list(board, parts.as_ref(), sides_of(side)?).map_err(|faults| faulty("board", &faults))
 }
 
 fn read(list: &[u8]) -> Result<List, String> {
@@ -225,7 +313,7 @@ fn planned(named: &Named, wish: Wish) -> Result<Vec<Vec<u8>>, String> {
     answer.extend([
         no_best.into_bytes(),
         no_exact.into_bytes(),
-        named.drawing_of(&plans).into_bytes(),
+        named.drawing_of(&plans, exact.as_ref().ok()).into_bytes(),
         named.file.clone(),
         table_of(named, &plans, exact.as_ref().ok()).into_bytes(),
         named.in_words(&plans, wish.price).into_bytes(),
@@ -238,21 +326,58 @@ fn kept(kept: Kept) -> Result<Vec<Vec<u8>>, String> {
     Ok(vec![kept.text.into_bytes(), kept.file])
 }
 
-/// The plans of the list as it is and of another one: with this rack, or with this line allowed on one more tip.
-fn changed(list: List, rack: Option<usize>, line: Option<usize>, tip: Option<usize>) -> Result<Vec<Vec<u8>>, String> {
-    let mut job = list.job();
-    let before = Named::of_list(list);
-    job.rack = rack.unwrap_or(job.rack);
-    if let (Some(line), Some(tip)) = (line.and_then(|line| job.lines.get_mut(line)), tip) {
-        line.set |= u64::try_from(tip).ok().and_then(|_| 1u64.checked_shl(tip as u32)).unwrap_or(0);
+/// One plan for other programs, in this form.
+fn exported(format: &[u8], named: &Named, plan: &[u8], mounted: &[u8], price: &[u8]) -> Result<String, String> {
+    let word = String::from_utf8_lossy;
+    let which = Which::of(&word(plan))?;
+    let wish = wish_of(mounted, price);
+    let price = wish.price.or(Some(0)).filter(|_| which == Which::Exact);
+    named.exported(Format::of(&word(format))?, which, Wish { price, ..wish })
+}
+
+/// The plans as they are and as they would be with some lines allowed on one more tip, which may be new to the rack: the numbers
+/// of both, and a drawing of both beside each other; nothing in its place where they are drawn alike.
+fn changed(before: &Named, lines: &[u8], tip: usize) -> Result<Vec<Vec<u8>>, String> {
+    let bit = u32::try_from(tip).ok().and_then(|tip| 1u64.checked_shl(tip)).ok_or("no rack has this tip")?;
+    let mut job = job_of(&before.file)?;
+    job.rack = job.rack.max(tip + 1);
+    for number in String::from_utf8_lossy(lines).split_whitespace() {
+        let line = number.parse().ok().and_then(|number: usize| job.lines.get_mut(number));
+        line.ok_or("the list has no line of this number")?.set |= bit;
     }
     let after = Named { file: job.write(), list: before.list.clone() };
-    let numbers = |named: &Named| {
+    let (is, would_be) = (Both::of(before)?, Both::of(&after)?);
+    let drawn = before.drawing_beside(is.shown(), would_be.shown()).unwrap_or_default();
+    Ok([
+        numbers_of(&is.plans, is.exact.as_ref()),
+        numbers_of(&would_be.plans, would_be.exact.as_ref()),
+        vec![drawn.into_bytes()],
+    ]
+    .concat())
+}
+
+/// The plans of a list and, if there is one, its exact plan.
+struct Both<'a> {
+    plans: Plans<'a>,
+    exact: Option<Plan>,
+}
+
+impl Both<'_> {
+    fn of(named: &Named) -> Result<Both<'_>, String> {
         let plans = named.plans(Wish::default())?;
-        let exact = named.exact(&plans.job, None, 0);
-        Ok::<_, String>(numbers_of(&plans, exact.as_ref().ok()))
-    };
-    Ok([numbers(&before)?, numbers(&after)?].concat())
+        let exact = named.exact(&plans.job, None, 0).ok();
+        Ok(Both { plans, exact })
+    }
+
+    /// The first plan that there is of best, exact and quick, and its name.
+    fn shown(&self) -> (&Plans<'_>, &'static str, &Plan) {
+        let (name, plan) = match (&self.plans.best, &self.exact) {
+            (Ok(best), _) => ("best", best),
+            (Err(_), Some(exact)) => ("exact", exact),
+            (Err(_), None) => ("quick", &self.plans.quick),
+        };
+        (&self.plans, name, plan)
+    }
 }
 
 /// What is said of the boards, the job file of their panel and its list; nothing of either where there is no panel.

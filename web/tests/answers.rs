@@ -1,7 +1,8 @@
 //! What the page is answered: the fields in their order.
 
+use parts::exporting::Format;
 use parts::list::List;
-use parts::planning::{Named, Wish};
+use parts::planning::{Named, Which, Wish};
 use web::answer_to;
 
 /// The fields of an answer, `ok` or `refused` first.
@@ -79,8 +80,90 @@ fn orders_and_positions_are_told() {
 #[test]
 fn what_if_has_three_plans_before_and_after() {
     // With tip 1 the part A makes C and D the only ones off it: six more pairs.
-    let changed = answer(&["changed", LIST, "", "0", "1"]);
-    assert_eq!(changed.len(), 25);
+    let changed = answer(&["changed", LIST, "0", "1"]);
+    assert_eq!(changed.len(), 26);
     assert_eq!(changed[1..13], ["15", "3", "2", "2"].repeat(3));
     assert_eq!(changed[13..25], ["21", "2", "1", "1"].repeat(3));
+    for words in ["best before:</tspan> 15 pairs on 3 tips<", "best after:</tspan> 21 pairs on 2 tips<"] {
+        assert_eq!(changed[25].matches(words).count(), 1, "{words}");
+    }
+    // Several parts, and a tip that is new to the rack: all eight parts are on it. There is no best plan then: A lacks tips 1 and 2.
+    let changed = answer(&["changed", LIST, "0 1 2 3 4 5 6 7", "3"]);
+    assert_eq!([&changed[13..17], &changed[21..25]].concat(), ["28", "1", "0", "0"].repeat(2));
+    assert_eq!(changed[17..21], ["-"; 4]);
+    // What changes nothing is not drawn.
+    assert_eq!(answer(&["changed", LIST, "0", "0"])[25], "");
+    assert_eq!(answer(&["changed", LIST, "8", "0"]), ["refused", "the list has no line of this number"]);
+    assert_eq!(answer(&["changed", LIST, "0", "64"]), ["refused", "no rack has this tip"]);
+}
+
+#[test]
+fn plans_that_are_the_same_are_drawn_once() {
+    let drawn = |list: &str| answer(&["plan", list, "", ""]).swap_remove(19);
+    // All three plans of this list are the same.
+    assert_eq!(drawn(LIST).matches("</tspan>").count(), 1);
+    assert!(drawn(LIST).contains("quick, best and exact:</tspan> 15 pairs on 3 tips<"));
+    // Quick and exact, as there is no best plan; and quick apart from both others.
+    let gap = drawn("rack 3\nA : 1\nB : 2\nC : 0-1\nD : 0 2\n");
+    assert!(
+        gap.contains("quick:</tspan>") && gap.contains("exact:</tspan>") && !gap.contains("best:</tspan>"),
+        "{gap}"
+    );
+    let example = drawn(include_str!("../../docs/example.txt"));
+    assert!(example.contains("quick:</tspan> 11 pairs") && example.contains("best and exact:</tspan> 12 pairs"));
+    assert!(example.contains("its tip in the quick plan") && example.contains("its tip in the best and exact plan"));
+}
+
+/// Three parts of two packages, and a mark.
+const BOARD: &str =
+    "Ref,Val,Package,PosX,PosY,Rot,Side\n\"R1\",\"1k\",\"R_0402\",1,1,0,top\n\"R2\",\"2k\",\"R_0402\",1,1,0,top\n\
+    \"U1\",\"x\",\"SOIC 8\",1,1,0,top\n\"F1\",\"\",\"Fiducial_1mm\",1,1,0,top\n";
+
+#[test]
+fn packages_without_a_row_are_told() {
+    let packages = |table: &str| answer(&["packages", "board", BOARD, table, "", ""]).swap_remove(1);
+    let [resistors, amplifier, mark] =
+        ["R_0402\t2 placements: R1 R2\t\n", "SOIC?8\t1 placement: U1\t\n", "Fiducial_1mm\t1 placement: F1\tskip\n"];
+    assert_eq!(packages(""), [resistors, amplifier, mark].concat());
+    assert_eq!(packages("rack ?\nskip Fid*\n"), [resistors, amplifier].concat());
+    // A row whose tips are still to be written counts, and so does one of another board.
+    for row in ["R_0402 height=1 : # none yet", "R_0402:", "R_0402 :", "R_0402 : 0-1"] {
+        assert_eq!(packages(&format!("# mine\n{row}\nother :\n")), [amplifier, mark].concat(), "{row}");
+    }
+    assert!(packages("rack 2\nR : x\n").starts_with("tips:2: "));
+    let start = |table: &str| answer(&["start", "board", BOARD, table, "", ""]).swap_remove(1);
+    assert!(start("\n").ends_with(
+        "rack ?\nR_0402 : # 2 placements: R1 R2\nSOIC?8 : # 1 placement: U1\nskip Fiducial_1mm # 1 placement: F1\n"
+    ));
+    assert_eq!(start("rack 4\n* : 0\n"), "# every package has a row\n");
+    assert_eq!(start("SOIC* :\nskip F*\n"), "R_0402 : # 2 placements: R1 R2\n");
+}
+
+#[test]
+fn files_are_told_apart() {
+    for (bytes, kind) in [
+        ("TIP", "job"),
+        ("\n <openpnp-board>", "xml"),
+        (BOARD, "placements"),
+        ("### Module positions - made by KiCad", "placements"),
+        ("rack 4\nR_* : 0\n", "table"),
+        ("rack 4\nR1 : 0\n", "list"),
+        ("rack\n", "list"),
+    ] {
+        assert_eq!(answer(&["kind", bytes]), ["ok", kind]);
+    }
+}
+
+#[test]
+fn plans_go_to_other_programs() {
+    let named = Named::of_list(List::read(LIST.as_bytes()).unwrap());
+    for (which, plan, price) in
+        [("quick", Which::Quick, None), ("best", Which::Best, None), ("exact", Which::Exact, Some(3))]
+    {
+        for (form, format) in [("csv", Format::Csv), ("json", Format::Json), ("text", Format::Text)] {
+            let wish = Wish { mounted: Some(1), price, along: None };
+            let told = answer(&["export", form, LIST, which, "1", "3"]);
+            assert_eq!(Ok(&told[1]), named.exported(format, plan, wish).as_ref());
+        }
+    }
 }

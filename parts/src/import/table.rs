@@ -151,31 +151,57 @@ const BEGINNING: &str = "\
 rack ?
 ";
 
-/// A table to begin with: a row for each package, to be filled with tips; or only the rows that a table lacks.
-pub fn beginning(placements: Vec<Placement>, sides: Sides, table: Option<&Table>) -> Result<String, Faults> {
+/// A package that a table has no row for.
+#[derive(Clone, PartialEq, Eq, Debug)]
+pub struct Missing {
+    /// What the row begins with.
+    pub pattern: String,
+    /// How many placements it has, and where they are, in short.
+    pub comment: String,
+    /// Whether it is left out as a rule, as a fiducial is.
+    pub is_left_out: bool,
+}
+
+impl Missing {
+    fn of(group: &Group) -> Missing {
+        let references = distinct(&group.references);
+        let more = if references.len() > MOST_REFERENCES { " .." } else { "" };
+        let named = on_one_line(&references[..references.len().min(MOST_REFERENCES)].join(" "));
+        let package = group.package.to_ascii_lowercase();
+        Missing {
+            pattern: pattern_of(group.package),
+            comment: format!("{}: {named}{more}", counted(group.references.len() as u64, "placement")),
+            is_left_out: NOT_PLACED.iter().any(|word| package.starts_with(word)),
+        }
+    }
+
+    /// Its row, without tips.
+    fn row(&self) -> String {
+        match self {
+            Missing { pattern, comment, is_left_out: true } => format!("{SKIP} {pattern} # {comment}\n"),
+            Missing { pattern, comment, is_left_out: false } => format!("{pattern} : # {comment}\n"),
+        }
+    }
+}
+
+/// The packages of placements that a table lacks, each pattern once; without a table all of them.
+pub fn missing(placements: Vec<Placement>, sides: Sides, table: Option<&Table>) -> Result<Vec<Missing>, Faults> {
     let placements = sides.of_placements(placements, |_| false)?;
-    let mut text = if table.is_none() { BEGINNING.into() } else { String::new() };
     let is_new = |group: &Group| table.is_none_or(|table| matches!(table.known_of(group), Known::Nothing));
     let new: HashSet<&str> =
         groups_of(placements.iter(), true).iter().filter(|group| is_new(group)).map(|group| group.package).collect();
     let groups = groups_of(placements.iter(), false);
     let mut patterns = HashSet::new();
-    for group in groups.iter().filter(|group| new.contains(group.package)) {
-        let (pattern, package) = (pattern_of(group.package), group.package.to_ascii_lowercase());
-        if !patterns.insert(pattern.clone()) {
-            continue;
-        }
-        let references = distinct(&group.references);
-        let more = if references.len() > MOST_REFERENCES { " .." } else { "" };
-        let named = &references[..references.len().min(MOST_REFERENCES)];
-        let comment =
-            format!("{}: {}{more}", counted(group.references.len() as u64, "placement"), on_one_line(&named.join(" ")));
-        text += &match NOT_PLACED.iter().any(|word| package.starts_with(word)) {
-            true => format!("{SKIP} {pattern} # {comment}\n"),
-            false => format!("{pattern} : # {comment}\n"),
-        };
-    }
-    if new.is_empty() {
+    let missing = groups.iter().filter(|group| new.contains(group.package)).map(Missing::of);
+    Ok(missing.filter(|missing| patterns.insert(missing.pattern.clone())).collect())
+}
+
+/// A table to begin with: a row for each package, to be filled with tips; or only the rows that a table lacks.
+pub fn beginning(placements: Vec<Placement>, sides: Sides, table: Option<&Table>) -> Result<String, Faults> {
+    let missing = missing(placements, sides, table)?;
+    let mut text = if table.is_none() { BEGINNING.into() } else { String::new() };
+    text.extend(missing.iter().map(Missing::row));
+    if missing.is_empty() {
         text += "# every package has a row\n";
     }
     Ok(text)
