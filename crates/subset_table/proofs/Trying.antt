@@ -65,7 +65,7 @@ module _ (price : ℕ) (counts scores : List ℕ) (u : ℕ) where
     trying_all z m b =
         let none : largest (left_at rest) m ≡ 0 =
         largest_cong (left_at rest) (λ t. 0) m (λ t _.
-            cond_case (λ x. x ≡ 0) (has rest t) (λ h. absurd (omega (arith, has_some rest t h))) (λ _. refl))
+        cond_case (λ x. x ≡ 0) (has rest t) (λ h. absurd (omega (arith, has_some rest t h))) (λ _. refl))
         ∙ largest_zero m in
         omega (arith, none, r.most m b)
 
