@@ -3,19 +3,23 @@
 
 ghost use Rattle.std.specs.Prelude.{◌≡◌, ◌+◌, ◌*◌, ◌^◌, ◌<◌, ◌≤◌, length, take};
 ghost use Rattle.model.specs.Interval.{C, table as table_of};
-ghost use Rattle.model.specs.Renumber.{names as names_of};
+ghost use Rattle.model.specs.Plan.{has};
+ghost use Rattle.model.specs.Renumber.{names as names_of, rank};
 ghost use Rattle.placements.specs.Repeated.{repeated};
 ghost use Rattle.placements.specs.Good.{All-prop};
 ghost use Rattle.placements.specs.Plans.{best_plan_q};
 ghost use Rattle.spans.specs.Spans.{sums_size};
 ghost use Rattle.head.specs.OnHead.{on_head};
 ghost use Rattle.ranks.specs.Runs.{NamedRuns, FullRuns};
-ghost use Rattle.best.specs.Runs.{Ranked};
+ghost use Rattle.best.specs.Runs.{PlanLent, Ranked, rank_places, TableByRanks};
 ghost use Rattle.std.proofs.Props.{props};
 
 use layout::Counted;
 use spans::{MOST_SUMS, MOST_TABLE, SMALL_SUMS, SMALL_TABLE};
 use spread::Ranking;
+
+// The most tips, in a rack or named, for which the places of a small rack are enough.
+const SMALL_RACK: usize = 16;
 
 // Unbroken runs that name every tip of a rack of m tips, and the tip that is mounted.
 #[derive(Clone, Copy)]
@@ -61,7 +65,7 @@ impl Full<'_> {
         ensures plan { plan.new ≡ best_plan_q (on_head self.now.mounted) self.now.m self.now.quantities.now self.now.sets.now }
         ensures table { table.new ≡ table_of self.now.m (repeated self.now.quantities.now self.now.sets.now) }
     {
-        if self.m <= 16 {
+        if self.m <= SMALL_RACK {
             self.plan_in::<SMALL_SUMS, SMALL_TABLE>(plan, table);
         } else {
             self.plan_in::<MOST_SUMS, MOST_TABLE>(plan, table);
@@ -103,30 +107,91 @@ struct Rack {
 }
 
 impl Rack {
-    // The plan and the table of runs of the named tips, by their ranks: the sets end renumbered.
-    fn plan_named(&self, sets: &mut [u64], quantities: &[u8], plan: &mut [u8], table: &mut [u32])
-        requires runs { NamedRuns self.now.m quantities.now sets.old }
-        requires named { self.now.names ≡ names_of sets.old }
-        requires lines { length plan.old ≡ length sets.old }
-        requires cells { length table.old ≡ self.now.m * self.now.m }
+    // The plan of runs of the named tips, with the table by their ranks at the front. The sets end renumbered; the answer is how many tips are named.
+    fn plan_by_ranks(
+        &self,
+        sets: &mut [u64],
+        quantities: &[u8],
+        plan: &mut [u8],
+        table: &mut [u32],
+    ) -> usize
+        requires lent { PlanLent self.now.names self.now.m quantities.now sets.old plan.old }
+        requires room { rank_places self.now.names self.now.m ≤ length table.old }
+        ensures size { result ≡ rank (has self.now.names) self.now.m }
         ensures plan { plan.new ≡ best_plan_q (on_head self.now.mounted) self.now.m quantities.now sets.old }
-        ensures table { table.new ≡ table_of self.now.m (repeated quantities.now sets.old) }
+        ensures table { TableByRanks self.now.m quantities.now sets.old table.new }
     {
-        let m = self.m;
         let names = self.names;
         let mut rank_list = [0u8; model::MOST_TIPS];
         let mut tip_list = [0u8; model::MOST_TIPS];
-        let count = ranks::list_tips(names, m, &mut rank_list, &mut tip_list);
+        let count = ranks::list_tips(names, self.m, &mut rank_list, &mut tip_list);
         ranks::renumber_lines(sets, &rank_list);
         let on = ranks::renumber_mounted(self.mounted, names, &rank_list);
         plan_ranks(count, on, sets, quantities, plan, table);
         spread::name_tips(&tip_list, plan);
+        count
+    }
+
+    // The plan, and the table spread over the rack.
+    fn plan_named(&self, sets: &mut [u64], quantities: &[u8], plan: &mut [u8], table: &mut [u32])
+        requires lent { PlanLent self.now.names self.now.m quantities.now sets.old plan.old }
+        requires cells { length table.old ≡ self.now.m * self.now.m }
+        ensures plan { plan.new ≡ best_plan_q (on_head self.now.mounted) self.now.m quantities.now sets.old }
+        ensures table { table.new ≡ table_of self.now.m (repeated quantities.now sets.old) }
+    {
+        let count = self.plan_by_ranks(sets, quantities, plan, table);
         let ranking = Ranking {
-            set: names,
-            m,
+            set: self.names,
+            m: self.m,
             count,
         };
         spread::spread_table(&ranking, table);
+    }
+
+    // The plan and the pairs, with the table by ranks at the front. Where each tip of the rack is named, no line is renumbered.
+    fn plan_pairs(
+        &self,
+        sets: &mut [u64],
+        quantities: &[u8],
+        plan: &mut [u8],
+        table: &mut [u32],
+    ) -> u32
+        requires lent { PlanLent self.now.names self.now.m quantities.now sets.old plan.old }
+        requires room { rank_places self.now.names self.now.m ≤ length table.old }
+        ensures pairs { result ≡ C (repeated quantities.now sets.old) 0 self.now.m }
+        ensures plan { plan.new ≡ best_plan_q (on_head self.now.mounted) self.now.m quantities.now sets.old }
+    {
+        let m = self.m;
+        if self.names == tips::between(0, m - 1) {
+            let full = Full {
+                m,
+                mounted: self.mounted,
+                sets,
+                quantities,
+            };
+            full.plan_runs(plan, &mut table[..m * m]);
+            spread::cell_at(m, table, 0, m)
+        } else {
+            let count = self.plan_by_ranks(sets, quantities, plan, table);
+            spread::cell_at(count, table, 0, count)
+        }
+    }
+
+    // The same with a room of its own.
+    fn pairs_in<const PLACES: usize>(
+        &self,
+        sets: &mut [u64],
+        quantities: &[u8],
+        plan: &mut [u8],
+    ) -> u32
+        requires lent { PlanLent self.now.names self.now.m quantities.now sets.old plan.old }
+        requires room { rank_places self.now.names self.now.m ≤ PLACES }
+        requires few { PLACES * 4 < 2 ^ 63 }
+        ensures pairs { result ≡ C (repeated quantities.now sets.old) 0 self.now.m }
+        ensures plan { plan.new ≡ best_plan_q (on_head self.now.mounted) self.now.m quantities.now sets.old }
+    {
+        let mut table = [0u32; PLACES];
+        self.plan_pairs(sets, quantities, plan, &mut table)
     }
 }
 
@@ -161,4 +226,26 @@ pub fn plan_lines(
         rack.plan_named(sets, quantities, plan, table);
     }
     table[m - 1]
+}
+
+// The same without the table: only as much room is cleared as the table by ranks can need, and nothing is spread over the rack.
+pub fn plan_without_table(
+    m: usize,
+    mounted: Option<usize>,
+    sets: &mut [u64],
+    quantities: &[u8],
+    plan: &mut [u8],
+) -> u32
+    requires runs { NamedRuns m quantities.now sets.old }
+    requires lines { length plan.old ≡ length sets.old }
+    ensures pairs { result ≡ C (repeated quantities.now sets.old) 0 m }
+    ensures plan { plan.new ≡ best_plan_q (on_head mounted) m quantities.now sets.old }
+{
+    let names = ranks::names_of(sets);
+    let rack = Rack { m, mounted, names };
+    if names.count_ones() as usize <= SMALL_RACK {
+        rack.pairs_in::<SMALL_TABLE>(sets, quantities, plan)
+    } else {
+        rack.pairs_in::<MOST_TABLE>(sets, quantities, plan)
+    }
 }

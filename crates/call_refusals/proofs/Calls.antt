@@ -5,7 +5,6 @@ use mathlib.Core.Bool.{Bool, true, false, cond}
 use mathlib.Core.List.{List}
 use mathlib.Core.Logic.{⊎_elim}
 use native.Mathlib.Omega.{arith}
-use native.Mathlib.Nat.{mul-le-mul}
 use lib.Dec.{T, eqb, ltb}
 use lib.IntN.{ℤ, pos, negsuc}
 use lib.Signed.{lt_z}
@@ -204,10 +203,6 @@ run-told {m} {lines} narrow ds n =
         (λ p. absurd (n (ap (λ r. r.number) (scan_passes run (λ _. 25) lines (none_fails run lines p)))))
         (λ p. p)
         (le_or_lt (length lines) (first_fail run lines))
-
--- the places of a table are few
-pub square_most : {m : ℕ} → m ≤ most_tips → m * m ≤ most_tips * most_tips
-square_most h = mul-le-mul h h
 
 -- an earlier refusal stays
 module _ (earlier : Refusal) (n : earlier.number ≡ 0 → ⊥) where

@@ -2,19 +2,17 @@
 #![tactic(auto)]
 
 mod claimed;
+mod fitting;
+mod ranked;
 mod tabled;
 
-ghost use Rattle.std.specs.Prelude.{◌≡◌, ◌+◌, ◌*◌, ◌^◌, ◌<◌, ◌≤◌, length};
-ghost use Rattle.model.specs.Limits.{most_tips};
-ghost use Rattle.spans.specs.Spans.{sums_size};
-ghost use Rattle.goal_rules.specs.Check.{entry};
+ghost use Rattle.std.specs.Prelude.{◌≡◌, ◌*◌, ◌≤◌, length};
 ghost use Rattle.refusal.specs.Reasons.{refusal_of};
 ghost use Rattle.ranks.specs.Runs.{RunsOf};
 ghost use Rattle.checking.specs.Checking.{check_refusal};
 
 use placements::Lines;
 use refusal::{Reason, Refused};
-use tabled::Foreign;
 
 // `ForeignTip`, `WrongClaim` or `WrongTable`, or nothing where all is accepted. `names` is the set of the tips that the lines name.
 // The clauses on lengths stay: they are sizes of two buffers of the caller.
@@ -31,10 +29,6 @@ pub fn check_plan(
     ensures { refusal_of result ≡ check_refusal lines.entry.rack lines.entry.quantities.now lines.entry.sets.now plan.now claim table.now }
 {
     claimed::claim_refusal(lines.sets, lines.quantities, plan, claim)?;
-    let m = lines.rack;
-    let mut room = [0u32; spans::MOST_SUMS];
-    let sums = &mut room[..spans::sums_size(m)];
-    spans::sum_spans(m, lines.sets, lines.quantities, sums);
-    let foreign = Foreign { m, sums, table };
-    refusal::refuse_when(!foreign.fits(names, claim), Reason::WrongTable)
+    let fits = fitting::table_fits(lines, names, claim, table);
+    refusal::refuse_when(!fits, Reason::WrongTable)
 }

@@ -1,14 +1,14 @@
 // The common tip of lines and their pruning, counted in placements: the occurrences of all tips are counted in one pass.
 #![tactic(auto)]
 
-ghost use Rattle.std.specs.Prelude.{◌≡◌, ◌-◌, ◌≤◌, length};
+ghost use Rattle.std.specs.Prelude.{◌≡◌, ◌-◌, ◌≤◌, leb, length};
 ghost use mathlib.Core.List.{map, zip_with};
-ghost use Rattle.model.specs.Count.{All};
-ghost use Rattle.model.specs.CommonTip.{top, W, margin as margin_of};
+ghost use Rattle.model.specs.Count.{All, largest};
+ghost use Rattle.model.specs.CommonTip.{set_of, top, W, margin as margin_of};
 ghost use Rattle.placements.specs.Repeated.{total, repeated};
 ghost use Rattle.placements.specs.Keep.{V};
 ghost use Rattle.model.specs.Limits.{most_placements};
-ghost use Rattle.counts.specs.Counts.{Countable};
+ghost use Rattle.counts.specs.Counts.{count_at, busy_tips, Countable};
 ghost use Rattle.common_tip.specs.Common.{margin_by, least_count, narrow_by, kept_by, kept_lines};
 
 use placements::Lines;
@@ -21,19 +21,30 @@ pub struct Common {
     pub tips: u64,
 }
 
+// What the occurrences of each tip in n placements tell. `rack ≤ 64` stays a clause here and below: it bounds a number that is passed.
+pub fn common_by(planes: &[u64; counts::PLANES], rack: usize, n: usize) -> Common
+    requires rack { rack ≤ 64 }
+    requires n { largest (count_at planes.now) rack ≤ n }
+    ensures top { result.top ≡ largest (count_at planes.now) rack }
+    ensures off { result.off ≡ n - result.top }
+    ensures tips { result.tips ≡ busy_tips (count_at planes.now) result.top rack }
+{
+    let busiest = counts::busiest_tips(planes, rack);
+    let top = busiest.top as usize;
+    Common {
+        top,
+        off: n - top,
+        tips: busiest.tips,
+    }
+}
+
 pub fn common_tip(lines: Lines<'_>) -> Common
     ensures top { result.top ≡ top lines.entry.rack (repeated lines.entry.quantities.now lines.entry.sets.now) }
     ensures off { result.off ≡ total lines.entry.quantities.now - result.top }
     ensures tips { result.tips ≡ W lines.entry.rack (repeated lines.entry.quantities.now lines.entry.sets.now) }
 {
     let planes = counts::count_tips(lines.sets, lines.quantities);
-    let busiest = counts::busiest_tips(&planes, lines.rack);
-    let top = busiest.top as usize;
-    Common {
-        top,
-        off: lines.total() - top,
-        tips: busiest.tips,
-    }
+    common_by(&planes, lines.rack, lines.total())
 }
 
 // Top, less the placements, plus k.
@@ -53,13 +64,29 @@ fn least_count(n: usize, k: u16) -> usize
 
 // The margin, the number of placements, and the set V of the tips in some line that all but at most k of the placements allow.
 #[derive(Clone, Copy)]
-struct Bound {
-    margin: i32,
-    n: usize,
-    tips: u64,
+pub struct Bound {
+    pub margin: i32,
+    pub n: usize,
+    pub tips: u64,
 }
 
-// `rack ≤ 64` stays a clause here and below: it bounds a number that is passed.
+// What the occurrences of each tip in n placements tell of keep within k.
+pub fn bound_by(planes: &[u64; counts::PLANES], rack: usize, n: usize, k: u16) -> Bound
+    requires rack { rack ≤ 64 }
+    requires n { n ≤ most_placements }
+    requires top { largest (count_at planes.now) rack ≤ n }
+    ensures margin { result.margin ≡ margin_by (largest (count_at planes.now) rack) n k }
+    ensures n { result.n ≡ n }
+    ensures tips { result.tips ≡ set_of (λ t. leb (least_count n k) (count_at planes.now t)) rack }
+{
+    let busiest = counts::busiest_tips(planes, rack);
+    Bound {
+        margin: margin(busiest.top as usize, n, k),
+        n,
+        tips: counts::tips_with(planes, rack, least_count(n, k)),
+    }
+}
+
 fn within(rack: usize, k: u16, lines: &[u64], quantities: &[u8]) -> Bound
     requires rack { rack ≤ 64 }
     requires countable { Countable quantities.now lines.now }
@@ -68,16 +95,11 @@ fn within(rack: usize, k: u16, lines: &[u64], quantities: &[u8]) -> Bound
     ensures tips { result.tips ≡ V rack (repeated quantities.now lines.now) k }
 {
     let planes = counts::count_tips(lines, quantities);
-    let busiest = counts::busiest_tips(&planes, rack);
-    let n = placements::total(quantities);
-    Bound {
-        margin: margin(busiest.top as usize, n, k),
-        n,
-        tips: counts::tips_with(&planes, rack, least_count(n, k)),
-    }
+    bound_by(&planes, rack, placements::total(quantities), k)
 }
 
-fn narrow(set: u64, v: u64) -> u64
+// A set that has all of v keeps only v.
+pub fn narrow(set: u64, v: u64) -> u64
     ensures { result ≡ narrow_by v set }
 {
     if set & v == v { v } else { set }

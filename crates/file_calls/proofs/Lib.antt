@@ -1,7 +1,9 @@
 pub mod Signed
 pub mod ReadLines
+pub mod CommonFile
 pub mod WrittenFile
 pub mod KeptFile
+pub mod KeptPlain
 pub mod GoalFile
 pub mod TwoFiles
 pub mod JuniorIn

@@ -4,29 +4,32 @@
 ghost use Rattle.std.specs.Prelude.{◌≡◌, ◌≤◌, length};
 ghost use Rattle.model.specs.Limits.{most_lines, most_pairs};
 ghost use Rattle.head.specs.OnHead.{on_head};
-ghost use Rattle.file_calls.specs.Outcomes.{outcome_of, kept_outcome_of, twos_complement};
-ghost use Rattle.file_calls.specs.Calls.{read_in, common_in, keep_in, keep_file_in, quick_in, quick_plan_in, best_in, best_plan_in, best_table_in};
+ghost use Rattle.file_calls.specs.Outcomes.{outcome_of, twos_complement};
+ghost use Rattle.file_calls.specs.Calls.{read_in, quick_in, quick_plan_in, best_in, best_plan_in, best_table_in};
 ghost use Rattle.file_calls.specs.Calls.{check_in};
-ghost use Rattle.file_calls.specs.Rules.{CommonRuleOf, KeepRuleOf, HalfRuleOf, BestRuleOf, CheckRuleOf, ReadRuleOf, TableRuleOf, CheckAcceptsOf};
+ghost use Rattle.file_calls.specs.Rules.{HalfRuleOf, BestRuleOf, CheckRuleOf, ReadRuleOf, TableRuleOf, CheckAcceptsOf};
 ghost use Rattle.job_read.specs.Reading.{HasRoom};
 ghost use Rattle.cases.specs.Cases.{Told};
-ghost use Rattle.file_calls.specs.Cases.{read_cases, keep_cases, quick_cases, best_cases, check_cases};
+ghost use Rattle.file_calls.specs.Cases.{read_cases, quick_cases, best_cases, check_cases};
 
 use job_read::{FEW, MOST, Room, RoomOf};
-use placements::Lines;
-use refusal::{Refused, Unkept};
+use refusal::Refused;
 
 mod along_call;
+mod common_call;
 mod exact_call;
 mod goal_call;
 mod junior_call;
+mod keep_call;
 mod mend_call;
 mod panel_calls;
 
 pub use along_call::along_outcome;
+pub use common_call::common_outcome;
 pub use exact_call::exact_outcome;
 pub use goal_call::goal_outcome;
 pub use junior_call::junior_outcome;
+pub use keep_call::keep_outcome;
 pub use mend_call::mend_outcome;
 pub use panel_calls::{alone_outcome, merge_outcome};
 
@@ -67,47 +70,6 @@ pub fn read_outcome(file: &[u8]) -> Result<Counts, Refused>
     Ok(Counts {
         first: opened.file.header.rack as u64,
         second: opened.file.header.count as u64,
-        third: 0,
-    })
-}
-
-pub fn common_outcome(file: &[u8]) -> Result<Counts, Refused>
-    ensures outcome { outcome_of result ≡ common_in file.now }
-    ensures rule { CommonRuleOf file.now (outcome_of result) }
-    ensures cases { Told (read_cases file.now) (outcome_of result).refusal }
-{
-    let mut room = Room::new();
-    let lines = room.read(file)?;
-    let found = line_calls::common(lines);
-    Ok(Counts {
-        first: found.top as u64,
-        second: found.off as u64,
-        third: found.tips,
-    })
-}
-
-// The sets are pruned in place, so that they are lent by themselves and not by a `Room`.
-pub fn keep_outcome(file: &[u8], k: u16, out: &mut [u8]) -> Result<Counts, Unkept>
-    ensures outcome { kept_outcome_of result ≡ keep_in file.now k (length out.old) }
-    ensures out { out.new ≡ keep_file_in file.now k out.old }
-    ensures rule { KeepRuleOf file.now k out.new (kept_outcome_of result) }
-    ensures cases { Told (keep_cases file.now k (length out.old)) (kept_outcome_of result).refusal }
-{
-    let mut sets = [0u64; model::MOST_LINES];
-    let mut quantities = [0u8; model::MOST_LINES];
-    let read = job_read::read_lines(file, &mut sets, &mut quantities)?;
-    let sets = &mut sets[..read.count];
-    let quantities = &quantities[..read.count];
-    let margin = line_calls::keep(read.rack, sets, quantities, k)?;
-    let kept = Lines {
-        rack: read.rack,
-        sets,
-        quantities,
-    };
-    let bytes = line_calls::write(kept, out)?;
-    Ok(Counts {
-        first: twos_complement(margin),
-        second: bytes as u64,
         third: 0,
     })
 }

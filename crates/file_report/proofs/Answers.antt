@@ -4,11 +4,11 @@ use mathlib.Core.Path.{◌≡◌, refl, sym, ap, ◌∙◌}
 use mathlib.Core.Bool.{Bool, true, false}
 use mathlib.Core.List.{List, ◌++◌, append-nil}
 use native.Mathlib.Omega.{arith}
+use native.Mathlib.Nat.{le_refl}
 use lib.Dec.{T, eqb}
 use lib.ListN.{length, drop, drop_of_length-le}
 use borrow.Author.Tests.{eqb-true, ne_eqb, le-ltb}
 use Rattle.model.specs.Count.{each}
-use Rattle.model.specs.Limits.{most_tips}
 use Rattle.model.specs.Plan.{pairs}
 use Rattle.model.specs.Choice.{bare}
 use Rattle.model.specs.CommonTip.{top, W}
@@ -25,7 +25,7 @@ use Rattle.refusal.specs.Reasons.{reason_number, refusal_of, count_in}
 use Rattle.refusal.specs.Refusal.{none, accepts, or_else}
 use Rattle.refusal.proofs.Laws.{scan-none, scan_passes, reason_not_0}
 use Rattle.call_refusals.specs.Calls.{plan_refusal, run_refusal, best_refusal}
-use Rattle.call_refusals.proofs.Calls.{best-run, square_most}
+use Rattle.call_refusals.proofs.Calls.{best-run}
 use Rattle.line_calls.specs.Answers.{CommonAnswer}
 use Rattle.line_calls.specs.Answers.{PlanAnswer, plan_told}
 use Rattle.line_calls.specs.Lines.{common_of, quick_of, quick_buffer, best_of, best_buffer}
@@ -68,15 +68,15 @@ module _ {m : ℕ} {qs lines : List ℕ} (good : GoodLines m qs lines) where
     unfolding quick_of quick_buffer
     quick_is e f = rw (e, f, plan_long) (refl, whole lines (quick_plan_q bare m qs lines) old size)
 
-    -- both buffers are long enough: what is left to refuse is a line that is no run
-    best-left : {places : ℕ} → places ≡ most_tips * most_tips → best_refusal none m lines (length old) places ≡ run_refusal lines
-    best-left e = sym (best-run none refl m lines (length old) _ (omega (arith, size)) (omega (arith, e, square_most good.most)))
+    -- for best sharing too: what is left to refuse is a line that is no run
+    best-left : best_refusal none m lines (length old) (m * m) ≡ run_refusal lines
+    best-left = sym (best-run none refl m lines (length old) (m * m) (omega (arith, size)) (le_refl (m * m)))
 
-    pub best_is : {places : ℕ} → places ≡ most_tips * most_tips → {r : PlanAnswer} {out : List ℕ}
-        → r ≡ best_of none m qs lines (length old) places → out ≡ best_buffer none m bare qs lines old places
+    pub best_is : {r : PlanAnswer} {out : List ℕ}
+        → r ≡ best_of none m qs lines (length old) (m * m) → out ≡ best_buffer none m bare qs lines old (m * m)
         → BestTold m qs lines (eqb r.refusal.number 0) r.pairs out
     unfolding best_of best_buffer
-    best_is s e f = rw (e, f, best-left s) (record {
+    best_is e f = rw (e, f, best-left) (record {
       runs_are = runs_each lines;
       pairs_are = λ t. rw (true_T (accepts (run_refusal lines)) t) refl;
       plan_is = λ t. rw (true_T (accepts (run_refusal lines)) t) (whole lines (best_plan_q bare m qs lines) old size);

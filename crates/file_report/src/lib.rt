@@ -21,8 +21,7 @@ fn best_lines(lines: Lines<'_>, plan: &mut [u8]) -> Option<u32>
     ensures { BestTold lines.entry.rack lines.entry.quantities.now lines.entry.sets.now
         (is_some result) (unwrap_or result 0) plan.new }
 {
-    let mut table = [0u32; model::MOST_TIPS * model::MOST_TIPS];
-    line_calls::best(lines, None, plan, &mut table).ok()
+    line_calls::best_plan(lines, None, plan).ok()
 }
 
 // The report on lines; both plans have a byte a line.

@@ -99,37 +99,33 @@ module _ (earlier : Refusal) (m : ℕ) (mounted : Mounted) (qs lines old : List 
 
 -- ---- best sharing
 
-module _ (earlier : Refusal) (m : ℕ) (mounted : Mounted) (qs lines old cells : List ℕ) {d : Refusal}
-    (e : d ≡ best_refusal earlier m lines (length old) (length cells)) where
+module _ (earlier : Refusal) (m : ℕ) (mounted : Mounted) (qs lines old : List ℕ) (places : ℕ) {d : Refusal}
+    (e : d ≡ best_refusal earlier m lines (length old) places) where
   -- the lines are runs of the named tips where best sharing is not refused
   pub best_runs : d.number ≡ 0 → All (λ s. T (is_run_of (named lines) s)) lines
-  best_runs z = (best_none earlier m lines (length old) (length cells) (number_of e z)).runs
+  best_runs z = (best_none earlier m lines (length old) places (number_of e z)).runs
 
-  -- the four clauses of best sharing, for what the code answers and leaves
-  abbrev Best : PlanAnswer → List ℕ → List ℕ → Type 0
-  Best r last grid =
-      (r ≡ best_of earlier m qs lines (length old) (length cells))
-      × ((last ≡ best_buffer earlier m mounted qs lines old (length cells))
-      × ((grid ≡ best_table earlier m qs lines (length old) cells) × BestRule qs lines last r.refusal.number r.pairs))
+  -- the three clauses of best sharing without its table, for what the code answers and leaves
+  abbrev BestPlan : PlanAnswer → List ℕ → Type 0
+  BestPlan r last =
+      (r ≡ best_of earlier m qs lines (length old) places)
+      × ((last ≡ best_buffer earlier m mounted qs lines old places) × BestRule qs lines last r.refusal.number r.pairs)
 
-  pub best-refused : (d.number ≡ 0 → ⊥) → Best (record { refusal = d; pairs = 0 }) old cells
-  unfolding best_of best_buffer best_table
-  best-refused f = (
+  pub best-plan_refused : (d.number ≡ 0 → ⊥) → BestPlan (record { refusal = d; pairs = 0 }) old
+  unfolding best_of best_buffer
+  best-plan_refused f = (
     plan_refused e f (C (repeated qs lines) 0 m),
     (
       lent_refused e (length lines) (best_plan_q mounted m qs lines) old f,
-      (
-        lent_refused e (m * m) (table m (repeated qs lines)) cells f,
-        record { runs = λ z. absurd (f z); plan = λ z. absurd (f z); best = λ z. absurd (f z) },
-      ),
+      record { runs = λ z. absurd (f z); plan = λ z. absurd (f z); best = λ z. absurd (f z) },
     ),
   )
 
-  pub best_accepted : d.number ≡ 0 → GoodLines m qs lines → {n : ℕ} → n ≡ length lines → {x : ℕ} {out grid : List ℕ}
-      → x ≡ C (repeated qs lines) 0 m → out ≡ best_plan_q mounted m qs lines → grid ≡ table m (repeated qs lines)
-      → Best (record { refusal = d; pairs = x }) (out ++ drop n old) (grid ++ drop (m * m) cells)
-  unfolding best_of best_buffer best_table
-  best_accepted z r {n} s {x} {out} q o g =
+  pub best-plan_accepted : d.number ≡ 0 → GoodLines m qs lines → {n : ℕ} → n ≡ length lines → {x : ℕ} {out : List ℕ}
+      → x ≡ C (repeated qs lines) 0 m → out ≡ best_plan_q mounted m qs lines
+      → BestPlan (record { refusal = d; pairs = x }) (out ++ drop n old)
+  unfolding best_of best_buffer
+  best-plan_accepted z r {n} s {x} {out} q o =
       let runs = best_runs z in
       let plan = best_plan_q mounted m qs lines in
       let all = best-pairs-placements mounted r.domains r.placed r.same r.most runs in
@@ -137,13 +133,33 @@ module _ (earlier : Refusal) (m : ℕ) (mounted : Mounted) (qs lines old cells :
         plan_accepted e z (C (repeated qs lines) 0 m) q,
         (
           rw s (lent_accepted e (length lines) plan old z o),
-          (
-            lent_accepted e (m * m) (table m (repeated qs lines)) cells z g,
-            record {
-              runs = λ _. all_map (λ s (d, t). run_misses r.most d lines t) (all_both r.domains runs);
-              plan = λ _. rw o (handed_out qs n s old x (best_valid_lines mounted r.domains r.placed r.same r.most runs) counted);
-              best = λ _ other v. rw counted (best-placements mounted r.domains r.placed r.same r.most runs v);
-            },
-          ),
+          record {
+            runs = λ _. all_map (λ s (d, t). run_misses r.most d lines t) (all_both r.domains runs);
+            plan = λ _. rw o (handed_out qs n s old x (best_valid_lines mounted r.domains r.placed r.same r.most runs) counted);
+            best = λ _ other v. rw counted (best-placements mounted r.domains r.placed r.same r.most runs v);
+          },
         ),
       )
+
+module _ (earlier : Refusal) (m : ℕ) (mounted : Mounted) (qs lines old cells : List ℕ) {d : Refusal}
+    (e : d ≡ best_refusal earlier m lines (length old) (length cells)) where
+  -- and with its table
+  abbrev Best : PlanAnswer → List ℕ → List ℕ → Type 0
+  Best r last grid =
+      (r ≡ best_of earlier m qs lines (length old) (length cells))
+      × ((last ≡ best_buffer earlier m mounted qs lines old (length cells))
+      × ((grid ≡ best_table earlier m qs lines (length old) cells) × BestRule qs lines last r.refusal.number r.pairs))
+
+  pub best-refused : (d.number ≡ 0 → ⊥) → Best (record { refusal = d; pairs = 0 }) old cells
+  unfolding best_table
+  best-refused f =
+      let (answer, (plan, rule)) = best-plan_refused earlier m mounted qs lines old (length cells) e f in
+      (answer, (plan, (lent_refused e (m * m) (table m (repeated qs lines)) cells f, rule)))
+
+  pub best_accepted : d.number ≡ 0 → GoodLines m qs lines → {n : ℕ} → n ≡ length lines → {x : ℕ} {out grid : List ℕ}
+      → x ≡ C (repeated qs lines) 0 m → out ≡ best_plan_q mounted m qs lines → grid ≡ table m (repeated qs lines)
+      → Best (record { refusal = d; pairs = x }) (out ++ drop n old) (grid ++ drop (m * m) cells)
+  unfolding best_table
+  best_accepted z good s q o g =
+      let (answer, (plan, rule)) = best-plan_accepted earlier m mounted qs lines old (length cells) e z good s q o in
+      (answer, (plan, (lent_accepted e (m * m) (table m (repeated qs lines)) cells z g, rule)))

@@ -1,7 +1,7 @@
 // Each call on lines that are good: the board and a call on a file ask first what comes before.
 #![tactic(auto)]
 
-ghost use Rattle.std.specs.Prelude.{◌≡◌, Ok, length};
+ghost use Rattle.std.specs.Prelude.{◌≡◌, ◌*◌, Ok, length};
 ghost use Rattle.placements.specs.Good.{GoodLines};
 ghost use Rattle.head.specs.OnHead.{on_head};
 ghost use Rattle.refusal.specs.Refusal.{none};
@@ -101,6 +101,31 @@ pub fn best(
         lines.quantities,
         &mut plan[..count],
         &mut table[..square],
+    ))
+}
+
+// The same plan and pairs without the table, which some callers have no use for: it answers as `best` does with a table that is long enough.
+pub fn best_plan(lines: Lines<'_>, mounted: Option<usize>, plan: &mut [u8]) -> Result<u32, Refused>
+    ensures answer { plan_told result ≡ best_of (mounted_refusal none lines.entry.rack (on_head mounted)) lines.entry.rack
+        lines.entry.quantities.now lines.entry.sets.now (length plan.old) (lines.entry.rack * lines.entry.rack) }
+    ensures plan { plan.new ≡ best_buffer (mounted_refusal none lines.entry.rack (on_head mounted)) lines.entry.rack (on_head mounted)
+        lines.entry.quantities.now lines.entry.sets.now plan.old (lines.entry.rack * lines.entry.rack) }
+    ensures rule { BestRule lines.entry.quantities.now lines.entry.sets.now
+        plan.new (refusal_of result).number (plan_told result).pairs }
+{
+    call_refusals::mounted_refusal(lines.rack, mounted)?;
+    let square = lines.rack * lines.rack;
+    call_refusals::best_refusal(lines.rack, lines.sets, plan.len(), square)?;
+    let count = lines.len();
+    let mut room = [0u64; model::MOST_LINES];
+    let left = &mut room[..count];
+    unplanned::copy_sets(lines.sets, left);
+    Ok(best::plan_without_table(
+        lines.rack,
+        mounted,
+        left,
+        lines.quantities,
+        &mut plan[..count],
     ))
 }
 

@@ -20,7 +20,7 @@ pub struct Ranking {
 
 // The number of the table of r columns for the ranks from first to before end. No rank has 0 pairs: the number becomes a table's.
 #[tactic(auto, using(std::proofs::lemmas::Bool::cond_below, std::proofs::lemmas::Bool::cond_above), unfolding(crate::specs::Spread::cell_at))]
-fn cell_at(r: usize, table: &[u32], first: usize, end: usize) -> u32
+pub fn cell_at(r: usize, table: &[u32], first: usize, end: usize) -> u32
     requires { first < end → first * r + (end - 1) < length table.now }
     ensures { result ≡ cell_at r table.now first end }
 {

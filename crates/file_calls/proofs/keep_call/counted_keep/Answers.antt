@@ -3,15 +3,13 @@ use mir.Syntax.{w32}
 use mir.Val.{to_z, of_z}
 use lib.Seq.{length-take-le}
 use Rattle.std.proofs.Common.{rules, Err, pos}
-use Rattle.model.proofs.Lists.{all_get_d}
 use Rattle.refusal.specs.Refusal.{none}
 use Rattle.job_read.proofs.ReadLines.{first_good, given_read}
 use Rattle.line_calls.proofs.KeepWithin.{keep_bits}
 use Rattle.file_calls.proofs.ReadLines.{same_lines}
-use Rattle.file_calls.proofs.KeptFile.{kept-lines, good-kept, kept-ruled, margin-refused, write-refused, kept-written}
+use Rattle.file_calls.proofs.KeptFile.{kept-lines, good-kept, margin-refused, write-refused, kept-written}
 use Rattle.file_calls.proofs.Stopped.{keep_read}
-use Rattle.file_calls.proofs.CasesTold.{keep_told}
-use Rattle.file_calls.proofs.keep_outcome.Goals as goal
+use Rattle.file_calls.proofs.keep_call.counted_keep.Goals as goal
 
 pub returns-in_err-read : goal.returns-in_err-read
 returns-in_err-read c =
@@ -19,9 +17,7 @@ returns-in_err-read c =
     let e = c.in_err-read.field-0.0 in
     let same : c.from_residual.result ≡ Err (record { refused = e; margin = pos 0 }) = search rules in
     let (outcome, out) = keep_read a.file.now e c.in_err-read.ensures.refusal a.k a.out.now in
-    let bytes = all_get_d 0 a.file.now (λ i l. (c.type_inv.file i).fits) in
-    let told = keep_told a.file.now a.k _ outcome in
-    rw same (record { outcome = outcome; out = out; rule = kept-ruled a.file.now a.k a.out.now bytes outcome out; cases = told })
+    rw same (record { outcome = outcome; out = out })
 
 pub slice_bounds-sets-end : goal.slice_bounds-sets-end
 slice_bounds-sets-end c = (given_read c.in_ok-read.ensures.lines c.in_ok-read.ensures.refusal).room refl
@@ -47,9 +43,7 @@ returns-in_err-margin c =
     let good = first_good read.lines (ap (λ r. r.number) (sym read.refusal)) in
     let (outcome, out) =
     margin-refused a.file.now read.refusal (λ _. good) (λ _. same_lines read.lines) a.k a.out.now e c.in_err-margin.ensures.answer in
-    let bytes = all_get_d 0 a.file.now (λ i l. (c.type_inv.file i).fits) in
-    let told = keep_told a.file.now a.k _ outcome in
-    rw same (record { outcome = outcome; out = out; rule = kept-ruled a.file.now a.k a.out.now bytes outcome out; cases = told })
+    rw same (record { outcome = outcome; out = out })
 
 pub invariant_of-kept : goal.invariant_of-kept
 invariant_of-kept c =
@@ -71,9 +65,7 @@ returns-in_err-bytes c =
     let (outcome, out) =
     write-refused a.file.now read.refusal (λ _. good) (λ _. same_lines read.lines) a.k a.out.now kept.answer (λ _. all) e
     written.answer written.buffer in
-    let bytes = all_get_d 0 a.file.now (λ i l. (c.type_inv.file i).fits) in
-    let told = keep_told a.file.now a.k _ outcome in
-    rw same (record { outcome = outcome; out = out; rule = kept-ruled a.file.now a.k a.out.now bytes outcome out; cases = told })
+    rw same (record { outcome = outcome; out = out })
 
 pub returns : goal.returns
 returns c =
@@ -86,9 +78,6 @@ returns c =
     let (outcome, out) =
     kept-written a.file.now read.refusal (λ _. good) (λ _. same_lines read.lines) a.k a.out.now kept.answer (λ _. all) c.in_ok-bytes.bytes
     written.answer written.buffer in
-    let bytes = all_get_d 0 a.file.now (λ i l. (c.type_inv.file i).fits) in
     let margin = ap (λ r. r.margin) kept.answer in
     let bits = subst (λ y. to_z w32 (of_z w32 y) ≡ y) (sym margin) (keep_bits none a.k (λ _. good) c.ranges.k.fits) in
-    let told = keep_told a.file.now a.k _ outcome in
-    let rule = kept-ruled a.file.now a.k a.out.now bytes outcome out in
-    rw (c.twos_complement.ensures, bits) (record { outcome = outcome; out = out; rule = rule; cases = told })
+    rw (c.twos_complement.ensures, bits) (record { outcome = outcome; out = out })
