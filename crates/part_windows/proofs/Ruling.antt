@@ -12,7 +12,7 @@ use Rattle.model.proofs.Tests.{T_true}
 use Rattle.model.proofs.ListOf.{length-list_of, list_of-at}
 use Rattle.refusal.specs.Told.{Refusal}
 use Rattle.refusal.specs.Refusal as R
-use Rattle.refusal.proofs.Laws.{refused, accepted, lent_refused, lent_accepted}
+use Rattle.refusal.proofs.Laws.{lent_refused, lent_accepted}
 use Rattle.order_rules.specs.declared.Part.{Part}
 use Rattle.order_rules.specs.declared.Rule.{Rule}
 use Rattle.order_rules.specs.Parts.{window_ok, task_of, placing_order}
@@ -20,13 +20,10 @@ use Rattle.order_rules.specs.Call.{absent, given_refusal, order_refusal}
 use Rattle.order_rules.proofs.Parts.{last-below}
 use Rattle.order_rules.proofs.Refused.{given_refused, no_order, one_order}
 use Rattle.order_rules.proofs.Ruling.{windows_passed, order_obeys, order_none}
-use Rattle.placing.specs.Numbers.{parts_in, rules_in, numbers_refusal, order_in}
-use Rattle.placing.proofs.Numbered.{fit_in}
 use Rattle.windows.specs.Bounds.{solvable, soonest, latest}
 use Rattle.windows.specs.Found.{FoundBounds}
 use Rattle.windows.proofs.Bounds.{solvable_iff, bounds}
 use Rattle.part_windows.specs.Call.{room, soonest_of, latest_of, first_after, last_after, WindowsAnswer, WindowsRule}
-use Rattle.part_windows.specs.Call.{first_after_in, last_after_in, WindowsRuleIn}
 
 -- ---- an order, or none
 
@@ -119,28 +116,3 @@ module _ (parts : List Part) (rules : List Rule) (first last : List ℕ) where
           firsts = lent_accepted e n _ first refl (rw s at b.firsts);
           lasts = lent_accepted e n _ last refl (rw s at b.lasts);
         }
-
--- ---- the answer for plain numbers
-
-module _ (parts rules first last : List ℕ) where
-  pub misfit_buffers : {r : Refusal} → r ≡ numbers_refusal parts rules → (r.number ≡ 0 → ⊥)
-      → (first ≡ first_after_in parts rules first last) × (last ≡ last_after_in parts rules first last)
-  unfolding first_after_in last_after_in
-  misfit_buffers e n = (sym (refused _ _ e n), sym (refused _ _ e n))
-
-  -- of numbers that are four a part and two a rule, the answer for the parts and rules that they stand for
-  pub record AnswerIn (new_first new_last : List ℕ) (r : Refusal) : Type 0 where
-    pub refusal : r ≡ order_in parts rules (room first last)
-    pub firsts : new_first ≡ first_after_in parts rules first last
-    pub lasts : new_last ≡ last_after_in parts rules first last
-    pub rule : WindowsRuleIn parts rules (room first last) new_first new_last r
-
-  pub fit_answer : R.none ≡ numbers_refusal parts rules → {new_first new_last : List ℕ} {r : Refusal}
-      → WindowsAnswer (parts_in parts) (rules_in rules) first last new_first new_last r → AnswerIn new_first new_last r
-  unfolding first_after_in last_after_in
-  fit_answer passed x = record {
-    refusal = fit_in parts rules (room first last) passed x.refusal;
-    firsts = x.firsts ∙ sym (accepted _ _ passed refl);
-    lasts = x.lasts ∙ sym (accepted _ _ passed refl);
-    rule = λ _. windows_rule x;
-  }

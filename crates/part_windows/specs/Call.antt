@@ -1,14 +1,13 @@
 -- What the call for the windows of the parts answers, and what it leaves in its two buffers. Its refusals are those of the placing order, with
 -- the room of the shorter buffer.
-use Rattle.std.specs.Prelude.{ℕ, ◌<◌, ◌≡◌, min, cond, List, length, get_or}
+use Rattle.std.specs.Prelude.{ℕ, ◌<◌, ◌≡◌, min, List, length, get_or}
 use Rattle.model.specs.Count.{list_of}
 use Rattle.refusal.specs.Told.{Refusal}
-use Rattle.refusal.specs.Refusal.{accepts, lent_by}
+use Rattle.refusal.specs.Refusal.{lent_by}
 use Rattle.order_rules.specs.declared.Part.{Part}
 use Rattle.order_rules.specs.declared.Rule.{Rule}
 use Rattle.order_rules.specs.Parts.{task_of}
 use Rattle.order_rules.specs.Call.{given_refusal, order_refusal, NoneObeys}
-use Rattle.placing.specs.Numbers.{parts_in, rules_in, numbers_refusal}
 use Rattle.windows.specs.Bounds.{soonest, latest, Bounds}
 
 -- how many parts both buffers have room for
@@ -40,17 +39,3 @@ pub record WindowsAnswer (parts : List Part) (rules : List Rule) (first₀ last�
 pub record WindowsRule (parts : List Part) (rules : List Rule) (room : ℕ) (first last : List ℕ) (r : Refusal) : Type 0 where
   pub exact : r.number ≡ 0 → (i : ℕ) → i < length parts → Bounds (task_of parts rules) i (get_or first i 0) (get_or last i 0)
   pub none : NoneObeys (task_of parts rules) (given_refusal parts rules room) r
-
--- the buffers after the call on plain numbers
-unfoldable pub first_after_in : List ℕ → List ℕ → List ℕ → List ℕ → List ℕ
-first_after_in parts rules first last =
-    cond (accepts (numbers_refusal parts rules)) (first_after (parts_in parts) (rules_in rules) first last) first
-
-unfoldable pub last_after_in : List ℕ → List ℕ → List ℕ → List ℕ → List ℕ
-last_after_in parts rules first last =
-    cond (accepts (numbers_refusal parts rules)) (last_after (parts_in parts) (rules_in rules) first last) last
-
--- what the answer means, for numbers that are four a part and two a rule
-abbrev pub WindowsRuleIn : List ℕ → List ℕ → ℕ → List ℕ → List ℕ → Refusal → Type 0
-WindowsRuleIn parts rules room first last r =
-    (numbers_refusal parts rules).number ≡ 0 → WindowsRule (parts_in parts) (rules_in rules) room first last r

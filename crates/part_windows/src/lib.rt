@@ -12,8 +12,6 @@ ghost use Rattle.cases.specs.Cases.{Told};
 ghost use Rattle.order_cases.specs.Cases.{order_cases};
 ghost use Rattle.part_windows.specs.Call.{room, first_after, last_after, WindowsAnswer, WindowsRule};
 
-pub mod numbers;
-
 use flat_order::sets::PartSet;
 use flat_order::{FEW_ENDS, FEW_PARTS, MOST_ENDS, MOST_PARTS};
 use order_rules::{Part, Rule};
@@ -66,7 +64,7 @@ fn place_windows_in<
 }
 
 // The refusals in their order, and the bounds handed over. Few parts, and the parts and the rules, as in the placing order.
-fn place_windows<P: Fn(usize) -> Part, F: Fn(usize) -> Rule>(
+pub fn place_windows<P: Fn(usize) -> Part, F: Fn(usize) -> Rule>(
     n: usize,
     part_at: P,
     count: usize,

@@ -1,9 +1,7 @@
 pub mod Flagged
 pub mod Marks
 pub mod Windows
-pub mod Numbered
 pub mod Readied
 pub mod Answers
 pub mod TipAnswers
-pub mod TipNumbered
 pub mod CasesTold

@@ -14,12 +14,11 @@ mod by_tips;
 mod flags;
 pub mod flat;
 mod marking;
-pub mod numbers;
 mod placement;
 
-use crate::by_tips::place_by_tips;
-use crate::placement::place;
+pub use by_tips::place_by_tips;
 use order_rules::{Part, Rule};
+pub use placement::place;
 use refusal::Refused;
 
 // The placing order: one byte a position, the bytes past it untouched.

@@ -8,7 +8,7 @@ use Rattle.refusal.specs.Refusal.{none}
 use Rattle.refusal.specs.declared.Refused.{Refused}
 use Rattle.refusal.specs.Reasons.{reason_number, told_of}
 use Rattle.refusal.proofs.Laws.{reason_not_0}
-use Rattle.placing.specs.Numbers.{order_in}
+use Rattle.number_calls.specs.Numbers.{order_in}
 use Rattle.file_calls.specs.Outcomes.{Outcome, refused_outcome}
 use Rattle.tipshare_c.specs.Order.{order_outcome, ordered_in}
 

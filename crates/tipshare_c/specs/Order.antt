@@ -3,8 +3,8 @@ use Rattle.std.specs.Prelude.{ℕ, ◌/◌, List, length}
 use Rattle.refusal.specs.Told.{Refusal}
 use Rattle.refusal.specs.Refusal.{told}
 use Rattle.model.specs.Choice.{Mounted}
-use Rattle.placing.specs.Numbers.{order_in}
-use Rattle.placing.specs.ByTips.{refusal_by_tips_in, changes_by_tips_in}
+use Rattle.number_calls.specs.Numbers.{order_in}
+use Rattle.number_calls.specs.ByTips.{refusal_by_tips_in, changes_by_tips_in}
 use Rattle.file_calls.specs.Outcomes.{Outcome}
 
 -- the refusal, and the number of parts where nothing is refused

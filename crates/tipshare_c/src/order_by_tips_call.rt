@@ -2,10 +2,10 @@
 ghost use Rattle.std.specs.Prelude.{◌≡◌, ◌≤◌, length};
 ghost use Rattle.head.specs.OnHead.{on_head};
 ghost use Rattle.file_calls.specs.Outcomes.{outcome_of};
-ghost use Rattle.placing.specs.ByTips.{buffer_by_tips_in, TipsRuleIn};
+ghost use Rattle.number_calls.specs.ByTips.{buffer_by_tips_in, TipsRuleIn};
 ghost use Rattle.tipshare_c.specs.Answer.{if_short, number_in, answer_in, seen, mounted_by};
 ghost use Rattle.cases.specs.Cases.{Told};
-ghost use Rattle.placing.specs.Cases.{numbers_by_tips_cases};
+ghost use Rattle.number_calls.specs.Cases.{numbers_by_tips_cases};
 ghost use Rattle.tipshare_c.specs.Order.{ordered_by_tips_in};
 
 use crate::answers::{PLACES, SHORT_ANSWER, mounted_by, put_answer};
@@ -28,7 +28,7 @@ fn order_by_tips_outcome(
     ensures cases { Told (numbers_by_tips_cases parts.now rules.now plan.now (on_head mounted) (length order.old))
         (outcome_of result).refusal }
 {
-    let changes = placing::numbers::order_by_tips(parts, rules, plan, mounted, order)?;
+    let changes = number_calls::order_by_tips(parts, rules, plan, mounted, order)?;
     Ok(Counts {
         first: (parts.len() / 4) as u64,
         second: changes as u64,

@@ -1,10 +1,10 @@
 // The placing order of parts and rules as plain numbers.
 ghost use Rattle.std.specs.Prelude.{◌≡◌, ◌≤◌, length};
 ghost use Rattle.file_calls.specs.Outcomes.{outcome_of};
-ghost use Rattle.placing.specs.Numbers.{order_after_in, PlacingRuleIn};
+ghost use Rattle.number_calls.specs.Numbers.{order_after_in, PlacingRuleIn};
 ghost use Rattle.tipshare_c.specs.Answer.{if_short, number_in, answer_in, seen};
 ghost use Rattle.cases.specs.Cases.{Told};
-ghost use Rattle.placing.specs.Cases.{numbers_cases};
+ghost use Rattle.number_calls.specs.Cases.{numbers_cases};
 ghost use Rattle.tipshare_c.specs.Order.{ordered_in};
 
 use crate::answers::{PLACES, SHORT_ANSWER, put_answer};
@@ -18,7 +18,7 @@ fn order_outcome(parts: &[u32], rules: &[u32], order: &mut [u8]) -> Result<Count
     ensures rule { PlacingRuleIn parts.now rules.now (length order.old) order.new (outcome_of result).refusal }
     ensures cases { Told (numbers_cases parts.now rules.now (length order.old)) (outcome_of result).refusal }
 {
-    placing::numbers::order_numbers(parts, rules, order)?;
+    number_calls::order_numbers(parts, rules, order)?;
     Ok(Counts::one((parts.len() / 4) as u64))
 }
 

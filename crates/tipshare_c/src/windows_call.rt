@@ -1,15 +1,15 @@
 // The positions that the parts can have in a placing order, for parts and rules as plain numbers.
 ghost use Rattle.std.specs.Prelude.{◌≡◌, ◌≤◌, length};
 ghost use Rattle.file_calls.specs.Outcomes.{outcome_of};
-ghost use Rattle.part_windows.specs.Call.{room, first_after_in, last_after_in, WindowsRuleIn};
+ghost use Rattle.part_windows.specs.Call.{room};
+ghost use Rattle.number_calls.specs.Windows.{first_after_in, last_after_in, WindowsRuleIn};
 ghost use Rattle.tipshare_c.specs.Answer.{if_short, number_in, answer_in, seen};
 ghost use Rattle.cases.specs.Cases.{Told};
-ghost use Rattle.placing.specs.Cases.{numbers_cases};
+ghost use Rattle.number_calls.specs.Cases.{numbers_cases};
 ghost use Rattle.tipshare_c.specs.Order.{ordered_in};
 
 use crate::answers::{PLACES, SHORT_ANSWER, put_answer};
 use file_calls::Counts;
-use part_windows::numbers::window_numbers;
 use refusal::Refused;
 
 // The count is that of the parts.
@@ -25,7 +25,7 @@ fn windows_outcome(
     ensures rule { WindowsRuleIn parts.now rules.now (room first.old last.old) first.new last.new (outcome_of result).refusal }
     ensures cases { Told (numbers_cases parts.now rules.now (room first.old last.old)) (outcome_of result).refusal }
 {
-    window_numbers(parts, rules, first, last)?;
+    number_calls::window_numbers(parts, rules, first, last)?;
     Ok(Counts::one((parts.len() / 4) as u64))
 }
 

@@ -97,7 +97,7 @@ impl Orders {
         let part_numbers = part_numbers(parts);
         let rule_numbers = rule_numbers(rules);
         let mut order = [junk; ORDER_ROOM];
-        let told = placing::numbers::order_by_tips(
+        let told = number_calls::order_by_tips(
             read(&part_numbers, Some(4 * parts.len())),
             read(&rule_numbers, Some(2 * rules.len())),
             plan,
@@ -132,7 +132,7 @@ impl Orders {
         let rule_numbers = rule_numbers(rules);
         let mut first = [junk; ORDER_ROOM];
         let mut last = [junk; ORDER_ROOM];
-        let told = part_windows::numbers::window_numbers(
+        let told = number_calls::window_numbers(
             read(&part_numbers, Some(4 * parts.len())),
             read(&rule_numbers, Some(2 * rules.len())),
             lent(&mut first, first_room),

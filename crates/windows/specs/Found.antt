@@ -1,9 +1,9 @@
 -- The bounds over flat arrays: what the arrays are to hold, and what is found.
-use Rattle.std.specs.Prelude.{ℕ, ◌≤◌, ◌<◌, ◌≡◌, Bool, true, false, cond, List, length, get_or}
+use Rattle.std.specs.Prelude.{ℕ, ◌≤◌, ◌<◌, ◌≡◌, Bool, true, false, cond, List, T, length, get_or}
 use Rattle.model.specs.Count.{list_of}
 use Rattle.order_rules.specs.Order.{Task, Obeys}
 use Rattle.flat_order.specs.declared.sets.PartSet.{PartSet}
-use Rattle.flat_order.specs.Flat.{SizedFor, InPlace}
+use Rattle.flat_order.specs.Flat.{SizedFor, InPlace, flat_task}
 use Rattle.windows.specs.Bounds.{solvable, soonest, latest, Bounds}
 
 -- the arrays describe a task of at most 128 parts, each position of which is one of its parts'
@@ -18,6 +18,19 @@ SeenFirst t first = (j : ℕ) → j < t.size → soonest t j ≤ get_or first j 
 
 abbrev pub SeenLast : Task → List ℕ → Type 0
 SeenLast t last = (j : ℕ) → j < t.size → get_or last j 0 ≤ latest t j
+
+-- what is seen so far, at a place for each part
+pub record Seen (firsts lasts : List ℕ) (rows : List PartSet) (first last : List ℕ) : Type 0 where
+  pub first_size : length first ≡ length lasts
+  pub last_size : length last ≡ length lasts
+  pub first_seen : SeenFirst (flat_task firsts lasts rows) first
+  pub last_seen : SeenLast (flat_task firsts lasts rows) last
+
+-- the arrays describe a task that has part i and that some order obeys
+pub record Narrowable (firsts lasts : List ℕ) (rows : List PartSet) (i : ℕ) : Type 0 where
+  pub ready : Ready firsts lasts rows
+  pub part : i < length lasts
+  pub solvable : T (solvable (flat_task firsts lasts rows))
 
 -- with the first p positions of an order: no part's first position is later than it was, nor than its position in the order; and it is
 -- no sooner than in any order that obeys, if that is so before and the order obeys

@@ -1,8 +1,8 @@
 // The first and the last position of one part. Each test asks for an order that has the part earlier, or later, than any order found so far.
-ghost use Rattle.std.specs.Prelude.{◌≡◌, ℕ, ◌<◌, ◌≤◌, T, length, get_or};
+ghost use Rattle.std.specs.Prelude.{ℕ, ◌<◌, ◌≤◌, length, get_or};
 ghost use Rattle.flat_order.specs.Flat.{flat_task, Room};
-ghost use Rattle.windows.specs.Bounds.{solvable, soonest, latest};
-ghost use Rattle.windows.specs.Found.{Ready, SeenFirst, SeenLast};
+ghost use Rattle.windows.specs.Bounds.{soonest, latest};
+ghost use Rattle.windows.specs.Found.{Seen, Narrowable};
 
 use crate::noting::note;
 use crate::orders::{order_by, order_from};
@@ -32,17 +32,9 @@ pub fn narrow_first<const PLACES: usize, const ENDS: usize>(
     last: &mut [u8],
 )
     requires room { Room PLACES ENDS (length lasts.now) }
-    requires ready { Ready firsts.now lasts.now rows.now }
-    requires part { i < length lasts.now }
-    requires solvable { T (solvable (flat_task firsts.now lasts.now rows.now)) }
-    requires first_size { length first.old ≡ length lasts.now }
-    requires last_size { length last.old ≡ length lasts.now }
-    requires first { SeenFirst (flat_task firsts.now lasts.now rows.now) first.old }
-    requires last { SeenLast (flat_task firsts.now lasts.now rows.now) last.old }
-    ensures first_size { length first.new ≡ length lasts.now }
-    ensures last_size { length last.new ≡ length lasts.now }
-    ensures first { SeenFirst (flat_task firsts.now lasts.now rows.now) first.new }
-    ensures last { SeenLast (flat_task firsts.now lasts.now rows.now) last.new }
+    requires part { Narrowable firsts.now lasts.now rows.now i }
+    requires seen { Seen firsts.now lasts.now rows.now first.old last.old }
+    ensures seen { Seen firsts.now lasts.now rows.now first.new last.new }
     ensures lower { (j : ℕ) → get_or first.new j 0 ≤ get_or first.old j 0 }
     ensures found { get_or first.new i 0 ≤ soonest (flat_task firsts.now lasts.now rows.now) i }
 {
@@ -75,17 +67,9 @@ pub fn narrow_last<const PLACES: usize, const ENDS: usize>(
     last: &mut [u8],
 )
     requires room { Room PLACES ENDS (length lasts.now) }
-    requires ready { Ready firsts.now lasts.now rows.now }
-    requires part { i < length lasts.now }
-    requires solvable { T (solvable (flat_task firsts.now lasts.now rows.now)) }
-    requires first_size { length first.old ≡ length lasts.now }
-    requires last_size { length last.old ≡ length lasts.now }
-    requires first { SeenFirst (flat_task firsts.now lasts.now rows.now) first.old }
-    requires last { SeenLast (flat_task firsts.now lasts.now rows.now) last.old }
-    ensures first_size { length first.new ≡ length lasts.now }
-    ensures last_size { length last.new ≡ length lasts.now }
-    ensures first { SeenFirst (flat_task firsts.now lasts.now rows.now) first.new }
-    ensures last { SeenLast (flat_task firsts.now lasts.now rows.now) last.new }
+    requires part { Narrowable firsts.now lasts.now rows.now i }
+    requires seen { Seen firsts.now lasts.now rows.now first.old last.old }
+    ensures seen { Seen firsts.now lasts.now rows.now first.new last.new }
     ensures lower { (j : ℕ) → get_or first.new j 0 ≤ get_or first.old j 0 }
     ensures higher { (j : ℕ) → get_or last.old j 0 ≤ get_or last.new j 0 }
     ensures found { latest (flat_task firsts.now lasts.now rows.now) i ≤ get_or last.new i 0 }

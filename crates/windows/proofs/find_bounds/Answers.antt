@@ -27,24 +27,36 @@ loop-i-init g c =
     let none = c.see_none.ensures in
     let note = c.note.ensures in
     record {
-      first_size = note.first.size ∙ ap length none.first ∙ length-replicate (length a.first.now) n ∙ c.requires.firsts;
-      last_size = note.last.size ∙ ap length none.last ∙ length-replicate (length a.last.now) 0 ∙ c.requires.lasts;
-      first = note.first.seen t b o (rw (none.first, c.requires.firsts) (unseen_first t b y));
-      last = note.last.seen t b o (rw (none.last, c.requires.lasts) (unseen_last t b y));
+      seen = record {
+        first_size = note.first.size ∙ ap length none.first ∙ length-replicate (length a.first.now) n ∙ c.requires.firsts;
+        last_size = note.last.size ∙ ap length none.last ∙ length-replicate (length a.last.now) 0 ∙ c.requires.lasts;
+        first_seen = note.first.seen t b o (rw (none.first, c.requires.firsts) (unseen_first t b y));
+        last_seen = note.last.seen t b o (rw (none.last, c.requires.lasts) (unseen_last t b y));
+      };
       lowered = λ j l. absurd (omega arith);
     }
 
-pub narrow_first-requires-clause-solvable : goal.narrow_first-requires-clause-solvable
-narrow_first-requires-clause-solvable g c =
+pub narrow_first-requires-clause-part : goal.narrow_first-requires-clause-part
+narrow_first-requires-clause-part g c =
     let a = c.args in
-    (solvable_iff (flat_task a.firsts.now a.lasts.now a.rows.now) (below _ _ _ c.requires.ready)).1
-    (take (length a.lasts.now) c.in-Some.found, c.in-Some.ensures.some)
+    record {
+      ready = c.requires.ready;
+      part = omega arith;
+      solvable =
+          (solvable_iff (flat_task a.firsts.now a.lasts.now a.rows.now) (below _ _ _ c.requires.ready)).1
+          (take (length a.lasts.now) c.in-Some.found, c.in-Some.ensures.some);
+    }
 
-pub narrow_last-requires-clause-solvable : goal.narrow_last-requires-clause-solvable
-narrow_last-requires-clause-solvable g c =
+pub narrow_last-requires-clause-part : goal.narrow_last-requires-clause-part
+narrow_last-requires-clause-part g c =
     let a = c.args in
-    (solvable_iff (flat_task a.firsts.now a.lasts.now a.rows.now) (below _ _ _ c.requires.ready)).1
-    (take (length a.lasts.now) c.in-Some.found, c.in-Some.ensures.some)
+    record {
+      ready = c.requires.ready;
+      part = omega arith;
+      solvable =
+          (solvable_iff (flat_task a.firsts.now a.lasts.now a.rows.now) (below _ _ _ c.requires.ready)).1
+          (take (length a.lasts.now) c.in-Some.found, c.in-Some.ensures.some);
+    }
 
 pub returns-clause-found : goal.returns-clause-found
 returns-clause-found g c =
@@ -55,8 +67,8 @@ returns-clause-found g c =
     let l = c.loop-i-2 in
     let i = l.invariant in
     found_all t a.first.now a.last.now l.first l.last (true_T (solvable t) y)
-    (list_is (soonest t) n l.first i.first_size (λ k h. omega (arith, i.first k h, i.lowered k h)))
-    (list_is (latest t) n l.last i.last_size (λ k h. omega (arith, i.last k h, i.raised k (omega (arith, c.loop-i-2-test.false)))))
+    (list_is (soonest t) n l.first i.seen.first_size (λ k h. omega (arith, i.seen.first_seen k h, i.lowered k h)))
+    (list_is (latest t) n l.last i.seen.last_size (λ k h. omega (arith, i.seen.last_seen k h, i.raised k (omega (arith, c.loop-i-2-test.false)))))
 
 pub returns-clause-rule : goal.returns-clause-rule
 returns-clause-rule g c =
@@ -68,5 +80,5 @@ returns-clause-rule g c =
     let l = c.loop-i-2 in
     let i = l.invariant in
     bounds-rule b (found_all t a.first.now a.last.now l.first l.last (true_T (solvable t) y)
-    (list_is (soonest t) n l.first i.first_size (λ k h. omega (arith, i.first k h, i.lowered k h)))
-    (list_is (latest t) n l.last i.last_size (λ k h. omega (arith, i.last k h, i.raised k (omega (arith, c.loop-i-2-test.false))))))
+    (list_is (soonest t) n l.first i.seen.first_size (λ k h. omega (arith, i.seen.first_seen k h, i.lowered k h)))
+    (list_is (latest t) n l.last i.seen.last_size (λ k h. omega (arith, i.seen.last_seen k h, i.raised k (omega (arith, c.loop-i-2-test.false))))))

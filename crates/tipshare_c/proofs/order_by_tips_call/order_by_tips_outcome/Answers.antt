@@ -1,7 +1,7 @@
 use Rattle.std.proofs.Common.{◌≡◌, ℕ, refl}
 use borrow.Author.Tests.{ne_eqb}
 use Rattle.refusal.specs.Told.{Refusal}
-use Rattle.refusal.specs.Refusal.{none, told}
+use Rattle.refusal.specs.Refusal.{none}
 use Rattle.refusal.specs.declared.Refused.{Refused}
 use Rattle.refusal.specs.Reasons.{reason_number, told_of}
 use Rattle.refusal.proofs.Laws.{err_of, reason_not_0}

@@ -10,19 +10,16 @@ loop-from-init g c =
     let a = c.args in
     let r = c.requires in
     record {
-      first_size = r.first_size;
-      last_size = r.last_size;
-      first = r.first;
-      last = r.last;
+      seen = r.seen;
       lower = λ j. omega arith;
-      from = (soonest_in (flat_task a.firsts.now a.lasts.now a.rows.now) (below _ _ _ r.ready) a.i r.part r.solvable).0;
+      from = (soonest_in (flat_task a.firsts.now a.lasts.now a.rows.now) (below _ _ _ r.part.ready) a.i r.part.part r.part.solvable).0;
     }
 
 pub loop-from-smaller-in-Some : goal.loop-from-smaller-in-Some
 loop-from-smaller-in-Some g c =
     let a = c.args in
     let l = c.loop-from in
-    let seen = due_seen (flat_task a.firsts.now a.lasts.now a.rows.now) a.i (get_or l.first a.i 0 - c.reach.result) c.requires.part _ l.first
+    let seen = due_seen (flat_task a.firsts.now a.lasts.now a.rows.now) a.i (get_or l.first a.i 0 - c.reach.result) c.requires.part.part _ l.first
     c.note.new.first c.in-Some.ensures.some c.note.ensures.first in
     omega (arith, seen, c.reach.ensures.some, c.reach.ensures.most, c.loop-from-test.true)
 
@@ -33,14 +30,11 @@ loop-from-preserved g c =
     let l = c.loop-from in
     let i = l.invariant in
     record {
-      first_size = i.first_size;
-      last_size = i.last_size;
-      first = i.first;
-      last = i.last;
+      seen = i.seen;
       lower = i.lower;
       from = omega (
         arith,
-        soonest_no (flat_task a.firsts.now a.lasts.now a.rows.now) (below _ _ _ r.ready) a.i r.part r.solvable
+        soonest_no (flat_task a.firsts.now a.lasts.now a.rows.now) (below _ _ _ r.part.ready) a.i r.part.part r.part.solvable
             (get_or l.first a.i 0 - c.reach.result) c.in-None.ensures.none,
       );
     }

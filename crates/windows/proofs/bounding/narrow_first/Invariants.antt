@@ -1,15 +1,12 @@
-use Rattle.std.proofs.Common.{◌≡◌, ℕ, ◌≤◌, ◌-◌, length, get_or}
+use Rattle.std.proofs.Common.{ℕ, ◌≤◌, ◌-◌, get_or}
 use Rattle.flat_order.specs.Flat.{flat_task}
 use Rattle.windows.specs.Bounds.{soonest}
-use Rattle.windows.specs.Found.{SeenFirst, SeenLast}
+use Rattle.windows.specs.Found.{Seen}
 use Rattle.windows.proofs.bounding.narrow_first.Given as goal
 
 abbrev pub invariant-loop-from : goal.invariant-loop-from
 invariant-loop-from g l = record {
-  first_size : length l.first ≡ length l.lasts;
-  last_size : length l.last ≡ length l.lasts;
-  first : SeenFirst (flat_task l.firsts l.lasts l.rows) l.first;
-  last : SeenLast (flat_task l.firsts l.lasts l.rows) l.last;
+  seen : Seen l.firsts l.lasts l.rows l.first l.last;
   lower : (j : ℕ) → get_or l.first j 0 ≤ get_or l.initial.first j 0;
   from : l.from ≤ soonest (flat_task l.firsts l.lasts l.rows) l.i;
 }

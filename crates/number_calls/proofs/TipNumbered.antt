@@ -8,8 +8,9 @@ use Rattle.refusal.specs.Told.{Refusal}
 use Rattle.refusal.specs.Refusal as R
 use Rattle.refusal.proofs.Laws.{or_first, or_next, refused, accepted, number_not}
 use Rattle.order_rules.proofs.TipCall.{tips_rule}
-use Rattle.placing.specs.Numbers.{parts_in, rules_in, numbers_refusal}
-use Rattle.placing.specs.ByTips.{PlacedByTips, refusal_by_tips_in, buffer_by_tips_in, changes_by_tips_in, TipsRuleIn}
+use Rattle.number_calls.specs.Numbers.{parts_in, rules_in, numbers_refusal}
+use Rattle.placing.specs.ByTips.{PlacedByTips}
+use Rattle.number_calls.specs.ByTips.{refusal_by_tips_in, buffer_by_tips_in, changes_by_tips_in, TipsRuleIn}
 
 module _ (parts rules plan : List ℕ) (mounted : Mounted) (buffer : List ℕ) where
   pub record Answers (r : Refusal) (out : List ℕ) (changed : ℕ) : Type 0 where

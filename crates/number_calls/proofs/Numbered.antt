@@ -16,7 +16,7 @@ use Rattle.refusal.proofs.Laws.{or_first, or_next, refused, accepted, number_not
 use Rattle.order_rules.specs.declared.Part.{Part}
 use Rattle.order_rules.specs.declared.Rule.{Rule}
 use Rattle.order_rules.specs.Parts.{no_part, no_rule}
-use Rattle.placing.specs.Numbers.{part_of_numbers, parts_in, rule_in, rules_in, numbers_refusal, order_in, order_after_in, PlacingRuleIn}
+use Rattle.number_calls.specs.Numbers.{part_of_numbers, parts_in, rule_in, rules_in, numbers_refusal, order_in, order_after_in, PlacingRuleIn}
 use Rattle.placing.specs.Rows.{Gives, GivesParts, GivesRules, Placed}
 use Rattle.order_rules.specs.Call.{order_refusal}
 use Rattle.order_rules.proofs.Ruling.{placing_rule}

@@ -1,13 +1,14 @@
-// The windows for parts and rules as plain numbers: four numbers a part, two a rule.
+// The windows.
 ghost use Rattle.std.specs.Prelude.{◌≡◌};
 ghost use Rattle.refusal.specs.Reasons.{refusal_of};
-ghost use Rattle.placing.specs.Numbers.{order_in};
+ghost use Rattle.number_calls.specs.Numbers.{order_in};
 ghost use Rattle.cases.specs.Cases.{Told};
-ghost use Rattle.placing.specs.Cases.{numbers_cases};
-ghost use Rattle.part_windows.specs.Call.{room, first_after_in, last_after_in, WindowsRuleIn};
+ghost use Rattle.number_calls.specs.Cases.{numbers_cases};
+ghost use Rattle.part_windows.specs.Call.{room};
+ghost use Rattle.number_calls.specs.Windows.{first_after_in, last_after_in, WindowsRuleIn};
 
-use crate::place_windows;
-use placing::numbers::{part_of, records_of, rule_of};
+use crate::records::{part_of, records_of, rule_of};
+use part_windows::place_windows;
 use refusal::Refused;
 
 // The windows of the parts that the numbers stand for.

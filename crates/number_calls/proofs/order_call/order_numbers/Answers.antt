@@ -1,8 +1,8 @@
 use Rattle.std.proofs.Common.{rules}
 use Rattle.refusal.proofs.Laws.{reason_not_0, told_err}
-use Rattle.placing.proofs.Numbered.{misfit, fit_answer, parts_given, rules_given}
-use Rattle.placing.proofs.CasesTold.{numbers_told}
-use Rattle.placing.proofs.numbers.order_numbers.Goals as goal
+use Rattle.number_calls.proofs.Numbered.{misfit, fit_answer, parts_given, rules_given}
+use Rattle.number_calls.proofs.CasesTold.{numbers_told}
+use Rattle.number_calls.proofs.order_call.order_numbers.Goals as goal
 
 pub returns-in_err-records : goal.returns-in_err-records
 returns-in_err-records c =

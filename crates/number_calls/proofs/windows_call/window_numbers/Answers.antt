@@ -1,10 +1,10 @@
 use Rattle.std.proofs.Common.{rules}
 use Rattle.refusal.proofs.Laws.{reason_not_0, number_not, told_err}
-use Rattle.placing.proofs.Numbered.{misfit_in, parts_given, rules_given}
-use Rattle.placing.proofs.CasesTold.{numbers_told}
+use Rattle.number_calls.proofs.Numbered.{misfit_in, parts_given, rules_given}
+use Rattle.number_calls.proofs.CasesTold.{numbers_told}
 use Rattle.part_windows.specs.Call.{room}
-use Rattle.part_windows.proofs.Ruling.{misfit_buffers, fit_answer}
-use Rattle.part_windows.proofs.numbers.window_numbers.Goals as goal
+use Rattle.number_calls.proofs.Windowed.{misfit_buffers, fit_answer}
+use Rattle.number_calls.proofs.windows_call.window_numbers.Goals as goal
 
 pub returns-in_err-records : goal.returns-in_err-records
 returns-in_err-records c =

@@ -1,9 +1,9 @@
 use Rattle.std.proofs.Common.{sym, ◌∙◌}
 use borrow.Author.Tests.{eqb-true, eqb-false}
-use Rattle.placing.proofs.Numbered.{broken_parts, broken_rules, whole}
-use Rattle.placing.proofs.numbers.records_of.Goals.{then-not-is_empty-via-then-not-is_empty}
-use Rattle.placing.proofs.numbers.records_of.Goals.{then-not-is_empty-via-else-not-is_empty+then-not-is_empty-2}
-use Rattle.placing.proofs.numbers.records_of.Goals as goal
+use Rattle.number_calls.proofs.Numbered.{broken_parts, broken_rules, whole}
+use Rattle.number_calls.proofs.records.records_of.Goals.{then-not-is_empty-via-then-not-is_empty}
+use Rattle.number_calls.proofs.records.records_of.Goals.{then-not-is_empty-via-else-not-is_empty+then-not-is_empty-2}
+use Rattle.number_calls.proofs.records.records_of.Goals as goal
 
 pub returns-then-not-is_empty-clause-refusal : goal.returns-then-not-is_empty-clause-refusal
 returns-then-not-is_empty-clause-refusal c =

@@ -1,10 +1,10 @@
 use Rattle.std.proofs.Common.{rules}
 use Rattle.head.specs.OnHead.{on_head}
 use Rattle.refusal.proofs.Laws.{err_of, reason_not_0}
-use Rattle.placing.proofs.Numbered.{parts_given, rules_given}
-use Rattle.placing.proofs.TipNumbered.{misfit, fit_answer}
-use Rattle.placing.proofs.CasesTold.{numbers_by_tips_told}
-use Rattle.placing.proofs.numbers.order_by_tips.Goals as goal
+use Rattle.number_calls.proofs.Numbered.{parts_given, rules_given}
+use Rattle.number_calls.proofs.TipNumbered.{misfit, fit_answer}
+use Rattle.number_calls.proofs.CasesTold.{numbers_by_tips_told}
+use Rattle.number_calls.proofs.order_by_tips_call.order_by_tips.Goals as goal
 
 pub returns-in_err-records : goal.returns-in_err-records
 returns-in_err-records c =

@@ -1,10 +1,10 @@
--- The cases of the placing order of plain numbers.
+-- The cases of the placing orders of plain numbers, and of the windows.
 use Rattle.std.specs.Prelude.{ℕ, ◌%◌, ◌≡◌, ◌⊎◌, List, [], ◌∷◌, ◌++◌, length}
 use Rattle.model.specs.Choice.{Mounted}
 use Rattle.refusal.specs.declared.Reason.TheVariants.{BrokenRecord}
 use Rattle.cases.specs.Cases.{Case, plain}
 use Rattle.order_cases.specs.Cases.{order_cases, tip_order_cases}
-use Rattle.placing.specs.Numbers.{parts_in, rules_in}
+use Rattle.number_calls.specs.Numbers.{parts_in, rules_in}
 
 -- 101: the numbers are not four a part and two a rule
 abbrev pub broken_cases : List ℕ → List ℕ → List Case

@@ -1,0 +1,4 @@
+pub mod Numbered
+pub mod TipNumbered
+pub mod Windowed
+pub mod CasesTold

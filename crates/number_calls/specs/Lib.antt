@@ -1,0 +1,4 @@
+pub mod Numbers
+pub mod ByTips
+pub mod Windows
+pub mod Cases
