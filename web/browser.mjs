@@ -102,7 +102,9 @@ async function press(key, code = key) {
 }
 const type = text => send("Input.insertText", { text });
 async function drop(selector, ...files) {
-  const { x, y } = await value(`(() => { const { left, top, width } = document.querySelector(${quoted(selector)}).getBoundingClientRect();
+  const { x, y } = await value(`(() => { const one = document.querySelector(${quoted(selector)});
+    one.scrollIntoView({ block: "nearest" });
+    const { left, top, width } = one.getBoundingClientRect();
     return { x: left + Math.min(width / 2, 40), y: top + 10 }; })()`);
   const data = { items: [], files: files.map(file => path.resolve(file)), dragOperationsMask: 1 };
   for (const type of ["dragEnter", "dragOver", "drop"]) await send("Input.dispatchDragEvent", { type, x, y, data });
@@ -135,14 +137,14 @@ async function printed(name) {
 
 // For everyone: each control has a name for a screen reader, the Tab key comes to all that can be used, and letters differ from what is
 // behind them by 4.5 to 1, in light and in dark.
-async function for_everyone(where) {
+async function for_everyone(where, least = 20) {
   await send("Accessibility.enable");
   const { nodes } = await send("Accessibility.getFullAXTree");
   const used = /^(button|textbox|combobox|slider|spinbutton|listbox|image|progressbar)$/;
   const controls = nodes.filter(({ ignored, role }) => !ignored && used.test(role?.value));
   const nameless = controls.filter(({ name }) => !name?.value).map(({ role }) => role.value);
   checks++;
-  if (nameless.length || controls.length < 20) throw new Error(`${where}: ${controls.length} controls, and without a name ${nameless}`);
+  if (nameless.length || controls.length < least) throw new Error(`${where}: ${controls.length} controls, and without a name ${nameless}`);
 
   const usable = `[...document.querySelectorAll('a[href], button, input, select, textarea, summary, [tabindex="0"]')]
     .filter(one => !one.disabled && one.checkVisibility())`;
@@ -214,16 +216,24 @@ async function beginner() {
   const table_begun = native("import", "kicad", board, "--start-table");
   await holds("the table is begun as parts begins it", `at('tips').value === ${quoted(table_begun)}`);
   await holds("the rack is asked for first", "document.activeElement === at('rack')");
+  await type("65");
+  await press("Enter");
+  await same("what is no size is told beside the field", "rack-why", "A rack has 1 to 64 tips.");
+  await value("at('rack').select()");
   await type("4");
   await press("Enter");
   await holds("the rack is in the table", "/^rack 4$/m.test(at('tips').value)");
   const first = "at('packages').querySelector('input')";
   await holds("then the tips of the first package", `document.activeElement === ${first}`);
-  await type("thin");
-  await press("Enter");
-  await holds("what is no tip is told beside the field",
-    `${first}.getAttribute('aria-invalid') === 'true' && ${first}.nextSibling.textContent.startsWith('Write numbers')`);
-  await value(`${first}.select()`);
+  // What a beginner may type: nothing, a word, tips counted from 1, and a range from the last to the first.
+  for (const [typed, why] of [["", "Type its tips, or click Leave it out."], ["thin", "Write numbers and ranges, as 0-1 or 2 4."],
+    ["3-4", "Your rack has the tips 0 to 3."], ["3-1", "Write 1-3, the lower tip first."]]) {
+    if (typed) await type(typed);
+    await press("Enter");
+    await holds(`${typed} is no tip, which is told beside the field`,
+      `${first}.getAttribute('aria-invalid') === 'true' && ${first}.nextSibling.textContent === ${quoted(why)}`);
+    await value(`${first}.select()`);
+  }
   const left = await value("[...at('packages').tBodies[0].rows].map(row => row.cells[0].textContent)");
   for (const place of left.keys()) {
     await holds(`the field of ${left[place]} has the focus`,
@@ -256,9 +266,14 @@ async function beginner() {
   alike("the page to print", Buffer.from(whole), Buffer.from(native("page", listed).replaceAll(listed.replaceAll("'", "&#x27;"), "")));
   alike("the table", await saved("#save-tips", "tips.txt"), Buffer.from(await value("at('tips').value")));
 
-  // One package after another, without a table to begin with.
+  // One package after another, without a table to begin with. The forgotten one can be brought back.
+  await click("#forget");
+  await holds("the table is forgotten", "at('tips').value === '' && localStorage.getItem('tipshare-table') === null");
+  await click("#bring-back");
+  await holds("the table is back", `at('tips').value === ${quoted(fs.readFileSync(table, "utf8"))} && at('bring-back').hidden`);
   await click("#forget");
   await holds("the packages are asked for again", "at('packages').tBodies[0].rows.length > 3 && !at('rack-of').hidden");
+  await holds("and the size of the rack", "at('rack').value === ''");
   await value(`${first}.focus()`);
   await type("1");
   await press("Enter");
@@ -284,6 +299,7 @@ async function others_files() {
   fs.writeFileSync(listed, native("import", "kicad", kicad + "board-top-pos.csv", "--tips", kicad + "tips.txt"));
   await drop("#list", kicad + "board-top-pos.csv", kicad + "tips.txt");
   await same("a board of KiCad", "plan", native("plan", listed));
+  await same("what is left out is told", "left-out", "Left out: Fiducial_1mm_Mask2mm Fiducial: FID1");
   await holds("the table is remembered", "localStorage.getItem('tipshare-table') === at('tips').value");
   await holds("and the page says so", "at('remembered').textContent.includes('keeps the table')");
   await set("tips", "rack 1\nskip Fiducial*\n", "input");
@@ -295,6 +311,20 @@ async function others_files() {
     "at('faults').textContent.startsWith('tips:2:') && at('faults').querySelector('code').textContent === 'R_* : 7'");
   await click("#faults button");
   await holds("a click goes to the line", "document.activeElement === at('tips') && at('tips').selectionStart === 7");
+
+  // Files that a beginner may open: KiCad's own, and one of a spreadsheet. They are told before a table is asked for.
+  await click("#forget");
+  for (const [name, bytes, why] of [["board.kicad_pcb", "(kicad_pcb (version 20211014)\n)\n", "board.kicad_pcb:1: KiCad's own file"],
+    ["bom.xlsx", "PK\x03\x04", "bom.xlsx: this is packed, as files of spreadsheets are; save it as CSV there"]]) {
+    fs.writeFileSync(path.join(work, name), bytes);
+    await drop("h1", path.join(work, name));
+    await holds(`what to do with ${name} is told alone`, `at('faults').textContent.startsWith(${quoted(why)}) &&
+      at('faults').children.length === 1 && at('lacking').hidden`);
+  }
+  await drop("h1", kicad + "board-all-pos.csv");
+  await holds("the side is asked for first", "document.activeElement === at('side') && at('lacking').hidden");
+  await set("side", "bottom", "change");
+  await holds("then the packages of this side", "!at('lacking').hidden && at('packages').tBodies[0].rows.length === 1");
 
   // Both sides in one file.
   await drop("#list", kicad + "board-all-pos.csv", kicad + "tips.txt");
@@ -323,12 +353,107 @@ async function others_files() {
   // A list, and two more at once, are a panel.
   const example = "docs/example.txt", panel = native("panel", example, example, example);
   await drop("h1", example, example, example);
-  await value("document.querySelectorAll('details').forEach(one => { one.open = true; })");
   await same("several boards at once", "panel-text", panel);
+  await holds("the panel is open, and named below the plans", "at('panel-text').closest('details').open && " +
+    "at('beside').textContent.startsWith('Opened too, for a panel with this board: example')");
+  await value("document.querySelectorAll('details').forEach(one => { one.open = true; })");
   const job = path.join(work, "panel.job"), list = path.join(work, "panel.txt");
   native("panel", example, example, example, "--job", job, "--list", list);
   alike("the job file of the panel", await saved("[data-save=panel]", "example-panel.job"), fs.readFileSync(job));
   alike("the list of the panel", await saved("[data-save=panel-list]", "example-panel.txt"), fs.readFileSync(list));
+  await click("#beside button");
+  await holds("the others are taken out", "at('beside').textContent === '' && at('panel-text').textContent === '' && " +
+    "at('others-names').textContent === 'none'");
+}
+
+// Damaged job files: the page offers to mend them, says what `parts mend` says, and saves what it writes.
+async function damaged_files() {
+  const find = end => "checklist/" + fs.readdirSync("checklist").find(name => name.endsWith(end)) + "/board.job";
+  const out = path.join(work, "mended.job");
+  const mended = file => {
+    const ran = spawnSync(program, ["mend", file, out, "--force"]);
+    return { text: ran.stdout.toString(), lost: ran.stderr.toString().replace(file, path.basename(file)), file: fs.readFileSync(out) };
+  };
+  const is_offered = name => holds(`mending ${name} is offered`, `!at('mending').hidden && at('mended').hidden && !at('mend').hidden &&
+    at('mending-head').textContent === ${quoted(`Mend ${name}?`)} && at('shown').hidden`);
+
+  // By the keyboard: a file of 512 lines that is cut in line 249.
+  const cut = mended(find("-cut-in-a-line"));
+  await drop("h1", find("-cut-in-a-line"));
+  await same("the refusal names what can be clicked", "faults", "refused 10: the file names 512 lines, which take 4104 bytes, and has 2003; " +
+    "hand over the whole file and no more, or click Mend it ");
+  await is_offered("board.job");
+  await holds("nothing is in the place of its list", "at('list').value === ''");
+  await holds("the words say that the file stays", "at('mending-what').textContent.includes('board.job itself stays as it is')");
+  await holds("the offer has the focus", "document.activeElement === at('mending-head')");
+  await pictures("damaged-");
+  await for_everyone("a damaged job file", 8);
+  await value("at('mending-head').focus()");
+  await press("Tab");
+  await holds("the Tab key comes to the button", "document.activeElement === at('mend')");
+  await press("Enter");
+  await holds("what was mended has the focus", "document.activeElement === at('mending-head') && " +
+    "at('mending-head').textContent === 'board.job is mended'");
+  await same("how many parts are lost", "mend-lost", "board.job: 263 PARTS LOST; copy the file again, or make it again from its list\n");
+  await same("each change", "mend-text", "the file: 512 lines said, 249 written\nthe file: 3 bytes after line 248 left out\n" +
+    "lines 249 rack 64, 2 changes, 263 PARTS LOST\n");
+  alike("the words of parts", cut.text + cut.lost, await value("at('mend-text').textContent + at('mend-lost').textContent"));
+  await holds("the mended file is to be looked at first", "at('mending-what').textContent.includes('before you use board-mended.job')");
+  await holds("the mended board is shown under its own name", "at('name').textContent === 'board-mended.job' && !at('shown').hidden && " +
+    "at('counts').textContent === '249 parts, 249 placements, a rack of 64 tips' && !at('faults').textContent");
+  await same("the plan of the mended board", "plan", native("plan", out));
+  await holds("there is nothing more to mend", "at('mend').hidden");
+  await pictures("mended-");
+  await for_everyone("a mended job file");
+  alike("the mended file", await saved("[data-save=mended]", "board-mended.job"), cut.file);
+  alike("the report", await saved("[data-save=report]", "board-mended-report.txt"), cut.text + cut.lost);
+  alike("the same job file below", await saved("[data-save=job]", "board-mended.job"), cut.file);
+  await set("list", "rack 2\nA : 0-1\n", "input");
+  await holds("a list that is typed is planned", "at('counts').textContent.startsWith('1 part')");
+  alike("the mended file stays", await saved("[data-save=mended]", "board-mended.job"), cut.file);
+
+  // With the mouse: another file, of which no part is lost.
+  const longer = mended(find("-one-byte-too-many"));
+  await drop("h1", find("-one-byte-too-many"));
+  await is_offered("board.job");
+  await click("#mend");
+  await same("a byte is left out", "mend-text", "the file: 1 byte after line 511 left out\nlines 512 rack 64, 1 change\n");
+  await holds("no part is lost", "at('mend-lost').textContent === ''");
+  alike("the other mended file", await saved("[data-save=mended]", "board-mended.job"), longer.file);
+  alike("the other report", await saved("[data-save=report]", "board-mended-report.txt"), longer.text);
+  await click("#example");
+  await holds("nothing of it is left with the example", "at('mending').hidden && at('counts').textContent.startsWith('8 parts')");
+
+  // What cannot be mended, and a file without a byte.
+  for (const [file, bytes] of [["-cut-in-the-head", 7], ["-empty-file", 0]]) {
+    await drop("h1", find(file));
+    await same("it is refused", "faults", `refused 6: the file has ${bytes} bytes and needs 8 at least; hand over the whole file `);
+    await holds("and cannot be mended", "!at('mending').hidden && at('mend').hidden && at('mended').hidden && " +
+      "at('mending-head').textContent === 'board.job cannot be mended'");
+  }
+  await set("list", "rack 2\nA : 0-1\n", "input");
+  await holds("nothing of it is left with a list", "at('mending').hidden && !at('shown').hidden");
+
+  // A name that would be markup is text.
+  const name = "<img src=x onerror=alert(1)>.job", marked = path.join(work, name);
+  fs.copyFileSync(find("-mend-odd-sets"), marked);
+  await drop("h1", marked);
+  await is_offered(name);
+  await click("#mend");
+  await same("its name is text", "mend-lost", name + ": 2 PARTS LOST; copy the file again, or make it again from its list\n");
+  await holds("no markup comes of it", "document.title.length > 0 && !document.querySelector('img, #mending :is(img, script)')");
+  await holds("its sheet has the name as text",
+    "document.body.classList.contains('ready') && at('sheet').textContent.includes('<img src=x onerror=alert(1)>-mended.job')");
+
+  // A damaged board among those of a panel.
+  await value("document.querySelectorAll('details').forEach(one => { one.open = true; })");
+  await pick("others", find("-cut-in-a-line"));
+  await same("a damaged board of a panel", "panel-text", "board.job: refused 10: the file names 512 lines, which take 4104 bytes, and has 2003; " +
+    "hand over the whole file and no more, or open it by itself to mend it");
+  await holds("nothing names a command of a shell", "!/parts mend/.test(document.querySelector('main').innerText + at('list').value)");
+  await click("#example");
+  await value("show_others([])");
+  await value("document.querySelectorAll('details').forEach((one, at) => { one.open = at < 2; })");
 }
 
 // An exact plan of 20 tips takes longer than 300 ms: a bar says so, and a slider's step does not wait for it.
@@ -436,8 +561,19 @@ async function drive() {
   await set("by-tips", "", "change");
   await set("price", "3", "input");
   await same("a price", "plan", native("plan", example, "--price", "3"));
-  await value("at('fewest').click()");
+  await click("#fewest");
   await same("the fewest tips", "plan", native("plan", example, "--fewest-tips"));
+  await set("by-tips", "exact", "change");
+  await same("the order by the fewest tips", "order-text", native("order", example, "--tips", "exact", "--fewest-tips"));
+  await set("by-tips", "", "change");
+  await holds("the button says that it is on, and no number is in the field",
+    "at('fewest').ariaPressed === 'true' && at('price').value === ''");
+  await click("#fewest");
+  await same("a second click takes it back", "plan", native("plan", example));
+  await set("price", "2", "input");
+  await click("#fewest");
+  await set("price", "3", "input");
+  await same("a price in the place of the fewest tips", "plan", native("plan", example, "--price", "3"));
   await holds("the numbers have the three plans",
     "[...at('numbers').tBodies[0].rows].map(row => row.cells[0].textContent).join() === 'quick,best,exact'");
   await set("price", "", "input");
@@ -461,6 +597,7 @@ async function drive() {
 
   await beginner();
   await others_files();
+  await damaged_files();
   // A list that is picked, and two more boards.
   const listed = path.join(work, "listed.txt");
   await pick("file", listed);

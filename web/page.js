@@ -7,6 +7,8 @@ const KEPT_TABLE = "tipshare-table";
 let opened_job = null, others = [], last = null;
 // What the text of the list is, a list or placements, and OpenPnP's files, which may be opened one after another.
 let kind = "list", openpnp = {};
+// What mending makes of the damaged job file that was opened: the file, what is said of it, and how many parts are lost.
+let mending = null;
 
 // ---- the module runs in two workers: typing and scrolling never wait for it, and a slider's step never waits for a plan
 
@@ -51,19 +53,30 @@ const ask = worker_of(), ask_beside = worker_of();
 
 // ---- what is planned
 
+// The price of a tip: the one that is typed, or with Fewest tips one that is above all pairs.
+const has_fewest = () => at("fewest").getAttribute("aria-pressed") === "true";
+const set_fewest = is_on => at("fewest").setAttribute("aria-pressed", String(is_on));
+const price = () => has_fewest() ? at("price").max : at("price").value;
+
 let asked = 0, moved = 0;
 const source = () => ["list", at("name").textContent, opened_job ?? at("list").value, at("tips").value, columns(), at("side").value];
 async function plan(is_new) {
   const mine = ++asked;
   no_sheet();
+  // An offer is for the file that is opened; what was mended stays until another file is.
+  if (at("mended").hidden) forget_mending();
   if (is_new) await read_kind();
-  if (mine === asked && is_new) await lacking(mine);
+  const unread = mine === asked && is_new ? await lacking(mine) : "";
   if (mine !== asked) return;
+  if (unread) return refuse(unread);
   const list = await ask(...source());
   if (mine !== asked) return;
-  if (!list.ok) return refuse(list.why);
+  if (!list.ok) {
+    refuse(list.why);
+    return opened_job && offer_to_mend(mine);
+  }
   const text = opened_job ?? list.fields[0];
-  const made = await ask("plan", text, at("mounted").value, at("price").value);
+  const made = await ask("plan", text, at("mounted").value, price());
   if (mine !== asked) return;
   if (!made.ok) return refuse(made.why);
   show(text, made.fields, is_new);
@@ -88,7 +101,7 @@ function sheet_later() {
 
 async function sheet() {
   const mine = asked, step = moved, { text } = last;
-  const told = await ask("sheet", at("name").textContent, text, at("k").value, at("mounted").value, at("price").value);
+  const told = await ask("sheet", at("name").textContent, text, at("k").value, at("mounted").value, price());
   if (mine !== asked || step !== moved || !told.ok) return;
   const [body, wide] = told.fields.map(words);
   at("sheet").innerHTML = body;
@@ -100,7 +113,7 @@ async function sheet() {
 let ordered = 0;
 async function order(text) {
   const mine = ++ordered;
-  const told = await ask("order", text, at("by-tips").value, at("mounted").value, at("price").value);
+  const told = await ask("order", text, at("by-tips").value, at("mounted").value, price());
   if (mine === ordered) say("order-text", told);
 }
 
@@ -123,7 +136,7 @@ async function struck() {
 
 // The first field of an answer, or why there is none; a reason has its lines broken, and a text with columns has not.
 function say(id, told) {
-  at(id).textContent = told.ok ? words(told.fields[0]) : told.why;
+  at(id).textContent = told.ok ? words(told.fields[0]) : in_page(told.why);
   at(id).classList.toggle("why", !told.ok);
 }
 
@@ -149,11 +162,15 @@ async function panel(mine, text) {
   if (!others.length) return;
   const lists = [];
   for (const [name, bytes] of others) {
-    const list = words((await ask("kind", bytes)).fields[0]) === "job" ? { ok: true, fields: [bytes] } :
-      await ask("list", name, bytes, at("tips").value, "", at("side").value);
+    const is_job = await kind_of(name, bytes) === "job";
+    const list = await ask("list", name, bytes, at("tips").value, "", at("side").value);
     if (mine !== asked) return;
-    if (!list.ok) { last.panel = null; return say("panel-text", { ok: false, why: in_page(list.why) }); }
-    lists.push(list.fields[0]);
+    if (!list.ok) {
+      last.panel = null;
+      const why = is_job ? `${name}: ${list.why.replace(MEND, ", or open it by itself to mend it")}` : list.why;
+      return say("panel-text", { ok: false, why });
+    }
+    lists.push(is_job ? bytes : list.fields[0]);
   }
   const told = await ask("panel", text, ...lists);
   if (mine !== asked) return;
@@ -222,6 +239,8 @@ function show(text, fields, is_new) {
   if (goes_on) at("plans-head").focus();
   goes_on = false;
   at("counts").textContent = `${parts} parts, ${placements} placements, a rack of ${rack} tips`;
+  const left_out = opened_job ? [] : Array.from(words(text).matchAll(/^# left out: (.*)$/gm), ([, what]) => what);
+  at("left-out").textContent = left_out.length ? `Left out: ${left_out.join("; ")}` : "";
   const body = at("numbers").tBodies[0];
   body.replaceChildren();
   row(body, ["quick", ...quick]);
@@ -276,35 +295,53 @@ const has_rack = () => /^\s*rack\s+\d+\s*$/.test((at("tips").value.split("\n")[r
 
 let unwritten = new Set(); // the lines of the table, from 1, that only lack what is asked for
 let goes_on = false; // whether the focus was there, and comes to the plans once they are shown
+// Shows what is to be written; gives why the file of the placements cannot be read, which comes before any table.
 async function lacking(mine) {
   const rows = rows_without_tips();
   const is_placed = kind === "placements" && !opened_job;
   const [, ...given] = source();
   const told = is_placed ? await ask("packages", ...given) : { ok: true, fields: [new Uint8Array()] };
-  if (mine !== asked) return;
+  if (mine !== asked) return "";
+  const unread = !told.ok && !told.why.startsWith("tips:") ? told.why : "";
   const missing = told.ok ? words(told.fields[0]).split("\n").filter(Boolean).map(line => line.split("\t")) : [];
   const items = [...rows, ...missing.map(([pattern, where, skip]) => ({ pattern, where, skip }))];
-  const lacks_rack = is_placed && !has_rack();
+  const lacks_rack = is_placed && !unread && !has_rack();
   unwritten = new Set(rows.map(({ number }) => number + 1));
   if (lacks_rack) unwritten.add(rack_line() + 1).add(1);
   const had_focus = at("lacking").contains(document.activeElement);
   at("lacking").hidden = !items.length && !lacks_rack;
+  if (lacks_rack && at("rack-of").hidden) {
+    at("rack").value = at("rack-why").textContent = "";
+    at("rack").removeAttribute("aria-invalid");
+  }
   at("rack-of").hidden = !lacks_rack;
   const is_empty = !at("tips").value.trim();
   at("start").hidden = !is_placed || !is_empty || !missing.length;
   at("add-all").hidden = !is_placed || is_empty || !missing.length;
+  at("by-hand").hidden = at("start").hidden && at("add-all").hidden;
   at("packages").hidden = !items.length;
   at("lacking-what").textContent = [
-    lacks_rack ? "Write how many tips your rack has." : "",
+    lacks_rack ? "Type how many tips are in your rack, where the machine changes them." : "",
     items.length ? `${items.length === 1 ? "1 package has" : `${items.length} packages have`} no tips yet. ` +
-      "Write them as 0-1 or 2 4, and press Enter. Tip 0 is the first tip of the rack." : "",
+      "Type those that can pick each package and press Enter: 0-1 for tips 0 and 1, or 2 4 for tips 2 and 4. " +
+      "The first tip of the rack is tip 0." : "",
   ].filter(Boolean).join(" ");
   list_packages(items);
   if (had_focus && at("lacking").hidden) goes_on = true;
+  return unread;
 }
 
 // A row for each, and the same as before where there was one, so that the focus stays.
 const TIPS = /^\d{1,2}(-\d{1,2})?([ ,;]+\d{1,2}(-\d{1,2})?)*$/;
+// Why these are no tips of the rack; nothing where they are.
+function why_no_tips(typed) {
+  if (!TIPS.test(typed)) return "Write numbers and ranges, as 0-1 or 2 4.";
+  const [, first, last] = Array.from(typed.matchAll(/(\d+)-(\d+)/g)).find(([, first, last]) => Number(first) > Number(last)) ?? [];
+  if (first) return `Write ${last}-${first}, the lower tip first.`;
+  const size = has_rack() ? Number(at("tips").value.split("\n")[rack_line()].match(/\d+/)[0]) : 64;
+  if (typed.match(/\d+/g).every(tip => tip < size)) return "";
+  return size === 1 ? "Your rack has one tip, tip 0." : has_rack() ? `Your rack has the tips 0 to ${size - 1}.` : "A rack has no tip above 63.";
+}
 const shown_rows = new Map();
 function list_packages(items) {
   const body = at("packages").tBodies[0], patterns = new Set(items.map(({ pattern }) => pattern));
@@ -332,21 +369,22 @@ function package_row(pattern) {
   why.setAttribute("role", "status");
   tips.append(input, why);
   let done = "";
-  const write = () => {
-    const typed = input.value.trim(), good = TIPS.test(typed);
-    input.setAttribute("aria-invalid", String(typed !== "" && !good));
-    why.textContent = typed === "" || good ? "" : "Write numbers and ranges, as 0-1 or 2 4.";
+  const write = if_empty => {
+    const typed = input.value.trim();
+    why.textContent = typed === "" ? if_empty : why_no_tips(typed);
+    input.setAttribute("aria-invalid", String(why.textContent !== ""));
+    const good = typed !== "" && why.textContent === "";
     if (!good || typed === done || !made.isConnected) return good;
     done = typed;
     put_row(made.item, `${pattern} : ${typed.replaceAll(/[ ,;]+/g, " ")}`);
     return true;
   };
-  input.onchange = write;
+  input.onchange = () => write("");
   input.onkeydown = event => {
     if (event.key !== "Enter") return;
     event.preventDefault();
     const next = made.nextElementSibling ?? (made.parentNode.rows[0] === made ? null : made.parentNode.rows[0]);
-    if (!write()) return;
+    if (!write("Type its tips, or click Leave it out.")) return;
     (next?.querySelector("input") ?? (at("rack-of").hidden ? at("lacking-head") : at("rack"))).focus();
   };
   const out = button("Leave it out", () => {
@@ -360,6 +398,8 @@ function package_row(pattern) {
     input.focus();
   });
   add.setAttribute("aria-label", "Add a row for " + pattern);
+  add.title = "Writes its row into the table above, where its tips are still to be typed";
+  out.title = "The board is planned without it";
   made.add = add;
   or.append(out, " ", add);
   return made;
@@ -397,8 +437,10 @@ async function add_all() {
 const next_field = () => at("rack-of").hidden ? at("packages").querySelector("input") ?? at("lacking-head") : at("rack");
 
 function set_rack() {
-  const size = at("rack").value.trim();
-  if (!/^([1-9]|[1-5]\d|6[0-4])$/.test(size)) return;
+  const size = at("rack").value.trim(), is_good = /^([1-9]|[1-5]\d|6[0-4])$/.test(size);
+  at("rack-why").textContent = is_good ? "" : "A rack has 1 to 64 tips.";
+  at("rack").setAttribute("aria-invalid", String(!is_good));
+  if (!is_good) return;
   const lines = at("tips").value.split("\n"), line = rack_line();
   if (line < 0) lines.unshift("rack " + size); else lines[line] = "rack " + size;
   at("tips").value = lines.join("\n");
@@ -410,7 +452,10 @@ function set_rack() {
 // ---- faults, each beside its line, with what can be clicked
 
 // The program says what to type; the page says what to choose.
+const MEND = ", or mend it: parts mend";
 const IN_PAGE = [
+  [MEND, ", or click Mend it"],
+  [/; `parts show` turns it into one/, "; open the parts list that it was made of"],
   [/^--columns needs a ref and a package.*/, "Choose the columns with the references and with the packages, at Columns"],
   [/; add --side top, --side bottom or --side both/, "; choose the top, the bottom or both at Side"],
   [/take --side out, or name the sides/, "choose `as in the file` at Side, or the column of the sides"],
@@ -478,6 +523,40 @@ function number_lines(id, faulty = new Set()) {
   beside.scrollTop = at(id).scrollTop;
 }
 
+// ---- a damaged job file is mended if the user wants it, beside the file that was opened and never in its place
+
+async function offer_to_mend(mine) {
+  const name = at("name").textContent, told = await ask("mend", name, opened_job);
+  if (mine !== asked || !told.ok && !told.why.startsWith("refused")) return;
+  at("mending").hidden = false;
+  at("mend").hidden = !told.ok;
+  at("mending-head").textContent = told.ok ? `Mend ${name}?` : `${name} cannot be mended`;
+  at("mending-what").textContent = told.ok ? "Mending keeps what is whole, leaves out the rest and says what that is. " +
+    `${name} itself stays as it is. Copying it again, or making it again from its list, is safer.` :
+    "The beginning of the file is damaged, so that nothing behind it can be read. Copy the file again, or make it again from its list.";
+  if (!told.ok) return;
+  const [text, file, lost] = told.fields;
+  mending = { name, stem: stem(), text: words(text), file, lost: words(lost) };
+}
+
+async function mend() {
+  const { name, stem, text, file, lost } = mending, mended = stem + "-mended.job";
+  at("mend").hidden = true;
+  at("mended").hidden = false;
+  at("mending-head").textContent = `${name} is mended`;
+  at("mending-what").textContent = `Look at each change and at the mended board, which is planned below, before you use ${mended}: ` +
+    "only you can say whether it is still the board that was meant.";
+  at("mend-lost").textContent = lost;
+  at("mend-text").textContent = text;
+  at("mending-head").focus();
+  await load_list(mended, file, true);
+}
+
+function forget_mending() {
+  mending = null;
+  at("mending").hidden = at("mended").hidden = true;
+}
+
 // ---- the table of tips is kept in the browser, where that is allowed
 
 function table_changed() {
@@ -489,14 +568,25 @@ function table_changed() {
   plan(true);
 }
 
+// Another table comes in the place of the one that is there, which can be brought back.
+let old_table = "";
+function replace_table(text) {
+  old_table = at("tips").value;
+  at("bring-back").hidden = !old_table.trim() || old_table === text;
+  at("tips").value = text;
+  table_changed();
+}
+
 function remembered() {
   try { return localStorage.getItem(KEPT_TABLE) ?? ""; } catch { return ""; }
 }
 
 // ---- files
 
+const kind_of = async (name, bytes) => words((await ask("kind", name, bytes)).fields[0]);
+
 async function read_kind() {
-  kind = opened_job ? "job" : words((await ask("kind", at("list").value)).fields[0]);
+  kind = opened_job ? "job" : await kind_of("", at("list").value);
   at("reading").hidden = kind !== "placements";
   await pick_columns();
 }
@@ -506,26 +596,35 @@ async function load(files, into) {
   const read = await Promise.all(Array.from(files, async file => [file.name, new Uint8Array(await file.arrayBuffer())]));
   const boards = [];
   for (const [name, bytes] of read) {
-    const is = words((await ask("kind", bytes)).fields[0]);
+    const is = await kind_of(name, bytes);
     const is_table = is === "table" || is === "list" && (into === "tips" || read.length > 1 && /tips|table/i.test(name));
     if (is === "xml") openpnp_file(bytes);
-    else if (is_table) { at("tips").value = words(bytes); table_changed(); }
+    else if (is_table) replace_table(words(bytes));
     else boards.push([name, bytes]);
   }
-  if (boards.length > 1) show_others(boards.slice(1));
+  if (boards.length > 1) {
+    show_others(boards.slice(1));
+    at("panel-text").closest("details").open = true;
+  }
   if (boards.length) await load_list(...boards[0]);
   else if (Object.keys(openpnp).length) await load_openpnp();
 }
 
-async function load_list(name, bytes) {
+async function load_list(name, bytes, is_mended = false) {
   openpnp = {};
+  if (!is_mended) forget_mending();
   at("name").textContent = name;
-  opened_job = words((await ask("kind", bytes)).fields[0]) === "job" ? bytes : null;
+  opened_job = await kind_of(name, bytes) === "job" ? bytes : null;
   const listed = opened_job ? await ask("list", name, bytes, "", "", "") : null;
-  at("list").value = opened_job ? words(listed.fields[0] ?? new Uint8Array()) : words(bytes);
+  at("list").value = !opened_job ? words(bytes) : listed.ok ? words(listed.fields[0]) : "";
   number_lines("list");
   at("side").value = "";
   await plan(true);
+  if (!is_mended && !at("mending").hidden) {
+    at("mending").scrollIntoView({ block: "center" });
+    at("mending-head").focus({ preventScroll: true });
+  }
+  if (/ at Side /.test(at("faults").textContent)) at("side").focus();
   if (at("lacking").hidden) return;
   at("lacking").scrollIntoView({ block: "start" });
   next_field().focus({ preventScroll: true });
@@ -603,7 +702,7 @@ function save_png() {
 }
 
 async function exported(format) {
-  const told = await ask("export", format, last.text, at("which").value, at("mounted").value, at("price").value);
+  const told = await ask("export", format, last.text, at("which").value, at("mounted").value, price());
   return told.ok ? told.fields[0] : new TextEncoder().encode(told.why + "\n");
 }
 
@@ -616,6 +715,8 @@ const SAVES = {
   json: async () => save(stem() + "-plan.json", await exported("json"), "application/json"),
   svg: () => save(stem() + ".svg", last.drawing, "image/svg+xml"),
   png: save_png,
+  mended: () => save(mending.stem + "-mended.job", mending.file, "application/octet-stream"),
+  report: () => save(mending.stem + "-mended-report.txt", mending.text + mending.lost, "text/plain"),
   page: async () => save(stem() + ".html", (await ask("page", at("name").textContent, last.text)).fields[0], "text/html"),
   panel: () => last.panel && save(stem() + "-panel.job", last.panel[0], "application/octet-stream"),
   "panel-list": () => last.panel && save(stem() + "-panel.txt", last.panel[1], "text/plain"),
@@ -641,17 +742,27 @@ async function what_if() {
 
 async function show_others(boards) {
   others = boards;
-  at("others-names").textContent = others.map(([name]) => name).join(", ") || "none";
+  const names = others.map(([name]) => name).join(", ");
+  at("others-names").textContent = names || "none";
+  const told = `Opened too, for a panel with this board: ${names}. What they need together is under A panel of several boards, below. `;
+  at("beside").replaceChildren(...(names ? [told, button("Take them out", () => show_others([]))] : []));
+  if (!names) at("panel-text").textContent = "";
   if (last && !at("shown").hidden) await panel(asked, last.text);
 }
 
 function begin() {
   at("list").oninput = () => { opened_job = null; number_lines("list"); plan(true); };
+  at("mend").onclick = mend;
   at("tips").oninput = table_changed;
   for (const id of ["list", "tips"]) at(id).onscroll = () => { at(id).previousElementSibling.scrollTop = at(id).scrollTop; };
   at("k").oninput = at("goal").oninput = struck;
-  at("mounted").onchange = at("price").oninput = () => plan(false);
-  at("fewest").onclick = () => { at("price").value = at("price").max; plan(false); };
+  at("mounted").onchange = () => plan(false);
+  at("price").oninput = () => { set_fewest(false); plan(false); };
+  at("fewest").onclick = () => {
+    set_fewest(!has_fewest());
+    at("price").value = "";
+    plan(false);
+  };
   at("by-tips").onchange = () => last && order(last.text);
   for (const id of ["side", "c-ref", "c-package", "c-value", "c-side", "c-quantity"]) at(id).onchange = () => plan(true);
   at("file").onchange = event => load(event.target.files, "list").then(() => { event.target.value = ""; });
@@ -668,12 +779,11 @@ function begin() {
   for (const one of document.querySelectorAll("[data-save]")) one.onclick = () => last && SAVES[one.dataset.save]();
   at("save-tips").onclick = () => save("tips.txt", at("tips").value, "text/plain");
   at("forget").onclick = () => {
+    replace_table("");
     try { localStorage.removeItem(KEPT_TABLE); } catch { /* nothing was kept */ }
-    at("tips").value = "";
-    number_lines("tips");
     at("remembered").textContent = "The table is forgotten.";
-    plan(true);
   };
+  at("bring-back").onclick = () => { replace_table(old_table); at("tips").focus(); };
   at("start").onclick = at("add-all").onclick = add_all;
   at("rack").onchange = set_rack;
   at("if-allow").onclick = what_if;
@@ -682,6 +792,7 @@ function begin() {
     window.print();
   };
   at("example").onclick = () => {
+    forget_mending();
     opened_job = null;
     at("name").textContent = "example.txt";
     at("list").value = EXAMPLE;

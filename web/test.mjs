@@ -7,7 +7,8 @@ import { spawnSync } from "node:child_process";
 import { opened } from "./calls.mjs";
 
 const [page, program] = process.argv.slice(2);
-const LEAST = 2000, LEAST_REFUSED = 1000; // as many answers are compared, or the test has lost its files
+const LEAST = 2950, LEAST_REFUSED = 1570; // as many answers are compared, or the test has lost its files
+const LEAST_MENDED = 540; // and as many damaged job files are mended
 const html = fs.readFileSync(page, "utf8");
 const policy = html.match(/Content-Security-Policy" content="([^"]+)"/)[1];
 const is_strict = /^default-src 'none'; style-src 'sha256-[^']+'; script-src 'sha256-[^']+' 'wasm-unsafe-eval' blob:; /.test(policy);
@@ -18,7 +19,7 @@ if (!is_strict || /unsafe-inline/.test(policy)) {
 const call = opened(Buffer.from(html.match(/const WASM = "([^"]+)"/)[1], "base64"));
 const work = fs.mkdtempSync(path.join(os.tmpdir(), "page-"));
 process.on("exit", () => fs.rmSync(work, { recursive: true, force: true }));
-let compared = 0, refused = 0, differ = 0;
+let compared = 0, refused = 0, mended = 0, differ = 0;
 
 function native(...given) {
   const ran = spawnSync(program, given, { maxBuffer: 1 << 26 });
@@ -70,6 +71,36 @@ for (const file of files) {
   same(`page ${file}`, native("page", file), call("page", file, bytes));
   for (const k of [0, 1, 5]) same(`keep ${k} ${file}`, native("keep", String(k), file), call("keep", bytes, String(k)));
 }
+
+// A job file mended: the words of parts, its file and its warning, and the same of the page.
+const card = path.join(work, "card.job"), made = path.join(work, "mended.job");
+function mend(what, bytes) {
+  fs.writeFileSync(card, bytes);
+  fs.rmSync(made, { force: true });
+  const ran = spawnSync(program, ["mend", card, made]);
+  const ok = ran.status === 0 || ran.status === 3;
+  const out = ok ? Buffer.concat([ran.stdout, fs.readFileSync(made), ran.stderr]) : ran.stdout;
+  const of_page = call("mend", card, bytes);
+  if (ok && of_page.ok) {
+    mended++;
+    of_page.fields = [Buffer.concat(of_page.fields)];
+  }
+  same(`mend ${what}`, { ok, out, why: ran.stderr.toString().trimEnd() }, of_page);
+}
+// Each file as it is; job files also cut, with bytes behind, with another count and rack, and with odd lines.
+for (const file of files) {
+  const bytes = fs.readFileSync(file);
+  mend(file, bytes);
+  if (bytes.subarray(0, 3).toString() !== "TIP") continue;
+  for (const cut of [2, 7, 8, 15, 16, 25, bytes.length - 1]) mend(`${file} cut to ${cut}`, bytes.subarray(0, cut));
+  for (const more of [1, 8, 9, 20]) mend(`${file} and ${more} bytes`, Buffer.concat([bytes, Buffer.alloc(more, 1)]));
+  for (const [place, byte] of [[4, 1], [4, 2], [5, 1], [6, 2], [6, 255], [7, 0], [7, 1], [8, 255], [15, 0], [16, 0]]) {
+    if (place >= bytes.length || bytes[place] === byte) continue;
+    const changed = Buffer.from(bytes);
+    changed[place] = byte;
+    mend(`${file} with ${byte} in place ${place}`, changed);
+  }
+}
 const find = name => files.filter(file => path.basename(file) === name);
 const of_kicad = fs.readdirSync("parts/tests/kicad").filter(name => /\.csv$|\.pos$/.test(name)).map(name => "parts/tests/kicad/" + name);
 const all_packages = path.join(work, "all.txt");
@@ -105,7 +136,8 @@ for (const packages of find("packages.xml")) {
       call("openpnp", fs.readFileSync(packages), fs.readFileSync(board), has ? fs.readFileSync(parts) : "", "both"));
   }
 }
-console.log(`the page: ${files.length} files, ${compared} answers compared with parts, ${refused} of them refusals, ${differ} differ`);
-const is_whole = compared >= LEAST && refused >= LEAST_REFUSED;
-if (!is_whole) console.log(`this test compares ${LEAST} answers or more, ${LEAST_REFUSED} refusals among them`);
+console.log(`the page: ${files.length} files, ${mended} job files mended, ${compared} answers compared with parts, ` +
+  `${refused} of them refusals, ${differ} differ`);
+const is_whole = compared >= LEAST && refused >= LEAST_REFUSED && mended >= LEAST_MENDED;
+if (!is_whole) console.log(`this test compares ${LEAST} answers or more, ${LEAST_REFUSED} refusals and ${LEAST_MENDED} mended files among them`);
 process.exit(differ || !is_whole ? 1 : 0);

@@ -15,7 +15,7 @@ use parts::import::kicad;
 use parts::import::openpnp::{Board, Packages, Parts};
 use parts::import::table::{self, Table};
 use parts::import::{is_foreign, Faults, Placement, Sides};
-use parts::job::{has_mark, job_of, list_in_words};
+use parts::job::{has_mark, is_job, job_of, list_in_words};
 use parts::letters::shown;
 use parts::limits::too_large;
 use parts::list::{Fault, List};
@@ -29,9 +29,6 @@ use crate::completion;
 
 /// The most faults of a list that are printed.
 const MOST_FAULTS: usize = 20;
-
-/// The bytes of the mark that a job file begins with.
-const MARK: usize = 3;
 
 /// What a bound of keep is.
 const K: &str = "k is a number from 0 to 65535";
@@ -406,11 +403,10 @@ pub fn mend(arguments: &Arguments) -> Result<(), Failure> {
     let mended = mending::mend(&found).map_err(|why| about(path, why))?;
     write(vec![(output, &mended.file)])?;
     print(mended.text.as_bytes())?;
-    if mended.lost > 0 {
-        let (lost, path) = (mending::lost_in_words(mended.lost), shown(path));
-        return Err(Failure::Lost(format!("{path}: {lost}; copy the file again, or make it again from its list")));
+    match mended.warning() {
+        None => Ok(()),
+        Some(warning) => Err(Failure::Lost(format!("{}: {warning}", shown(path)))),
     }
-    Ok(())
 }
 
 pub fn order(arguments: &Arguments) -> Result<(), Failure> {
@@ -485,12 +481,6 @@ fn tip_of(word: &OsStr) -> Result<usize, Failure> {
     let is_none =
         || Failure::Argument(format!("a tip is a number from 0 to {}, and not {}", MOST_TIPS - 1, shown(word)));
     tip.ok_or_else(is_none)
-}
-
-/// Whether these are the bytes of a job file, or what is left of one that was cut before the end of its mark.
-fn is_job(path: &OsStr, bytes: &[u8]) -> bool {
-    let is_called_job = Path::new(path).extension().is_some_and(|extension| extension.eq_ignore_ascii_case("job"));
-    has_mark(bytes) || is_called_job && bytes.len() < MARK
 }
 
 /// The board of these bytes, with names where they are a parts list.

@@ -1,8 +1,17 @@
 //! Job files in words.
 
+use std::path::Path;
+
+use job_file::MARK;
 pub use job_file::{has_mark, Job, Line};
 
 use crate::{quantity_in_words, refusal, tips_in_words};
+
+/// Whether these are the bytes of a job file, or what is left of one that was cut before the end of its mark.
+pub fn is_job(path: impl AsRef<Path>, bytes: &[u8]) -> bool {
+    let is_called_job = path.as_ref().extension().is_some_and(|extension| extension.eq_ignore_ascii_case("job"));
+    has_mark(bytes) || is_called_job && bytes.len() < MARK.len()
+}
 
 /// Reads a job file, or says why it is refused and what to do.
 pub fn job_of(file: &[u8]) -> Result<Job, String> {

@@ -18,8 +18,16 @@ pub struct Mended {
     pub lost: usize,
 }
 
+impl Mended {
+    /// What is told last where parts are lost, and what to do.
+    pub fn warning(&self) -> Option<String> {
+        let what_to_do = "copy the file again, or make it again from its list";
+        (self.lost > 0).then(|| format!("{}; {what_to_do}", lost_in_words(self.lost)))
+    }
+}
+
 /// How many parts are lost, in letters that nobody overlooks.
-pub fn lost_in_words(lost: usize) -> String {
+fn lost_in_words(lost: usize) -> String {
     counted(lost as u64, "PART").replace("PARTs", "PARTS") + " LOST"
 }
 

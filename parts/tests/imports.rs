@@ -5,7 +5,7 @@ use parts::import::kicad;
 use parts::import::openpnp::{Board, Packages, Parts};
 use parts::import::table::Table;
 use parts::import::xml::Element;
-use parts::import::{Faults, Placement, Sides};
+use parts::import::{is_foreign, Faults, Placement, Sides};
 use parts::list::List;
 
 const CSV: &str = include_str!("../../checklist/101-import-kicad/board-top-pos.csv");
@@ -325,6 +325,12 @@ fn mistakes_of_the_text_of_kicad_have_their_lines() {
     let why = "1: no position file of KiCad; it begins with Ref,Val,Package,PosX,PosY,Rot,Side or with ###, \
                and `parts import csv` takes other files";
     assert_eq!(faults("Designator,Comment\nR1,10k\n"), [why]);
+    let why = "1: KiCad's own file and no position file; in KiCad's PCB editor choose File, Fabrication Outputs, \
+               Component Placement, and take the file that this writes";
+    for text in ["(kicad_pcb (version 20211014) (generator pcbnew)\n", "\n(kicad_sch\n"] {
+        assert_eq!(faults(text), [why]);
+        assert!(is_foreign(text.as_bytes()));
+    }
     assert_eq!(faults(""), ["1: no row; the first row has the names of the columns"]);
 }
 

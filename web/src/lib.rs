@@ -12,12 +12,16 @@ use parts::import::csv::{self, Columns};
 use parts::import::openpnp::{Board, Packages, Parts};
 use parts::import::table::{self, Missing, Table};
 use parts::import::{is_foreign, kicad, Faults, Placement, Sides};
-use parts::job::{has_mark, job_of, list_in_words};
+use parts::job::{has_mark, is_job, job_of, list_in_words};
 use parts::limits::too_large;
 use parts::list::{Fault, List};
+use parts::mending;
 use parts::panel::{Merged, Panel};
 use parts::planning::{Kept, Named, Plan, Plans, Which, Wish};
 use parts::{tips_in_words, MOST_TIPS};
+
+/// How the files of spreadsheets begin, newer and older ones.
+const PACKED: [&[u8]; 2] = [b"PK\x03\x04", b"\xd0\xcf\x11\xe0"];
 
 /// What is wrong is told of this many lines.
 const MOST_FAULTS: usize = 20;
@@ -95,7 +99,8 @@ fn answer_of(fields: &[&[u8]]) -> Result<Vec<Vec<u8>>, String> {
     let text = |words: String| Ok(vec![words.into_bytes()]);
     match fields {
         [b"list", name, bytes, table, columns, side] => text(list(name, bytes, table, columns, side)?),
-        [b"kind", bytes] => text(kind_of(bytes).into()),
+        [b"kind", name, bytes] => text(kind_of(name, bytes).into()),
+        [b"mend", name, bytes] => mended(name, bytes),
         [b"columns", bytes] => text(csv::names_of(bytes).unwrap_or_default().join("\n")),
         [b"packages", name, bytes, table, columns, side] => text(packages(name, bytes, table, columns, side)?),
         [b"start", name, bytes, table, columns, side] => text(begun(name, bytes, table, columns, side)?),
@@ -154,8 +159,13 @@ fn list(name: &[u8], bytes: &[u8], table: &[u8], columns: &[u8], side: &[u8]) ->
     if let Some(why) = too_large(bytes).or_else(|| too_large(table)) {
         return Err(format!("{shown}: {why}"));
     }
-    if has_mark(bytes) {
+    if is_job(&*shown, bytes) {
         return Ok(list_in_words(&job_of(bytes)?));
+    }
+    if PACKED.iter().any(|mark| bytes.starts_with(mark)) {
+        return Err(format!(
+            "{shown}: this is packed, as files of spreadsheets are; save it as CSV there, and open that"
+        ));
     }
     if columns.is_empty() && !is_foreign(bytes) {
         return String::from_utf8(bytes.to_vec()).map_err(|_| format!("{shown}: this is no UTF-8 text"));
@@ -178,9 +188,20 @@ fn sides_of(side: &[u8]) -> Result<Sides, String> {
     Sides::of(Some(&*String::from_utf8_lossy(side)).filter(|side| !side.is_empty()))
 }
 
-/// What a file is: a job file, a file of OpenPnP, one with placements, a table of tips, or a list.
-fn kind_of(bytes: &[u8]) -> &'static str {
-    if has_mark(bytes) {
+/// What mending a job file says, the mended file, and where parts are lost how many and what to do.
+fn mended(name: &[u8], bytes: &[u8]) -> Result<Vec<Vec<u8>>, String> {
+    if let Some(why) = too_large(bytes) {
+        return Err(why);
+    }
+    let mended = mending::mend(bytes)?;
+    let name = String::from_utf8_lossy(name);
+    let warning = mended.warning().map_or(String::new(), |warning| format!("{name}: {warning}\n"));
+    Ok(vec![mended.text.into_bytes(), mended.file, warning.into_bytes()])
+}
+
+/// What a file of this name is: a job file, a file of OpenPnP, one with placements, a table of tips, or a list.
+fn kind_of(name: &[u8], bytes: &[u8]) -> &'static str {
+    if is_job(&*String::from_utf8_lossy(name), bytes) {
         "job"
     } else if bytes.trim_ascii_start().starts_with(b"<") {
         "xml"

@@ -6,19 +6,25 @@ use parts::planning::{Named, Which, Wish};
 use web::answer_to;
 
 /// The fields of an answer, `ok` or `refused` first.
-fn answer(fields: &[&str]) -> Vec<String> {
+fn answer_in_bytes(fields: &[&[u8]]) -> Vec<Vec<u8>> {
     let mut request = Vec::new();
     for field in fields {
         request.extend((field.len() as u32).to_le_bytes());
-        request.extend(field.bytes());
+        request.extend(*field);
     }
     let (mut rest, mut answer) = (&answer_to(&request)[..], Vec::new());
     while let Some((length, behind)) = rest.split_first_chunk::<4>() {
         let (field, behind) = behind.split_at(u32::from_le_bytes(*length) as usize);
-        answer.push(String::from_utf8_lossy(field).into_owned());
+        answer.push(field.to_vec());
         rest = behind;
     }
     answer
+}
+
+/// The same as text.
+fn answer(fields: &[&str]) -> Vec<String> {
+    let fields: Vec<&[u8]> = fields.iter().map(|field| field.as_bytes()).collect();
+    answer_in_bytes(&fields).into_iter().map(|field| String::from_utf8_lossy(&field).into_owned()).collect()
 }
 
 /// The most pairs, 15, are on three tips. Two tips would do, with 12.
@@ -146,12 +152,97 @@ fn files_are_told_apart() {
         ("\n <openpnp-board>", "xml"),
         (BOARD, "placements"),
         ("### Module positions - made by KiCad", "placements"),
+        ("(kicad_pcb (version 20211014)", "placements"),
         ("rack 4\nR_* : 0\n", "table"),
         ("rack 4\nR1 : 0\n", "list"),
         ("rack\n", "list"),
     ] {
-        assert_eq!(answer(&["kind", bytes]), ["ok", kind]);
+        assert_eq!(answer(&["kind", "board.txt", bytes]), ["ok", kind]);
     }
+    // What is left of the mark of a job file is told by the name of the file.
+    for (name, bytes, kind) in [
+        ("board.job", "", "job"),
+        ("BOARD.JOB", "TI", "job"),
+        ("board.txt", "TI", "list"),
+        ("job", "TI", "list"),
+        ("board.job", "rack 1\n", "list"),
+    ] {
+        assert_eq!(answer(&["kind", name, bytes]), ["ok", kind], "{name}");
+    }
+}
+
+#[test]
+fn files_that_a_beginner_may_open_are_told_what_to_do() {
+    let list = |bytes: &[u8]| answer_in_bytes(&[b"list", b"board", bytes, b"rack 1\n* : 0\n", b"", b""]);
+    let refused = |why: &str| [b"refused".to_vec(), why.into()];
+    let why =
+        "board:1: KiCad's own file and no position file; in KiCad's PCB editor choose File, Fabrication Outputs, \
+               Component Placement, and take the file that this writes";
+    assert_eq!(list(b"(kicad_pcb (version 20211014)\n"), refused(why));
+    let why = "board: this is packed, as files of spreadsheets are; save it as CSV there, and open that";
+    assert_eq!(list(b"PK\x03\x04\x14\0\x06\0"), refused(why));
+    assert_eq!(list(b"\xd0\xcf\x11\xe0\xa1\xb1\x1a\xe1"), refused(why));
+}
+
+/// The example of the rules: tip 0, and tip 1 or 2.
+const JOB: &[u8; 24] = b"TIP\0\x01\x03\0\x02\0\0\0\0\0\0\0\x01\0\0\0\0\0\0\0\x06";
+
+/// That a job file is refused with these words, and what mending it gives: its words, the file, the warning.
+fn mended(file: &[u8], refused: &str) -> [Vec<u8>; 3] {
+    let list = answer_in_bytes(&[b"list", b"board.job", file, b"", b"", b""]);
+    assert_eq!(list, [b"refused".to_vec(), refused.into()], "{}", String::from_utf8_lossy(&list[1]));
+    let answer = answer_in_bytes(&[b"mend", b"board.job", file]);
+    assert_eq!(answer[0], b"ok");
+    answer[1..].to_vec().try_into().expect("three fields")
+}
+
+#[test]
+fn damaged_job_files_are_mended() {
+    // Four lines are named: tip 3 of a rack of 3 beside tip 0, no tip, tips 1 and 2, and three bytes.
+    let lines: [&[u8]; 4] = [b"\0\0\0\0\0\0\0\x09", &[0; 8], b"\0\0\0\0\0\0\0\x06", &[0; 3]];
+    let damaged = [b"TIP\0\x01\x03\0\x04", &lines.concat()[..]].concat();
+    let refused = "refused 10: the file names 4 lines, which take 40 bytes, and has 35; \
+                   hand over the whole file and no more, or mend it: parts mend";
+    let text = "line 0: tip 3 cleared, outside the rack of 3\n\
+                line 1: dropped, it has no tip\n\
+                the file: 4 lines said, 2 written\n\
+                the file: 3 bytes after line 2 left out\n\
+                lines 2 rack 3, 4 changes, 2 PARTS LOST\n";
+    let warning = "board.job: 2 PARTS LOST; copy the file again, or make it again from its list\n";
+    assert_eq!(mended(&damaged, refused), [text.into(), JOB.to_vec(), warning.into()]);
+    let list = answer_in_bytes(&[b"list", b"board.job", JOB, b"", b"", b""]);
+    assert_eq!(list, [b"ok".to_vec(), b"rack 3\n0 : 0\n1 : 1-2\n".to_vec()]);
+
+    // No part is lost with a byte too many, and there is no warning.
+    let refused = "refused 10: the file names 2 lines, which take 24 bytes, and has 25; \
+                   hand over the whole file and no more, or mend it: parts mend";
+    let text = "the file: 1 byte after line 1 left out\nlines 2 rack 3, 1 change\n";
+    assert_eq!(mended(&[&JOB[..], b"!"].concat(), refused), [text.into(), JOB.to_vec(), Vec::new()]);
+
+    // Other refusals of reading can be mended too: a quantity of 0 in version 2.
+    let of_quantity = |quantity: u8| [b"TIP\0\x02\x01\0\x01\0\0\0\0\0\0\0\x01", &[quantity][..]].concat();
+    let refused = "refused 15: line 0 has quantity 0; write 1 to 255, or take the line out";
+    let text = "line 0: quantity 0 raised to 1\nlines 1 rack 1, 1 change\n";
+    assert_eq!(mended(&of_quantity(0), refused), [text.into(), of_quantity(1), Vec::new()]);
+}
+
+#[test]
+fn files_without_a_good_head_are_not_mended() {
+    let refused = |file: &[u8], why: &str| {
+        let commands: [&[&[u8]]; 2] = [&[b"mend", b"board.job", file], &[b"list", b"board.job", file, b"", b"", b""]];
+        for command in commands {
+            assert_eq!(answer_in_bytes(command), [b"refused".to_vec(), why.into()], "{why}");
+        }
+    };
+    for length in [0, 2, 7] {
+        let why = format!("refused 6: the file has {length} bytes and needs 8 at least; hand over the whole file");
+        refused(&JOB[..length], &why);
+    }
+    refused(b"TIP\0\x01\x41\0\0", "refused 1: the rack size is 65; put 1 to 64 in byte 5");
+    refused(b"TIP\0\x03\x01\0\0", "refused 8: the version is 3; write the file as version 1 or 2");
+    let large = [&b"TIP"[..], &vec![0; 16 << 20]].concat();
+    let why = b"more than 16 MB; name another file, or split it".to_vec();
+    assert_eq!(answer_in_bytes(&[b"mend", b"board.job", &large]), [b"refused".to_vec(), why]);
 }
 
 #[test]

@@ -1,7 +1,7 @@
 //! KiCad's position files: its CSV, and its text with aligned columns.
 
 use crate::import::csv::{self, Columns};
-use crate::import::{fault, Faults, Placement, Side};
+use crate::import::{fault, Faults, Placement, Side, OF_KICAD};
 use crate::list::{decimal_of, lines_of, text_of};
 
 /// A row is one placement, whatever its reference.
@@ -19,9 +19,14 @@ const NAMES: [&str; 7] = ["Ref", "Val", "Package", "PosX", "PosY", "Rot", "Side"
 
 /// The placements of a position file in either form.
 pub fn placements_of(bytes: &[u8]) -> Result<Vec<Placement>, Faults> {
-    if lines_of(bytes).into_iter().find(|line| !line.trim_ascii().is_empty()).is_some_and(|line| line.starts_with(b"#"))
-    {
+    let first = lines_of(bytes).into_iter().find(|line| !line.trim_ascii().is_empty()).unwrap_or_default();
+    if first.starts_with(b"#") {
         return aligned(bytes);
+    }
+    if first.starts_with(OF_KICAD.as_bytes()) {
+        let what = "KiCad's own file and no position file; in KiCad's PCB editor choose File, Fabrication Outputs, \
+                    Component Placement, and take the file that this writes";
+        return Err(vec![fault(1, what)]);
     }
     if let Some(names) = csv::names_of(bytes) {
         if names != NAMES {

@@ -19,14 +19,21 @@ fn fault(line: usize, what: impl Into<String>) -> Fault<String> {
     Fault { line, what: what.into() }
 }
 
-/// Whether a file looks like one that is imported: XML, a position file of KiCad, or a first row with several columns.
+/// How KiCad's own files begin, boards and schematics, which are no position files.
+const OF_KICAD: &str = "(kicad_";
+
+/// Whether a file looks like one that is imported: XML, a file of KiCad, or a first row with several columns.
 pub fn is_foreign(bytes: &[u8]) -> bool {
     let lines = lines_of(bytes);
     let first = lines.into_iter().find(|line| !line.trim_ascii().is_empty()).unwrap_or_default();
     let begins = |words: &str| first.starts_with(words.as_bytes());
     let has_columns =
         || csv::SEPARATORS.iter().any(|&mark| first.iter().filter(|&&byte| char::from(byte) == mark).count() > 1);
-    begins("<") || begins("### Footprint positions") || begins("### Module positions") || !begins("#") && has_columns()
+    begins("<")
+        || begins(OF_KICAD)
+        || begins("### Footprint positions")
+        || begins("### Module positions")
+        || !begins("#") && has_columns()
 }
 
 /// A side of the board.
