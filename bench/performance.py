@@ -48,8 +48,8 @@ def main(path):
         return large[call].rpartition("to ")[2]
 
     for words, number in (
-        ("quickly in", large["quick"]),
-        ("and at best in", large["best"]),
+        ("a quick plan takes", large["quick"]),
+        ("and a best plan", large["best"]),
         ("a goal of pairs up to", most("goal")),
         ("windows of 128 parts up to", most("windows")),
         ("an exact plan from", large["exact-8"]),

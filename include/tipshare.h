@@ -47,9 +47,9 @@
  * The stack that a call needs on Linux, in KB of 1,024 bytes, measured on three
  * processors, 1 KB or more added, rounded up (docs/PERFORMANCE.md):
  *
- *   read 5, common 10, keep 10, goal 96, quick 20, best 33, exact 14, along 10,
- *   check 26, junior 9, merge 18, alone 25, mend 5, order 28, windows 30,
- *   order_by_tips 31, report 49
+ *   read 5, common 10, keep 10, goal 97, quick 20, best 33, exact 14, along 10,
+ *   check 27, junior 9, merge 5, alone 25, mend 5, order 14, windows 12,
+ *   order_by_tips 15, report 49
  *
  * These are for a program that looks functions up at their first calls (-z lazy):
  * the call itself in the shared library, memset and memcpy in the static one. The
@@ -126,8 +126,8 @@
  *        both have more than 512 together
  *    25  line answer[0], the first such, is    use tipshare_exact, for up to 20
  *        no run: it lacks a tip between its    different tips, or
- *        lowest and its highest that another   tipshare_quick
- *        line has
+ *        lowest and its highest that another   tipshare_quick; or number the tips
+ *        line has                              in another order
  *    26  no plan has at most k placements off  raise k by at least -margin, the
  *        its most used tip; answer[1] is the   margin being (int64_t)answer[1]
  *        margin, below zero

@@ -89,8 +89,16 @@ async function pictures(of) {
 async function click(selector) {
   const found = `[...document.querySelectorAll(${quoted(selector)})].find(one => one.checkVisibility())`;
   await holds(`${selector} is there to be clicked`, `!!(${found})`);
-  const { x, y } = await value(`(() => { const one = ${found}; one.scrollIntoView({ block: "center" }); const { left, top, width, height } =
+  const middle = () => value(`(() => { const one = ${found}; one.scrollIntoView({ block: "center" }); const { left, top, width, height } =
     one.getBoundingClientRect(); return { x: left + width / 2, y: top + height / 2 }; })()`);
+  // A plan that comes in moves what is below it: a user clicks when it stands still.
+  let { x, y } = await middle();
+  for (let turn = 0; turn < MOST_TURNS; turn++) {
+    await sleep(50);
+    const before = [x, y];
+    ({ x, y } = await middle());
+    if (x === before[0] && y === before[1]) break;
+  }
   await holds(`nothing covers ${selector}`, `${found}.contains(document.elementFromPoint(${x}, ${y}))`);
   for (const type of ["mousePressed", "mouseReleased"]) await send("Input.dispatchMouseEvent", { type, x, y, button: "left", clickCount: 1 });
 }
@@ -118,6 +126,7 @@ async function saved(selector, name) {
   for (let turn = 0; turn < MOST_TURNS; turn++) {
     if (fs.existsSync(file) && fs.statSync(file).size) return fs.readFileSync(file);
     await sleep(50);
+    if (turn % 60 === 59) await click(selector);
   }
   throw new Error(`${selector} has not saved ${name}`);
 }
@@ -456,7 +465,8 @@ async function damaged_files() {
   await value("document.querySelectorAll('details').forEach((one, at) => { one.open = at < 2; })");
 }
 
-// An exact plan of 20 tips takes longer than 300 ms: a bar says so, and a slider's step does not wait for it.
+// A bar says what takes longer than 300 ms, and a slider's step does not wait for it. On a fast machine no plan takes that long, so the question
+// for an exact plan of 20 tips is held back for 600 ms.
 async function longer_work() {
   let seed = 1;
   const tip = () => (seed = seed * 48271 % 2147483647) % 20;
@@ -468,18 +478,24 @@ async function longer_work() {
   await holds("nothing is left to do", "at('busy').hidden");
   const [is_shown, step] = await value(`new Promise(done => {
     let begun, kept, is_shown = false;
+    const post = Worker.prototype.postMessage, all = performance.now();
+    const end = answer => { Worker.prototype.postMessage = post; done(answer); };
+    Worker.prototype.postMessage = function (message) {
+      if (message[1][0] === 'plan') setTimeout(() => post.call(this, message), 600); else post.call(this, message);
+    };
     at('price').value = 1; at('price').dispatchEvent(new Event('input'));
     const look = () => {
       if (!at('busy').hidden && !is_shown) {
         [is_shown, begun, kept] = [true, performance.now(), at('keep-text').textContent];
         at('k').value = 2040; at('k').dispatchEvent(new Event('input'));
       }
-      if (is_shown && at('keep-text').textContent !== kept) return done([!at('busy').hidden, performance.now() - begun]);
+      if (is_shown && at('keep-text').textContent !== kept) return end([!at('busy').hidden, performance.now() - begun]);
+      if (performance.now() - all > 30000) return end([false, 0]);
       setTimeout(look, 1);
     };
     look(); })`);
   checks++;
-  if (!is_shown) throw new Error("a slider's step waits for the plan");
+  if (!is_shown) throw new Error("there is no bar, or a slider's step waits for the plan");
   console.log(`a slider's step while an exact plan of 20 tips is made: ${step.toFixed(0)} ms`);
   await set("price", "", "input");
 }
@@ -492,6 +508,9 @@ async function paper() {
   const small = path.join(work, "paper.txt");
   fs.writeFileSync(small, "rack 8\n" + lines.join("\n") + "\n");
   for (const [name, file, least, is_drawn] of [["paper-64", "big", 8, false], ["paper-8", "paper", 30, true]]) {
+    // Another board first: what is waited for is not there yet.
+    await click("#example");
+    await same("the board before it", "plan", native("plan", "docs/example.txt"));
     await pick("file", path.join(work, file + ".txt"));
     await same("the board to be printed", "plan", native("plan", path.join(work, file + ".txt")));
     await holds("its sheet is made",
@@ -633,13 +652,15 @@ async function drive() {
   for (let step = 0; step < 5; step++) {
     steps.push(await value(`new Promise(done => {
       const begun = performance.now(), before = at('keep-text').textContent;
-      const look = () => at('keep-text').textContent !== before ? done(performance.now() - begun) : setTimeout(look, 1);
+      const look = () => at('keep-text').textContent !== before || performance.now() - begun > 30000 ?
+        done(performance.now() - begun) : setTimeout(look, 1);
       at('k').value = ${1990 - step}; at('k').dispatchEvent(new Event('input')); look(); })`));
   }
   await longer_work();
   await pick("file", big);
   await same("the largest board again", "plan", native("plan", big));
   const took = Math.min(...steps);
+  if (took > 20000) throw new Error("a slider's step has no answer");
   console.log(`a slider's step on 512 lines and 64 tips: ${steps.map(step => step.toFixed(0)).join(", ")} ms`);
   // Not in the gate, where other work runs beside it.
   if (folder && took > 100) throw new Error(`each step of a slider takes ${took.toFixed(0)} ms or more, and 100 are the most`);

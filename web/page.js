@@ -364,7 +364,7 @@ function package_row(pattern) {
   const made = document.createElement("tr"), [name, , tips, or] = Array.from({ length: 4 }, () => made.insertCell());
   name.textContent = pattern;
   const input = document.createElement("input"), why = document.createElement("small");
-  Object.assign(input, { type: "text", inputMode: "text", placeholder: "0-1", spellcheck: false, autocomplete: "off" });
+  Object.assign(input, { type: "text", inputMode: "text", placeholder: "such as 0-1", spellcheck: false, autocomplete: "off" });
   input.setAttribute("aria-label", "Tips that can pick " + pattern);
   why.setAttribute("role", "status");
   tips.append(input, why);

@@ -122,10 +122,9 @@ module _ {m : ℕ} {qs sets : List ℕ} (n : NamedRuns m qs sets) where
       let least : rank (has set) m ≤ most_tips = omega (arith, rank_le (has set) m, n.good.most) in
       mul-le-mul least least
 
-  -- where each tip is named there is room for the table of the rack
-  pub full_room : {set : ℕ} (table : List ℕ) → set ≡ names sets → set ≡ 2 ^ (m - 1 + 1) - 2 ^ 0 → rank_places set m ≤ length table
-      → m * m ≤ length table
-  full_room table s e room =
+  -- where each tip is named it has room for the table of the rack
+  pub full_room : {set places : ℕ} → set ≡ names sets → set ≡ 2 ^ (m - 1 + 1) - 2 ^ 0 → rank_places set m ≤ places → m * m ≤ places
+  full_room s e room =
       let full = all_full n s e in
       rw (same_names n s, rank_all (named sets) m full.full) at room
 

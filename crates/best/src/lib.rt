@@ -148,36 +148,7 @@ impl Rack {
         spread::spread_table(&ranking, table);
     }
 
-    // The plan and the pairs, with the table by ranks at the front. Where each tip of the rack is named, no line is renumbered.
-    fn plan_pairs(
-        &self,
-        sets: &mut [u64],
-        quantities: &[u8],
-        plan: &mut [u8],
-        table: &mut [u32],
-    ) -> u32
-        requires lent { PlanLent self.now.names self.now.m quantities.now sets.old plan.old }
-        requires room { rank_places self.now.names self.now.m ≤ length table.old }
-        ensures pairs { result ≡ C (repeated quantities.now sets.old) 0 self.now.m }
-        ensures plan { plan.new ≡ best_plan_q (on_head self.now.mounted) self.now.m quantities.now sets.old }
-    {
-        let m = self.m;
-        if self.names == tips::between(0, m - 1) {
-            let full = Full {
-                m,
-                mounted: self.mounted,
-                sets,
-                quantities,
-            };
-            full.plan_runs(plan, &mut table[..m * m]);
-            spread::cell_at(m, table, 0, m)
-        } else {
-            let count = self.plan_by_ranks(sets, quantities, plan, table);
-            spread::cell_at(count, table, 0, count)
-        }
-    }
-
-    // The same with a room of its own.
+    // The plan and the pairs, with room for the table by ranks. Where each tip of the rack is named, no line is renumbered.
     fn pairs_in<const PLACES: usize>(
         &self,
         sets: &mut [u64],
@@ -190,8 +161,21 @@ impl Rack {
         ensures pairs { result ≡ C (repeated quantities.now sets.old) 0 self.now.m }
         ensures plan { plan.new ≡ best_plan_q (on_head self.now.mounted) self.now.m quantities.now sets.old }
     {
+        let m = self.m;
         let mut table = [0u32; PLACES];
-        self.plan_pairs(sets, quantities, plan, &mut table)
+        if self.names == tips::between(0, m - 1) {
+            let full = Full {
+                m,
+                mounted: self.mounted,
+                sets,
+                quantities,
+            };
+            full.plan_runs(plan, &mut table[..m * m]);
+            spread::cell_at(m, &table, 0, m)
+        } else {
+            let count = self.plan_by_ranks(sets, quantities, plan, &mut table);
+            spread::cell_at(count, &table, 0, count)
+        }
     }
 }
 

@@ -132,7 +132,8 @@ module _ (names m : ℕ) (tab : List ℕ) where
 
       some_entry : (a w : ℕ) → a + w ≤ m → 0 < width ok a w → entry m tab a w ≡ entry r own (rank ok a) (width ok a w)
       some_entry a w l p =
-          let s : 0 < w = ⊎_elim (λ q. let e : a + w ≡ a = omega arith in absurd (omega (arith, width_end ok a w, ap (rank ok) e))) (λ q. q) (le_or_lt w 0) in
+          let s : 0 < w =
+          ⊎_elim (λ q. let e : a + w ≡ a = omega arith in absurd (omega (arith, width_end ok a w, ap (rank ok) e))) (λ q. q) (le_or_lt w 0) in
           let b = a + (w - 1) in
           let e : a + w ≡ b + 1 = omega arith in
           let n : rank ok a + width ok a w ≡ rank ok (b + 1) = width_end ok a w ∙ ap (rank ok) e in

@@ -13,7 +13,7 @@ use crate::tabled::Foreign;
 use placements::Lines;
 use spans::{MOST_SUMS, SMALL_SUMS, SMALL_TABLE};
 
-// With room for the sums of the rack.
+// By all tips of the rack, with room for its sums.
 // The clauses on a table's length stay here and below: it is the size of a buffer of the caller.
 fn fits_in<const SUMS: usize>(lines: Lines<'_>, names: u64, claim: u32, table: &[u32]) -> bool
     requires named { RunsOf names lines.sets.now }

@@ -58,6 +58,7 @@ impl Wide<'_> {
         lacking == 0
     }
 
+    // The row of a named tip has copied columns; that of another tip is copied, and its own place is 0.
     fn row_spread(&self, a: usize) -> bool
         requires { a < self.now.m }
         ensures { result ≡ row_spread self.now.names self.now.m self.now.table.now a }

@@ -17,7 +17,8 @@ use Rattle.file_calls.specs.Calls.{common_in}
 use Rattle.file_calls.specs.Rules.{CommonRuleOf}
 use Rattle.file_calls.proofs.ReadLines.{common-in}
 
-module _ (file : List ℕ) (z : (read_refusal file).number ≡ 0) {planes : List ℕ} (c : Counts (repeated (quantities_in file) (sets_in file)) planes) where
+module _ (file : List ℕ) (z : (read_refusal file).number ≡ 0) {planes : List ℕ}
+    (c : Counts (repeated (quantities_in file) (sets_in file)) planes) where
   abbrev m : ℕ
   m = rack_in file
 

@@ -38,7 +38,8 @@ use Rattle.file_calls.specs.Outcomes.{Outcome, twos_complement, refused_outcome}
 use Rattle.file_calls.specs.Calls.{keep_in, keep_file_in}
 use Rattle.file_calls.proofs.KeptFile.{margin-refused, write-refused, kept-written}
 
-module _ (file : List ℕ) (z : (read_refusal file).number ≡ 0) {planes : List ℕ} (c : Counts (repeated (quantities_in file) (sets_in file)) planes) where
+module _ (file : List ℕ) (z : (read_refusal file).number ≡ 0) {planes : List ℕ}
+    (c : Counts (repeated (quantities_in file) (sets_in file)) planes) where
   abbrev m : ℕ
   m = rack_in file
 

@@ -1,6 +1,8 @@
 // Common tip of a job file.
-ghost use Rattle.std.specs.Prelude.{◌≡◌};
+ghost use Rattle.std.specs.Prelude.{◌≡◌, ◌≤◌};
+ghost use Rattle.model.specs.Limits.{most_lines};
 ghost use Rattle.job.specs.Job.{version_in};
+ghost use Rattle.job_read.specs.Reading.{HasRoom};
 ghost use Rattle.cases.specs.Cases.{Told};
 ghost use Rattle.file_calls.specs.Outcomes.{outcome_of};
 ghost use Rattle.file_calls.specs.Calls.{common_in};
@@ -9,7 +11,7 @@ ghost use Rattle.file_calls.specs.Cases.{read_cases};
 
 use crate::Counts;
 use common_tip::Common;
-use job_read::Room;
+use job_read::{FEW, MOST, RoomOf};
 use refusal::Refused;
 
 fn counts_of(found: Common) -> Counts
@@ -22,14 +24,28 @@ fn counts_of(found: Common) -> Counts
     }
 }
 
-// The lines of a file with quantities are read first: they are added up once for each binary digit of the quantities.
+// The lines of a file with quantities are read first, because each binary digit of the quantities takes a pass over them. A file of at most N lines.
+fn counted_in<const N: usize>(file: &[u8]) -> Result<Counts, Refused>
+    requires size { N ≤ most_lines }
+    requires room { HasRoom N file.now }
+    ensures outcome { outcome_of result ≡ common_in file.now }
+    ensures rule { CommonRuleOf file.now (outcome_of result) }
+{
+    let mut room = RoomOf::<N>::new();
+    let lines = room.read_short(file)?;
+    Ok(counts_of(line_calls::common(lines)))
+}
+
+#[tactic(auto, using(job_read::proofs::ReadLines::most_room))]
 fn counted_common(file: &[u8]) -> Result<Counts, Refused>
     ensures outcome { outcome_of result ≡ common_in file.now }
     ensures rule { CommonRuleOf file.now (outcome_of result) }
 {
-    let mut room = Room::new();
-    let lines = room.read(file)?;
-    Ok(counts_of(line_calls::common(lines)))
+    if job_read::is_short(file) {
+        counted_in::<FEW>(file)
+    } else {
+        counted_in::<MOST>(file)
+    }
 }
 
 // A file without quantities is counted from its bytes.

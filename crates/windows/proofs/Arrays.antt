@@ -23,7 +23,7 @@ use Rattle.flat_order.specs.Sets.{has_part}
 use Rattle.flat_order.specs.Flat.{flat_task, by_ready, ready_order, Leaves}
 use Rattle.flat_order.proofs.Ready.{ready_obeys}
 use Rattle.windows.specs.Bounds.{solvable, due_by, not_before}
-use Rattle.windows.specs.Found.{Ready}
+use Rattle.windows.specs.Found.{Ready, Narrowable}
 use Rattle.windows.proofs.Bounds.{Below, solvable_iff, due_below}
 
 -- ---- orders of tasks that agree
@@ -49,6 +49,10 @@ module _ (firsts lasts : List ℕ) (rows : List PartSet) (ready : Ready firsts l
 
   pub below : Below t
   below i l = ready.closes i l
+
+  -- where some order obeys, the positions of each part can be narrowed
+  pub narrowable : (i : ℕ) → i < length lasts → {order : List ℕ} → Obeys t order → Narrowable firsts lasts rows i
+  narrowable i part {order} o = record { ready = ready; part = part; solvable = (solvable_iff t below).1 (order, o) }
 
   pub same_task : Agree t t
   same_task = record { size = refl; first = λ j h. refl; last = λ j h. refl; before = λ j k h m. refl }

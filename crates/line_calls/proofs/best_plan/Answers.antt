@@ -31,7 +31,8 @@ returns-in_err-best_refusal c =
     let (answer, (plan, rule)) =
     best-plan_refused (mounted_refusal none a.lines.rack (on_head a.mounted)) a.lines.rack (on_head a.mounted) a.lines.quantities.now a.lines.sets.now
     a.plan.now (a.lines.rack * a.lines.rack)
-    (best_as a.lines.rack a.lines.sets.now (length a.plan.now) (a.lines.rack * a.lines.rack) c.in_err-best_refusal.ensures c.in_ok-mounted_refusal.ensures)
+    (best_as a.lines.rack a.lines.sets.now (length a.plan.now) (a.lines.rack * a.lines.rack) c.in_err-best_refusal.ensures
+    c.in_ok-mounted_refusal.ensures)
     (reason_not_0 e.reason) in
     rw same (record { answer = answer; plan = plan; rule = rule })
 
@@ -60,9 +61,10 @@ returns c =
     let laid = c.plan_without_table.ensures in
     let same = c.copy_sets.ensures in
     let (answer, (plan, rule)) =
-    best-plan_accepted (mounted_refusal none a.lines.rack (on_head a.mounted)) a.lines.rack (on_head a.mounted) a.lines.quantities.now a.lines.sets.now
-    a.plan.now (a.lines.rack * a.lines.rack)
-    (best_as a.lines.rack a.lines.sets.now (length a.plan.now) (a.lines.rack * a.lines.rack) c.in_ok-best_refusal.ensures c.in_ok-mounted_refusal.ensures)
+    best-plan_accepted (mounted_refusal none a.lines.rack (on_head a.mounted)) a.lines.rack (on_head a.mounted) a.lines.quantities.now
+    a.lines.sets.now a.plan.now (a.lines.rack * a.lines.rack)
+    (best_as a.lines.rack a.lines.sets.now (length a.plan.now) (a.lines.rack * a.lines.rack) c.in_ok-best_refusal.ensures
+    c.in_ok-mounted_refusal.ensures)
     refl a.lines.good c.len-count.ensures
     (rw same at laid.pairs) (rw same at laid.plan) in
     record { answer = answer; plan = plan; rule = rule }

@@ -4,7 +4,7 @@ use Rattle.model.proofs.Tests.{true_T}
 use Rattle.model.proofs.ListOf.{list_is}
 use Rattle.flat_order.specs.Flat.{flat_task}
 use Rattle.windows.specs.Bounds.{solvable, soonest, latest}
-use Rattle.windows.proofs.Arrays.{below}
+use Rattle.windows.proofs.Arrays.{below, narrowable}
 use Rattle.windows.proofs.Bounds.{solvable_iff}
 use Rattle.windows.proofs.Ruling.{bounds-rule, found_none, found_all}
 use Rattle.windows.proofs.Seen.{unseen_first, unseen_last}
@@ -37,26 +37,10 @@ loop-i-init g c =
     }
 
 pub narrow_first-requires-clause-part : goal.narrow_first-requires-clause-part
-narrow_first-requires-clause-part g c =
-    let a = c.args in
-    record {
-      ready = c.requires.ready;
-      part = omega arith;
-      solvable =
-          (solvable_iff (flat_task a.firsts.now a.lasts.now a.rows.now) (below _ _ _ c.requires.ready)).1
-          (take (length a.lasts.now) c.in-Some.found, c.in-Some.ensures.some);
-    }
+narrow_first-requires-clause-part g c = narrowable _ _ _ c.requires.ready _ (omega arith) c.in-Some.ensures.some
 
 pub narrow_last-requires-clause-part : goal.narrow_last-requires-clause-part
-narrow_last-requires-clause-part g c =
-    let a = c.args in
-    record {
-      ready = c.requires.ready;
-      part = omega arith;
-      solvable =
-          (solvable_iff (flat_task a.firsts.now a.lasts.now a.rows.now) (below _ _ _ c.requires.ready)).1
-          (take (length a.lasts.now) c.in-Some.found, c.in-Some.ensures.some);
-    }
+narrow_last-requires-clause-part g c = narrowable _ _ _ c.requires.ready _ (omega arith) c.in-Some.ensures.some
 
 pub returns-clause-found : goal.returns-clause-found
 returns-clause-found g c =

@@ -60,7 +60,8 @@ returns-in_err-write_refusal c =
     let counted = c.count_tips-planes.ensures in
     let margin = rw (opened.file.header_is.rack-is, opened.placements_are) at c.bound_by-bound.ensures.margin in
     let w = c.in_err-write_refusal.field-0.0 in
-    let p = told file opened.accepted counted a.k c.ranges.k.fits margin (Ok c.in_ok-margin.margin) c.in_ok-margin.ensures.refusal c.in_ok-margin.ensures.margin in
+    let p = told file opened.accepted counted a.k c.ranges.k.fits margin (Ok c.in_ok-margin.margin)
+    c.in_ok-margin.ensures.refusal c.in_ok-margin.ensures.margin in
     let plain = ap version_in c.in_ok-opened.ensures.same ∙ c.requires.plain in
     let same : c.from_residual-in_err-write_refusal.result ≡ Err (record { refused = w; margin = pos 0 }) = search rules in
     let (outcome, out) =
@@ -96,7 +97,8 @@ returns c =
     let bound = c.bound_by-bound.ensures in
     let margin = rw (opened.file.header_is.rack-is, opened.placements_are) at bound.margin in
     let tips = rw (opened.file.header_is.rack-is, opened.placements_are) at bound.tips in
-    let p = told file opened.accepted counted a.k c.ranges.k.fits margin (Ok c.in_ok-margin.margin) c.in_ok-margin.ensures.refusal c.in_ok-margin.ensures.margin in
+    let p = told file opened.accepted counted a.k c.ranges.k.fits margin (Ok c.in_ok-margin.margin)
+    c.in_ok-margin.ensures.refusal c.in_ok-margin.ensures.margin in
     let plain = ap version_in c.in_ok-opened.ensures.same ∙ c.requires.plain in
     let lines = opened.file.header_is.count-is in
     let same = c.in_ok-opened.ensures.same in
