@@ -168,8 +168,8 @@ impl Temporary {
         loop {
             let path = place.with_file_name(format!(".parts-{}-{number}.tmp", process::id()));
             match new_file(&path, mode) {
-                Ok(file) => {
-                    let temporary = Temporary { _removed: Removed::on_signal(&path), path, place, is_new };
+                Ok((file, removed)) => {
+                    let temporary = Temporary { path, _removed: removed, place, is_new };
                     permissions.map_or(Ok(()), |permissions| file.set_permissions(permissions))?;
                     return Ok((file, temporary));
                 }

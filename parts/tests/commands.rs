@@ -195,7 +195,7 @@ fn signal_removes_what_is_half_written() {
     fs::write(&job, "TIP old").unwrap();
     assert!(Command::new("mkfifo").arg(&pipe).status().unwrap().success());
     for (name, number) in [("HUP", 1), ("INT", 2), ("TERM", 15)] {
-        let mut started = program(&["keep", "1", &list, "--job", &job, "--list", &pipe]).spawn().unwrap();
+        let mut started = unshielded(&["keep", "1", &list, "--job", &job, "--list", &pipe]).spawn().unwrap();
         let reader = File::open(&pipe).unwrap();
         let is_written = || names_in(&folder).iter().any(|name| name.ends_with(".tmp"));
         while !is_written() {
@@ -210,18 +210,56 @@ fn signal_removes_what_is_half_written() {
     }
 }
 
+/// The program, ended by signals that this process ignores too, as it does under nohup.
+fn unshielded(arguments: &[&str]) -> Command {
+    let mut program = Command::new("env");
+    program.args(["--default-signal=HUP,INT,TERM", env!("CARGO_BIN_EXE_parts")]).args(arguments);
+    program.stdin(Stdio::piped()).stdout(Stdio::piped()).stderr(Stdio::piped());
+    program
+}
+
+#[test]
+fn signal_removes_what_was_just_made() {
+    let folder = folder("made");
+    // The signal comes while the call that made the file is not back yet.
+    let source =
+        "#include <fcntl.h>\n#include <signal.h>\n#include <string.h>\n#include <sys/syscall.h>\n#include <unistd.h>\n\
+        int open64(const char *path, int flags, unsigned mode) {\n\
+            int file = syscall(SYS_openat, AT_FDCWD, path, flags, mode);\n\
+            if (strstr(path, \"/.parts-\") && file >= 0) raise(SIGTERM);\n\
+            return file;\n\
+        }\n";
+    let library = preloaded(&folder, source);
+    let list = typed(&folder, "list.txt");
+    fs::write(&list, LIST).unwrap();
+    let before = names_in(&folder);
+    let job = typed(&folder, "out.job");
+    let mut started = unshielded(&["make", &list, "-o", &job]).env("LD_PRELOAD", &library).spawn().unwrap();
+    assert_eq!(started.wait().unwrap().signal(), Some(15));
+    assert_eq!(names_in(&folder), before);
+    // A signal that is ignored, as under nohup, removes nothing.
+    let mut ignoring = Command::new("env");
+    ignoring.args(["--ignore-signal=TERM", env!("CARGO_BIN_EXE_parts"), "make", &list, "-o", &job]);
+    assert!(ignoring.env("LD_PRELOAD", &library).status().unwrap().success());
+    assert_eq!(fs::read(&job).unwrap(), EXAMPLE);
+}
+
+/// A library of this source in C, to load before the others.
+fn preloaded(folder: &Path, text: &str) -> String {
+    let (source, library) = (typed(folder, "library.c"), typed(folder, "library.so"));
+    fs::write(&source, text).unwrap();
+    let built = Command::new("gcc").args(["-shared", "-fPIC", "-o", &library, &source]).status().unwrap();
+    assert!(built.success());
+    library
+}
+
 #[test]
 fn output_that_is_lost_when_it_is_closed_is_told() {
     let folder = folder("closing");
     // As on a file system that keeps an error until then.
-    let (source, library) = (typed(&folder, "closing.c"), typed(&folder, "closing.so"));
-    fs::write(
-        &source,
-        "#include <errno.h>\nint close(int file) { errno = file == 1 ? EIO : 0; return file == 1 ? -1 : 0; }\n",
-    )
-    .unwrap();
-    let built = Command::new("gcc").args(["-shared", "-fPIC", "-o", &library, &source]).status().unwrap();
-    assert!(built.success());
+    let source =
+        "#include <errno.h>\nint close(int file) { errno = file == 1 ? EIO : 0; return file == 1 ? -1 : 0; }\n";
+    let library = preloaded(&folder, source);
     let (_, why, status) = run_with(program(&["make", "-"]).env("LD_PRELOAD", &library), LIST.as_bytes());
     let lost =
         "standard output: Input/output error (os error 5); let it lead to a file or a pipe that takes all of it\n";

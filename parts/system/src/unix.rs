@@ -8,7 +8,7 @@ use std::os::unix::ffi::OsStrExt;
 use std::os::unix::fs::{MetadataExt, OpenOptionsExt};
 use std::path::Path;
 use std::ptr;
-use std::sync::atomic::{AtomicBool, AtomicPtr, Ordering::SeqCst};
+use std::sync::atomic::{AtomicBool, AtomicPtr, AtomicU32, Ordering::SeqCst};
 
 use crate::Identity;
 
@@ -46,27 +46,42 @@ const MOST_FILES: usize = 8;
 /// The paths of the files that are removed when the program ends early.
 static PATHS: [AtomicPtr<c_char>; MOST_FILES] = [const { AtomicPtr::new(ptr::null_mut()) }; MOST_FILES];
 
+/// Whether a file is being made whose path stands in no place of PATHS yet. A signal waits until then.
+static IS_MAKING: AtomicBool = AtomicBool::new(false);
+/// The signals that came, each as the bit of its number.
+static CAME: AtomicU32 = AtomicU32::new(0);
+
 /// A file that a signal removes, until this goes out of use.
 pub struct Removed {
     place: usize,
 }
 
+/// Makes a file that is not there yet, with this mode, of which the mask of the process takes something away. A signal that ends
+/// the program removes the file first, however early it comes, unless there are too many already.
+pub fn new_file(path: &Path, mode: u32) -> io::Result<(File, Option<Removed>)> {
+    let name = CString::new(path.as_os_str().as_bytes())?;
+    IS_MAKING.store(true, SeqCst);
+    SENT.into_iter().for_each(catch);
+    let file = OpenOptions::new().write(true).create_new(true).mode(mode).open(path);
+    let made = file.map(|file| (file, Removed::on_signal(name)));
+    IS_MAKING.store(false, SeqCst);
+    let came = CAME.load(SeqCst);
+    if came != 0 {
+        end_by(came.trailing_zeros() as c_int);
+    }
+    made
+}
+
 impl Removed {
-    /// Has a signal that ends the program remove this file first; nothing where there are too many already.
-    pub fn on_signal(path: &Path) -> Option<Removed> {
-        let path = CString::new(path.as_os_str().as_bytes()).ok()?.into_raw();
+    fn on_signal(name: CString) -> Option<Removed> {
+        let path = name.into_raw();
         let taken = |at: &AtomicPtr<c_char>| at.compare_exchange(ptr::null_mut(), path, SeqCst, SeqCst).is_ok();
-        match PATHS.iter().position(taken) {
-            Some(place) => {
-                SENT.into_iter().for_each(catch);
-                Some(Removed { place })
-            }
-            None => {
-                // Safety: it was made by into_raw above, and nothing else has it.
-                drop(unsafe { CString::from_raw(path) });
-                None
-            }
+        let place = PATHS.iter().position(taken);
+        if place.is_none() {
+            // Safety: it was made by into_raw above, and nothing else has it.
+            drop(unsafe { CString::from_raw(path) });
         }
+        place.map(|place| Removed { place })
     }
 }
 
@@ -87,13 +102,23 @@ fn catch(number: c_int) {
     unsafe {
         if signal(number, action as usize) == IGNORED {
             signal(number, IGNORED);
+            // So is one that came in between.
+            CAME.fetch_and(!(1 << number), SeqCst);
         }
     }
 }
 
 extern "C" fn on_signal(number: c_int) {
+    CAME.fetch_or(1 << number, SeqCst);
+    if !IS_MAKING.load(SeqCst) {
+        end_by(number);
+    }
+}
+
+/// Removes the files; the signal then ends the program as it would have done without this, at once or where its handling ends.
+fn end_by(number: c_int) {
     remove_all();
-    // Safety: the signal then ends the program as it would have done without this.
+    // Safety: a signal may call both.
     unsafe {
         signal(number, DEFAULT);
         raise(number);
@@ -158,11 +183,6 @@ fn opened(stream: &impl AsFd) -> io::Result<File> {
 pub fn identity_of(file: &File) -> io::Result<Option<Identity>> {
     let data = file.metadata()?;
     Ok(data.is_file().then(|| Identity(data.dev(), data.ino())))
-}
-
-/// Makes a file that is not there yet, with this mode, of which the mask of the process takes something away.
-pub fn new_file(path: &Path, mode: u32) -> io::Result<File> {
-    OpenOptions::new().write(true).create_new(true).mode(mode).open(path)
 }
 
 /// What is before the first `=` of a word, and what is behind it where there is one.

@@ -42,12 +42,6 @@ pub fn end(sentence: &[u8], status: c_int) -> ! {
 /// A file that a signal removes. Windows has no such signals.
 pub struct Removed;
 
-impl Removed {
-    pub fn on_signal(_: &Path) -> Option<Removed> {
-        None
-    }
-}
-
 /// Windows does not tell a closed standard output from one that takes everything.
 pub fn standard_output_is_open() -> io::Result<()> {
     Ok(())
@@ -82,8 +76,8 @@ pub fn identity_of(file: &File) -> io::Result<Option<Identity>> {
 }
 
 /// Makes a file that is not there yet. A file of Windows has no mode.
-pub fn new_file(path: &Path, _mode: u32) -> io::Result<File> {
-    OpenOptions::new().write(true).create_new(true).open(path)
+pub fn new_file(path: &Path, _mode: u32) -> io::Result<(File, Option<Removed>)> {
+    OpenOptions::new().write(true).create_new(true).open(path).map(|file| (file, None))
 }
 
 /// What is before the first `=` of a word, and what is behind it where there is one; a word that is no text has none.
