@@ -21,7 +21,9 @@ COPIED = ("crates.txt", "crates")
 # What only follows from an error elsewhere.
 FOLLOWS = re.compile(r"was not (admitted|checked)")
 ERROR = re.compile(r"(?:\./)?(\S+?):\d+:\d+: error: (`[^`]*`: )?(.*)")
-NO_NAME = re.compile(r"is not in scope|has no field|can be named from here|is no name|operand is missing|expected the end|cannot continue")
+NO_NAME = re.compile(
+    r"is not in scope|has no field|can be named from here|is no name|operand is missing|expected the end|cannot continue|needs a type here"
+)
 
 
 class Edit:

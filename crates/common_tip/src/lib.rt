@@ -11,8 +11,6 @@ ghost use Rattle.model.specs.Limits.{most_placements};
 ghost use Rattle.counts.specs.Counts.{count_at, busy_tips, Countable};
 ghost use Rattle.common_tip.specs.Common.{margin_by, least_count, narrow_by, kept_by, kept_lines};
 
-use placements::Lines;
-
 // The most placements that allow one tip, how many do not allow it, and the set W of the tips that as many allow.
 #[derive(Clone, Copy)]
 pub struct Common {
@@ -38,13 +36,15 @@ pub fn common_by(planes: &[u64; counts::PLANES], rack: usize, n: usize) -> Commo
     }
 }
 
-pub fn common_tip(lines: Lines<'_>) -> Common
-    ensures top { result.top ≡ top lines.entry.rack (repeated lines.entry.quantities.now lines.entry.sets.now) }
-    ensures off { result.off ≡ total lines.entry.quantities.now - result.top }
-    ensures tips { result.tips ≡ W lines.entry.rack (repeated lines.entry.quantities.now lines.entry.sets.now) }
+pub fn common_tip(rack: usize, lines: &[u64], quantities: &[u8]) -> Common
+    requires rack { rack ≤ 64 }
+    requires countable { Countable quantities.now lines.now }
+    ensures top { result.top ≡ top rack (repeated quantities.now lines.now) }
+    ensures off { result.off ≡ total quantities.now - result.top }
+    ensures tips { result.tips ≡ W rack (repeated quantities.now lines.now) }
 {
-    let planes = counts::count_tips(lines.sets, lines.quantities);
-    common_by(&planes, lines.rack, lines.total())
+    let planes = counts::count_tips(lines, quantities);
+    common_by(&planes, rack, placements::total(quantities))
 }
 
 // Top, less the placements, plus k.

@@ -1,15 +1,19 @@
 -- Two files: from the lines that were read to what merging them and planning each alone give, and what is written reads back as the panel's lines.
-use Prim.Native.Nat.{ℕ, ◌+◌}
+use Prim.Native.Nat.{ℕ, ◌+◌, ◌≤◌}
+use native.Mathlib.Omega.{arith}
 use mathlib.Core.Path.{◌≡◌, sym, refl, ap, ap₂, subst, ◌∙◌}
+use mathlib.Core.Bool.{Bool, true, false}
 use mathlib.Core.List.{List, ◌++◌}
 use lib.ListN.{length, take, drop}
-use lib.Seq.{take_at}
+use lib.Seq.{length-take-le, take_at}
+use borrow.Author.Tests.{eqb-true, eqb-false}
+use Rattle.model.specs.Limits.{most_lines}
 use Rattle.placements.specs.Repeated.{total}
 use Rattle.placements.specs.Good.{GoodLines}
 use Rattle.file_calls.specs.Calls.{file_outcome}
 use Rattle.refusal.specs.Refusal.{or_else}
 use Rattle.refusal.specs.Told.{Refusal}
-use Rattle.refusal.specs.Refusal.{none}
+use Rattle.refusal.specs.Refusal.{none, accepts, Given}
 use Rattle.refusal.specs.declared.Refused.{Refused}
 use Rattle.refusal.specs.Reasons.{told_of}
 use Rattle.refusal.proofs.Laws.{number_of, or_first, or_ok, or_none, accepted, reason_not_0}
@@ -35,6 +39,14 @@ use Rattle.file_calls.specs.Panel.{reads_refusal, merge_refusal_in, merge_of_fil
 use Rattle.file_calls.specs.Panel.{alone_outcome, alone_in, alone_plan_in, AloneRuleOf}
 use Rattle.file_calls.proofs.ReadLines.{AsRead}
 use Rattle.file_calls.proofs.WrittenFile.{written_version}
+
+-- a file that was read has few lines, and one that was not has none
+pub few-lines : {d : Refusal} {m n : ℕ} {qs sets : List ℕ} → Given d m n qs sets → ((d.number ≡ 0 → ⊥) → (m ≡ 0) × (n ≡ 0)) → n ≤ most_lines
+few-lines {d} {n} {sets} g h = by (accepts d) refl
+  where
+    by : (t : Bool) → accepts d ≡ t → n ≤ most_lines
+    by true e = let z = eqb-true d.number 0 e in omega (arith, (g.good z).few-lines, length-take-le n sets (g.room z))
+    by false e = omega (arith, (h (eqb-false d.number 0 e)).1)
 
 module _ (first second : List ℕ) {d e state : Refusal} (p : d ≡ read_refusal first) (q : e ≡ read_refusal second) (g : state ≡ or_else d e)
     {m o : ℕ} {qs sets rs others : List ℕ} (same : d.number ≡ 0 → AsRead first m qs sets)

@@ -1,13 +1,13 @@
 -- The search for the lowest candidate that no other part left is to precede.
-use Prim.Native.Nat.{ℕ, ◌^◌, ◌<◌}
+use Prim.Native.Nat.{ℕ, ◌^◌, ◌≤◌, ◌<◌}
 use native.Mathlib.Omega.{arith}
 use mathlib.Core.Path.{◌≡◌, refl, ap, ◌∙◌}
-use mathlib.Core.Logic.{◌≢◌}
+use mathlib.Core.Logic.{◌≢◌, ⊎_elim}
 use mathlib.Core.Bool.{Bool, true, false, not, cond, ◌&&◌}
 use mathlib.Core.List.{List}
 use lib.Dec.{T, ltb, eqb, ltb→lt, T_not, not_T, eqb→eq, eqb_refl}
 use lib.ListN.{set, replicate, length-set, length-replicate}
-use Rattle.model.proofs.Tests.{and_left, and_right, and_in, same_test, true_T, false_T, false_not, cond_case}
+use Rattle.model.proofs.Tests.{le_or_lt, and_left, and_right, and_in, same_test, true_T, false_T, false_not, cond_case}
 use Rattle.order_rules.specs.Number.{number, without}
 use Rattle.order_rules.proofs.Number.{number_but, without-left, without_differs, without_in}
 use Rattle.flat_order.specs.declared.sets.PartSet.{PartSet}
@@ -17,6 +17,39 @@ use Rattle.flat_order.proofs.Members.{has-single, has-joined, has-met, has-remov
 use Rattle.flat_order.proofs.Lasts.{first-none}
 use Rattle.flat_order.proofs.Below.{row-set}
 use Rattle.flat_order.proofs.Settled.{left-without}
+
+-- of the candidates `start` that the search begins with, each from the lowest of `among` on is still to be tried: it is one of `among`
+pub record Onward (start among : PartSet) : Type 0 where
+  pub rest : (x i : ℕ) → IsLowest among x → x ≤ i → T (has_part start i) → T (has_part among i)
+
+pub onward_none : (start : PartSet) → Onward start start
+onward_none start = record { rest = λ x i is l t. t }
+
+-- x is the lowest of the candidates still to be tried
+module _ (rest : PartSet) (x : ℕ) (is : IsLowest rest x) where
+  keeps : (i : ℕ) → T (has_part (removed rest (single x)) i) → T (has_part rest i) × (x ≢ i)
+  keeps i t =
+      let u : T (without x (has_part rest) i) = rw (left-without rest x i) at t in
+      (without-left (has_part rest) x i u, without_differs (has_part rest) x i u)
+
+  stays : (i : ℕ) → T (has_part rest i) → x ≢ i → T (has_part (removed rest (single x)) i)
+  stays i t d = rw (left-without rest x i) (without_in (has_part rest) x i t d)
+
+  -- the next candidate that is tried is after it
+  pub trying_later : (y : ℕ) → x < 128 → IsLowest (removed rest (single x)) y → x < y
+  trying_later y l next =
+      ⊎_elim
+      (λ h. let (t, d) = keeps y (next.found (omega arith)) in
+      ⊎_elim (λ k. absurd (d (omega arith))) (λ k. absurd (omega (arith, is.least y t))) (le_or_lt x y))
+      (λ h. h)
+      (le_or_lt y x)
+
+  pub onward_more : (start : PartSet) → x < 128 → Onward start rest → Onward start (removed rest (single x))
+  onward_more start l s = record {
+    rest = λ y i next k t.
+        let later = trying_later y l next in
+        stays i (s.rest x i is (omega arith) t) (λ z. omega arith);
+  }
 
 module _ (all left : PartSet) (rows : List PartSet) where
   abbrev free : ℕ → Bool

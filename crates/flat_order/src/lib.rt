@@ -14,7 +14,7 @@ mod settling;
 
 use crate::picking::greedy_order;
 use crate::positions::{by_position, first_parts};
-use crate::sets::PartSet;
+pub use crate::sets::PartSet;
 use crate::settling::settle_lasts;
 
 // A call places at most 128 parts: a set of parts is two words.

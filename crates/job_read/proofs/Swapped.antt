@@ -68,6 +68,37 @@ swapped_one : (b : ℕ) → b < 256 → swapped 1 b ≡ b
 unfolding swapped
 swapped_one b h = omega arith
 
+-- the number of four bytes, by each of them
+pub swapped_four : (a b c d : ℕ) → a < 256 → b < 256 → c < 256 → d < 256
+    → swapped 4 (a + b * 256 + c * 65536 + d * 16777216) ≡ a * 16777216 + b * 65536 + c * 256 + d
+swapped_four a b c d ha hb hc hd =
+    let x = b + (c + d * 256) * 256 in
+    let e : a + b * 256 + c * 65536 + d * 16777216 ≡ a + x * 256 = omega arith in
+    ap (swapped 4) e ∙ omega (arith, swapped-more 3 a x ha, swapped-more 2 b (c + d * 256) hb, swapped-more 1 c d hc, swapped_one d hd)
+
+-- the bytes of the lower half, and what stands for the upper half
+joined : (x y : ℕ)
+    → x % 256 * 256 ^ 7 + (x / 256 % 256 * 256 ^ 6 + (x / 256 / 256 % 256 * 256 ^ 5 + (x / 256 / 256 / 256 % 256 * 256 ^ 4 + y)))
+    ≡ swapped 4 x * 2 ^ 32 + y
+unfolding swapped
+joined x y = sum (x % 256) (x / 256 % 256) (x / 256 / 256 % 256) (x / 256 / 256 / 256 % 256)
+  where
+    sum : (a b c d : ℕ) → a * 256 ^ 7 + (b * 256 ^ 6 + (c * 256 ^ 5 + (d * 256 ^ 4 + y)))
+        ≡ (a * 256 ^ 3 + (b * 256 ^ 2 + (c * 256 ^ 1 + (d * 256 ^ 0 + 0)))) * 2 ^ 32 + y
+    sum a b c d = omega arith
+
+-- the number of eight bytes, by its two halves
+pub swapped_halves : (x y : ℕ) → x < 2 ^ 32 → swapped 8 (x + y * 2 ^ 32) ≡ swapped 4 x * 2 ^ 32 + swapped 4 y
+swapped_halves x y h =
+    let e : x + y * 2 ^ 32 ≡ x + y * 2 ^ 24 * 256 = omega arith in
+    let f : x / 256 + y * 2 ^ 24 ≡ x / 256 + y * 2 ^ 16 * 256 = omega arith in
+    let g : x / 256 / 256 + y * 2 ^ 16 ≡ x / 256 / 256 + y * 2 ^ 8 * 256 = omega arith in
+    let past : x / 256 / 256 / 256 / 256 + y ≡ y = omega arith in
+    let four = swapped_step 4 (x / 256 / 256 / 256) y ∙ ap (λ r. x / 256 / 256 / 256 % 256 * 256 ^ 4 + swapped 4 r) past in
+    let three = ap (swapped 6) g ∙ swapped_step 5 (x / 256 / 256) (y * 2 ^ 8) ∙ ap (λ r. x / 256 / 256 % 256 * 256 ^ 5 + r) four in
+    let two = ap (swapped 7) f ∙ swapped_step 6 (x / 256) (y * 2 ^ 16) ∙ ap (λ r. x / 256 % 256 * 256 ^ 6 + r) three in
+    ap (swapped 8) e ∙ swapped_step 7 x (y * 2 ^ 24) ∙ ap (λ r. x % 256 * 256 ^ 7 + r) two ∙ joined x (swapped 4 y)
+
 -- the number of eight bytes, by each of them
 pub swapped_eight : (a b c d e f g h : ℕ) → a < 256 → b < 256 → c < 256 → d < 256 → e < 256 → f < 256 → g < 256 → h < 256
     → swapped 8 (a + b * 256 ^ 1 + c * 256 ^ 2 + d * 256 ^ 3 + e * 256 ^ 4 + f * 256 ^ 5 + g * 256 ^ 6 + h * 256 ^ 7)

@@ -1,5 +1,5 @@
 -- One choice of tips: given up where some line has neither, else the counts and the score.
-use Prim.Native.Nat.{ℕ, zero, suc, ◌+◌, ◌*◌, ◌≤◌, ◌<◌, max}
+use Prim.Native.Nat.{ℕ, zero, suc, ◌+◌, ◌-◌, ◌*◌, ◌≤◌, ◌<◌, max}
 use native.Mathlib.Omega.{arith}
 use mathlib.Core.Path.{◌≡◌, refl, sym, ap, ◌∙◌}
 use mathlib.Core.Logic.{inl}
@@ -98,13 +98,21 @@ padded_with sets l = (
   rw (drop-append_seam sets (drop (length sets) (replicate 64 255))) (all_drop (length sets) (all-replicate 64 255)),
 )
 
--- the places behind the lines are served by any of eight tips
+-- padding is served by any of eight tips
+padding-served : (rest : List ℕ) (u v : ℕ) → u < 8 → All (λ s. s ≡ 255) rest → serves rest u v ≡ true
+padding-served rest u v l p = true_T (serves rest u v) ((serves_iff rest u v).1 (all_map (λ s e. inl (rw e (has_255 u l))) p))
+
+-- so are the places behind the lines
 pub serves_padded : (n : ℕ) (sets : List ℕ) (u v : ℕ) → u < 8 → All (λ s. s ≡ 255) (drop n sets) → serves sets u v ≡ serves (take n sets) u v
 serves_padded n sets u v l p =
-    serves-parts n sets u v ∙ ap (λ b. serves (take n sets) u v && b) (full (drop n sets) p) ∙ and-true (serves (take n sets) u v)
-  where
-    full : (rest : List ℕ) → All (λ s. s ≡ 255) rest → serves rest u v ≡ true
-    full rest p = true_T (serves rest u v) ((serves_iff rest u v).1 (all_map (λ s e. inl (rw e (has_255 u l))) p))
+    serves-parts n sets u v ∙ ap (λ b. serves (take n sets) u v && b) (padding-served (drop n sets) u v l p) ∙ and-true (serves (take n sets) u v)
+
+-- and those from some place behind the lines on
+pub served-past : (n : ℕ) (sets : List ℕ) (u v k : ℕ) → u < 8 → All (λ s. s ≡ 255) (drop n sets) → n ≤ k
+    → serves sets u v ≡ serves (drop k sets) u v → true ≡ serves sets u v
+served-past n sets u v k l p past e =
+    let from : drop (k - n) (drop n sets) ≡ drop k sets = drop-drop (k - n) n sets ∙ ap (λ j. drop j sets) (omega arith) in
+    sym (e ∙ padding-served (drop k sets) u v l (rw from at (all_drop (k - n) p)))
 
 module _ (qs lines : List ℕ) (same : length qs ≡ length lines) (u v : ℕ) where
   -- some line has neither: these tips are no choice

@@ -1,7 +1,7 @@
 // The Junior with two holders over slices: the search for its one tip or two, and its plan.
 #![tactic(auto)]
 
-ghost use Rattle.std.specs.Prelude.{◌≡◌, cond, not, ◌&&◌, ◌||◌, ◌^◌, ◌≤◌, ◌<◌, ltb, length, take};
+ghost use Rattle.std.specs.Prelude.{◌≡◌, cond, not, ◌&&◌, ◌||◌, ◌^◌, ◌≤◌, ◌<◌, true, ltb, length, take};
 ghost use Rattle.model.specs.Limits.{most_placements};
 ghost use Rattle.model.specs.Plan.{has};
 ghost use Rattle.placements.specs.Repeated.{total, weighted, repeated};
@@ -55,20 +55,6 @@ fn misses(block: &[u8], u: usize, v: usize) -> bool
     missed
 }
 
-// Each line has u or v: given up at the first block in which one has neither.
-fn serve_all(u: usize, v: usize, sets: &[u8; LINES]) -> bool
-    requires u { u < 8 }
-    requires v { v < 8 }
-    ensures { result ≡ serves sets.now u v }
-{
-    for i in 0..LINES / BLOCK {
-        if misses(&sets[BLOCK * i..BLOCK * i + BLOCK], u, v) {
-            return false;
-        }
-    }
-    true
-}
-
 // The placements of the lines that have the tip, summed in 16 bits, which hold them.
 fn with_tip(tip: usize, lines: &[u8], quantities: &[u8]) -> u32
     requires tip { tip < 8 }
@@ -99,19 +85,16 @@ fn each_used(same: bool, all: u32, with_u: u32, with_v: u32) -> bool
     same || (with_u < all && with_v < all)
 }
 
-// The tips u and v with their plan's pairs. They are no choice where a line has neither, or where one of two different tips gets no line.
+// The tips u and v, one of which each line has, with their plan's pairs. They are no choice where one of two different tips gets no line.
 fn on_tips(u: usize, v: usize, sets: &[u8; LINES], quantities: &[u8], all: u32) -> Option<Tips>
     requires ordered { u ≤ v }
     requires inside { v < 8 }
     requires padded { Padded (length quantities.now) sets.now }
-    requires placed { All (λ q. 1 ≤ q) quantities.now }
+    requires served { true ≡ serves sets.now u v }
     requires all { all ≡ total quantities.now }
     requires few { all ≤ most_placements }
     ensures { result ≡ tips_on (repeated quantities.now (take (length quantities.now) sets.now)) u v }
 {
-    if !serve_all(u, v, sets) {
-        return None;
-    }
     let lines = &sets[..quantities.len()];
     let with_u = with_tip(u, lines, quantities);
     let with_v = with_tip(v, lines, quantities);
@@ -142,7 +125,8 @@ fn better(first: Option<Tips>, next: Tips) -> Option<Tips>
     }
 }
 
-// The tips with the most pairs, of these the lowest u, then the lowest v.
+// The tips with the most pairs, of these the lowest u, then the lowest v: a pair of tips is given up at the first block of lines in which
+// one allows neither.
 // The rack stands beside the lines: it is not their length.
 fn choose_tips(m: usize, sets: &[u8; LINES], quantities: &[u8], all: u32) -> Option<Tips>
     requires narrow { m ≤ 8 }
@@ -151,9 +135,16 @@ fn choose_tips(m: usize, sets: &[u8; LINES], quantities: &[u8], all: u32) -> Opt
     requires all { all ≡ total quantities.now }
     ensures { result ≡ tips_of m quantities.now (take (length quantities.now) sets.now) }
 {
+    // Those that have lines. Compiled for a fixed number of blocks, the search takes twice as long.
+    let blocks = quantities.len().div_ceil(BLOCK);
     let mut best = None;
     for u in 0..m {
-        for v in u..m {
+        'tips: for v in u..m {
+            for i in 0..blocks {
+                if misses(&sets[BLOCK * i..BLOCK * i + BLOCK], u, v) {
+                    continue 'tips;
+                }
+            }
             if let Some(next) = on_tips(u, v, sets, quantities, all) {
                 best = better(best, next);
             }

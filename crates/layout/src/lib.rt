@@ -26,7 +26,7 @@ pub struct Counted<'a> {
 impl Counted<'_> {
     // The pairs of the interval of first tip a and width w if tip a + i takes its lines.
     // `a + w ≤ m` stays a clause here and below: it bounds two numbers that are passed, and no value holds them with the rack.
-    // They are no struct as in striking: `lay` would make two more for the halves, and the clauses would name its fields.
+    // They are no struct as in striking: `lay_tip` would make two more for the halves, and the clauses would name its fields.
     fn split(&self, a: usize, w: usize, i: usize) -> u64
         requires inside { a + w ≤ self.now.m }
         requires own { i < w }
@@ -82,7 +82,8 @@ impl Counted<'_> {
         }
     }
 
-    // An interval is laid by its tip: it takes its runs, and the two intervals beside it are laid.
+    // An interval is laid by its tip.
+    #[cycle(lay)]
     fn lay(&self, a: usize, w: usize, owner: &mut [u8])
         requires inside { a + w ≤ self.now.m }
         requires places { self.now.m * self.now.m ≤ length owner.old }
@@ -90,10 +91,22 @@ impl Counted<'_> {
     {
         if 0 < w {
             let i = self.tip(a, w);
-            self.own_runs(a, w, i, owner);
-            self.lay(a, i, owner);
-            self.lay(a + i + 1, w - (i + 1), owner);
+            self.lay_tip(a, w, i, owner);
         }
+    }
+
+    // The tip takes its runs, and lays the two intervals beside it.
+    #[cycle(lay)]
+    fn lay_tip(&self, a: usize, w: usize, i: usize, owner: &mut [u8])
+        requires own { i < w }
+        requires picked { i ≡ pick_by (on_head self.now.mounted) self.now.m self.now.sums.now self.now.table.now a w }
+        requires inside { a + w ≤ self.now.m }
+        requires places { self.now.m * self.now.m ≤ length owner.old }
+        ensures { owner.new ≡ laid self.now.m (pick_by (on_head self.now.mounted) self.now.m self.now.sums.now self.now.table.now) a w owner.old }
+    {
+        self.own_runs(a, w, i, owner);
+        self.lay(a, i, owner);
+        self.lay(a + i + 1, w - (i + 1), owner);
     }
 
     // The owner of a line that is a run.

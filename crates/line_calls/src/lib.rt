@@ -33,7 +33,7 @@ pub fn common(lines: Lines<'_>) -> Common
     ensures rule { CommonRule lines.entry.rack lines.entry.quantities.now lines.entry.sets.now 0
         result.top result.off result.tips }
 {
-    common_tip::common_tip(lines)
+    common_tip::common_tip(lines.rack, lines.sets, lines.quantities)
 }
 
 // Keep within k: the margin, which is top - n + k of n placements. Where it is below zero the sets stay as they were. They are pruned in

@@ -1,13 +1,15 @@
 -- The answer of the call in each of its cases.
 use Prim.Native.Nat.{ℕ, ◌≤◌, ◌<◌}
 use native.Mathlib.Omega.{arith}
-use mathlib.Core.Path.{◌≡◌, refl, ap}
+use mathlib.Core.Path.{◌≡◌, refl, ap, sym, ◌∙◌}
+use mathlib.Core.Logic.{⊎_elim}
 use mathlib.Core.List.{List, ◌++◌}
 use mathlib.Core.Option.{none, some}
 use lib.Dec.{ltb}
 use lib.ListN.{length, drop}
 use borrow.Author.Tests.{lt-ltb, le-ltb}
 use Rattle.model.specs.Count.{first_fail}
+use Rattle.model.proofs.Tests.{le_or_lt}
 use Rattle.refusal.specs.Told.{Refusal}
 use Rattle.refusal.specs.Refusal as R
 use Rattle.refusal.proofs.Laws.{or_first, or_next, lent_refused, lent_accepted}
@@ -81,3 +83,24 @@ module _ (parts : List Part) (rules : List Rule) where
     unfolding order_after
     accepted_buffer order z h =
         lent_accepted {d = order_refusal parts rules (length buffer)} refl n (ordered (placing_order parts rules)) buffer z (ap ordered h)
+
+-- over 128 parts the answer is the same whatever they are
+module _ (a b : List Part) (size : length a ≡ length b) (same : length a ≤ 128 → a ≡ b) (rules : List Rule) where
+  -- 12 for over 128 parts
+  refused_12 : (parts : List Part) (room : ℕ) → 128 < length parts → R.refuse 12 ≡ order_refusal parts rules room
+  refused_12 parts room l = given_refused parts rules room (over parts rules room l) (λ z. omega (arith, z))
+
+  pub refusal_same : (room : ℕ) → order_refusal a rules room ≡ order_refusal b rules room
+  refusal_same room =
+      ⊎_elim
+      (λ few. ap (λ parts. order_refusal parts rules room) (same few))
+      (λ l. sym (refused_12 a room l) ∙ refused_12 b room (omega (arith, size)))
+      (le_or_lt (length a) 128)
+
+  pub buffer_same : (buffer : List ℕ) → order_after a rules buffer ≡ order_after b rules buffer
+  buffer_same buffer =
+      ⊎_elim
+      (λ few. ap (λ parts. order_after parts rules buffer) (same few))
+      (λ l. sym (refused_buffer a rules buffer (refused_12 a (length buffer) l) (λ z. omega (arith, z)))
+      ∙ refused_buffer b rules buffer (refused_12 b (length buffer) (omega (arith, size))) (λ z. omega (arith, z)))
+      (le_or_lt (length a) 128)

@@ -6,7 +6,7 @@ ghost use Rattle.model.specs.Limits.{most_placements};
 ghost use Rattle.model.specs.Plan.{choose2};
 
 // A place for 0 to 2,048 placements.
-const SIZE: usize = model::MOST_PLACEMENTS + 1;
+pub const SIZE: usize = model::MOST_PLACEMENTS + 1;
 
 // Place p has p(p-1)/2, as the service manual prints it. It is a static: the compiler writes a constant table to the stack of its reader.
 static PAIRS: [u32; SIZE] = [

@@ -1,4 +1,6 @@
 // The calls of the script: each prints what it answers, and gives the next state.
+ghost use Rattle.std.specs.Prelude.{◌<◌};
+
 use crate::lent::lent;
 use crate::record::{Patch, State};
 use crate::shown::{Back, Told, Values, show_told};
@@ -77,18 +79,24 @@ pub(crate) struct Fill {
     pub(crate) quantities: usize,
 }
 
+// How far line i is moved; a turn past 63 moves it no further than the first.
+fn turn(i: usize, turns: usize) -> usize
+    ensures { result < 64 }
+{
+    let turn = i.checked_rem(turns).unwrap_or(0);
+    if turn < 64 { turn } else { 0 }
+}
+
 impl Fill {
     // The set of line i.
     fn set_at(&self, i: usize) -> u64 {
-        let turn = i.checked_rem(self.sets).unwrap_or(0);
-        let turn = u32::try_from(turn).unwrap_or(u32::MAX);
-        self.set.checked_shl(turn).unwrap_or(0)
+        self.set << turn(i, self.sets)
     }
 
     // The quantity of line i.
     fn quantity_at(&self, i: usize) -> u8 {
-        let more = i.checked_rem(self.quantities).unwrap_or(0);
-        u8::try_from(self.quantity.saturating_add(more)).unwrap_or(u8::MAX)
+        let quantity = self.quantity.wrapping_add(turn(i, self.quantities));
+        u8::try_from(quantity).unwrap_or(u8::MAX)
     }
 
     // Adds the lines one by one, and gives what is told of the last.
@@ -145,63 +153,65 @@ fn write<W: Write>(
     Ok(file)
 }
 
-// The calls that are made on a record in each stage.
-const EVERY_CALL: &[(&str, Call)] = &[
-    (
-        "add",
-        Call::Add {
-            set: 1,
-            quantity: 1,
-        },
-    ),
-    ("close", Call::Close),
-    ("common", Call::CommonTip),
-    ("keep", Call::Keep { k: 5 }),
-    (
-        "quick",
-        Call::Quick {
-            room: None,
-            mounted: None,
-        },
-    ),
-    (
-        "best",
-        Call::Best {
-            room: None,
-            places: None,
-            mounted: None,
-        },
-    ),
-    ("write", Call::Write { room: None }),
-    ("goal", Call::Goal { pairs: 1 }),
-    (
-        "check",
-        Call::Check {
-            claim: 0,
-            room: None,
-            places: None,
-        },
-    ),
-    ("junior", Call::Junior { room: None }),
-    (
-        "along",
-        Call::Along {
-            room: None,
-            mounted: None,
-        },
-    ),
-    (
-        "exact",
-        Call::Exact {
-            price: 1,
-            room: None,
-            places: None,
-            mounted: None,
-        },
-    ),
-    ("merge", Call::Merge),
-    ("alone", Call::Alone { room: None }),
-];
+// The calls that are made on a record in each stage; the tip is mounted before best alone.
+fn every_call(mounted: Option<usize>) -> [(&'static str, Call); 14] {
+    [
+        (
+            "add",
+            Call::Add {
+                set: 1,
+                quantity: 1,
+            },
+        ),
+        ("close", Call::Close),
+        ("common", Call::CommonTip),
+        ("keep", Call::Keep { k: 5 }),
+        (
+            "quick",
+            Call::Quick {
+                room: None,
+                mounted: None,
+            },
+        ),
+        (
+            "best",
+            Call::Best {
+                room: None,
+                places: None,
+                mounted,
+            },
+        ),
+        ("write", Call::Write { room: None }),
+        ("goal", Call::Goal { pairs: 1 }),
+        (
+            "check",
+            Call::Check {
+                claim: 0,
+                room: None,
+                places: None,
+            },
+        ),
+        ("junior", Call::Junior { room: None }),
+        (
+            "along",
+            Call::Along {
+                room: None,
+                mounted: None,
+            },
+        ),
+        (
+            "exact",
+            Call::Exact {
+                price: 1,
+                room: None,
+                places: None,
+                mounted: None,
+            },
+        ),
+        ("merge", Call::Merge),
+        ("alone", Call::Alone { room: None }),
+    ]
+}
 
 // Those that are made once more, with the record as the second board.
 const ON_TWO_BOARDS: &[(&str, Call)] = &[
@@ -291,14 +301,19 @@ impl State {
     }
 
     // The record in a stage, then each call on it.
-    pub(crate) fn every<W: Write>(&self, out: &mut W, stage: Stage) -> io::Result<()> {
+    pub(crate) fn every<W: Write>(
+        &self,
+        out: &mut W,
+        stage: Stage,
+        mounted: Option<usize>,
+    ) -> io::Result<()> {
         let board = Board {
             stage,
             ..self.board
         };
         writeln!(out, " record{}", Back::new(&Board::blank(), &board))?;
         let record = State { board, ..*self };
-        record.each(out, EVERY_CALL)?;
+        record.each(out, &every_call(mounted))?;
         let behind = State {
             board: self.held,
             held: board,

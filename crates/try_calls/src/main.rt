@@ -11,17 +11,19 @@ mod shown;
 
 use crate::lent::read;
 use crate::record::State;
-use crate::script::{Command, Line, ScriptError};
-use std::alloc::Global;
+use crate::script::{Command, Line};
 use std::io;
-use std::io::{BufRead, BufReader, BufWriter, Write};
+use std::io::{BufWriter, Read, Write};
+
+// The most bytes of a script that are read.
+const MOST_BYTES: u64 = 65536;
 
 // Each kind of command is matched here alone.
 fn run<W: Write>(out: &mut W, state: &mut State, command: &Command) -> io::Result<()> {
     match command {
         Command::Call(call) => state.call(out, *call),
         Command::Read { length, patches } => state.read(out, *length, patches),
-        Command::Every(stage) => state.every(out, *stage),
+        Command::Every { stage, mounted } => state.every(out, *stage, *mounted),
         Command::Order { room } => state.orders.order(out, *room, state.junk),
         Command::OrderByTips {
             room,
@@ -46,35 +48,47 @@ fn run<W: Write>(out: &mut W, state: &mut State, command: &Command) -> io::Resul
     }
 }
 
+// Runs the line with a value for the number that runs, if it is a command.
+fn run_with<W: Write>(out: &mut W, state: &mut State, line: &Line, value: u64) -> io::Result<()> {
+    match line.command(value) {
+        Some(command) => run(out, state, &command),
+        None => Ok(()),
+    }
+}
+
 // Runs the line for each value of the number that runs, which is printed before what is answered.
-fn run_line<W: Write>(
-    alloc: Global,
-    out: &mut W,
-    state: &mut State,
-    line: &Line<'_>,
-) -> Result<(), ScriptError> {
-    let Some((first, last)) = line.runs() else {
-        run(out, state, &line.command(alloc, 0)?)?;
-        return Ok(());
+fn run_line<W: Write>(out: &mut W, state: &mut State, line: &Line) -> io::Result<()> {
+    let Some(values) = line.values() else {
+        return run_with(out, state, line, 0);
     };
-    for value in first..=last {
+    for value in values {
         write!(out, "{value}")?;
-        run(out, state, &line.command(alloc, value)?)?;
+        run_with(out, state, line, value)?;
     }
     Ok(())
 }
 
-fn main(rt: HostRuntime) -> Result<(), ScriptError> {
-    let alloc = rt.alloc();
-    let mut out = BufWriter::new(alloc, io::writer(&rt))?;
+// Each line of the script is printed before it is run; what stands behind the last line feed is only printed.
+fn run_script<W: Write>(out: &mut W, script: &[u8]) -> io::Result<()> {
     let mut state = State::new();
-    for text in BufReader::new(alloc, rt.reader())?.lines(alloc) {
-        let text = text?;
-        writeln!(out, "{text}")?;
-        if let Some(line) = Line::new(alloc, &text)? {
-            run_line(alloc, &mut out, &mut state, &line)?;
+    let mut line = Line::new();
+    for byte in script {
+        out.write_all(&[*byte])?;
+        if *byte == b'\n' {
+            run_line(out, &mut state, &line)?;
+            line = Line::new();
+        } else {
+            line.read_byte(*byte);
         }
     }
-    out.flush()?;
     Ok(())
+}
+
+fn main(rt: HostRuntime) -> io::Result<()> {
+    let alloc = rt.alloc();
+    let mut script = Vec::new(alloc);
+    rt.reader().take(MOST_BYTES).read_to_end(&mut script)?;
+    let mut out = BufWriter::new(alloc, io::writer(&rt))?;
+    run_script(&mut out, &script)?;
+    out.flush()
 }

@@ -1,69 +1,30 @@
-// The script as it is written: its lines, their numbers and the commands that they stand for.
+// The script as it is written: its lines, byte by byte, and the commands that they stand for.
 use crate::calls::{Call, Fill};
+use crate::lent::read;
 use crate::orders::OrderEdit;
 use crate::record::{Edit, Patch};
 use board::Stage;
 use order_rules::{Part, Rule};
-use std::alloc::{AllocError, AllocFailed, Global};
-use std::error::Error;
-use std::num::ParseIntError;
-use std::str::FromStr;
-use std::{fmt, io};
+use std::ops::Range;
 
-// Why the script is not run to its end.
-#[derive(Debug, Drop)]
-pub enum ScriptError {
-    Unknown,
-    Number(ParseIntError),
-    OutOfMemory,
-    Io(io::Error),
-}
+// A number that the script does not give.
+const NOT_GIVEN: u64 = u64::MAX;
 
-impl From<ParseIntError> for ScriptError {
-    fn from(error: ParseIntError) -> ScriptError {
-        ScriptError::Number(error)
-    }
-}
+// The word of a line that is no command.
+const COMMENT: u64 = b'#' as u64;
 
-impl From<AllocError> for ScriptError {
-    fn from(_error: AllocError) -> ScriptError {
-        ScriptError::OutOfMemory
-    }
-}
-
-impl<T: Drop> From<AllocFailed<T>> for ScriptError {
-    fn from(_error: AllocFailed<T>) -> ScriptError {
-        ScriptError::OutOfMemory
-    }
-}
-
-impl From<io::Error> for ScriptError {
-    fn from(error: io::Error) -> ScriptError {
-        ScriptError::Io(error)
-    }
-}
-
-impl fmt::Display for ScriptError {
-    fn fmt<W: fmt::Write>(&self, f: &mut fmt::Formatter<W>) -> fmt::Result {
-        match self {
-            ScriptError::Unknown => write!(f, "no command, or not with so many numbers"),
-            ScriptError::Number(error) => write!(f, "bad number: {error}"),
-            ScriptError::OutOfMemory => write!(f, "out of memory"),
-            ScriptError::Io(error) => write!(f, "{error}"),
-        }
-    }
-}
-
-impl Error for ScriptError {}
-
-#[derive(Drop)]
+#[derive(Clone, Copy)]
 pub(crate) enum Command {
     Call(Call),
     Read {
         length: usize,
-        patches: Vec<Patch>,
+        patches: [Patch; 2],
     },
-    Every(Stage),
+    // The tip is mounted before best alone.
+    Every {
+        stage: Stage,
+        mounted: Option<usize>,
+    },
     Order {
         room: Option<usize>,
     },
@@ -79,39 +40,53 @@ pub(crate) enum Command {
     Edit(Edit),
 }
 
-// What stands for a number in a line: one, or each from the first to the last.
+// What the next byte of a word or a number is: a letter, or a digit to the base ten or sixteen.
 #[derive(Clone, Copy)]
-enum Argument {
-    One(u64),
-    Each { first: u64, last: u64 },
+enum Base {
+    Letters,
+    Ten,
+    Sixteen,
 }
 
-// A word of the script, and what it is called with.
-#[derive(Drop)]
-pub(crate) struct Line<'a> {
-    word: &'a str,
-    arguments: Vec<Argument>,
-}
-
-fn number(text: &str) -> Result<u64, ParseIntError> {
-    match text.strip_prefix('x') {
-        Some(digits) => u64::from_str_radix(digits, 16),
-        None => text.parse(),
-    }
-}
-
-impl FromStr for Argument {
-    type Err = ParseIntError;
-
-    fn from_str(text: &str) -> Result<Argument, ParseIntError> {
-        match text.split_once('-') {
-            Some((first, last)) => Ok(Argument::Each {
-                first: number(first)?,
-                last: number(last)?,
-            }),
-            None => Ok(Argument::One(number(text)?)),
+impl Base {
+    // What one more byte makes of a word or a number. No byte is refused: each is a digit by its low bits.
+    fn longer(self, number: u64, byte: u8) -> u64 {
+        let digit = u64::from(byte & 15);
+        let letter = if byte <= b'9' { 0 } else { 9 };
+        match self {
+            Base::Letters => (number << 8).wrapping_add(u64::from(byte)),
+            Base::Ten => number.wrapping_mul(10).wrapping_add(digit),
+            Base::Sixteen => (number << 4).wrapping_add(digit).wrapping_add(letter),
         }
     }
+}
+
+// The part of a line that runs, and its first value.
+#[derive(Clone, Copy)]
+struct Run {
+    at: usize,
+    first: u64,
+}
+
+// A line as far as it is read: its word, which is part 0, and its numbers; the part that is read and its base, and the part that runs.
+// The word is its letters to the base 256, of which the last eight are kept. A number past the most is counted and not read.
+#[derive(Clone, Copy)]
+pub(crate) struct Line {
+    parts: [u64; 8],
+    at: usize,
+    base: Base,
+    runs: Option<Run>,
+}
+
+// The letters of a word, without the zeros before them.
+fn letters(word: &[u8]) -> &[u8] {
+    let mut letters = word;
+    for _ in word {
+        if let [0, rest @ ..] = letters {
+            letters = rest;
+        }
+    }
+    letters
 }
 
 fn byte(number: u64) -> u8 {
@@ -129,18 +104,22 @@ fn stage(number: u64) -> Stage {
     }
 }
 
-fn patches(alloc: Global, numbers: &[u64]) -> Result<Vec<Patch>, ScriptError> {
-    let mut patches = Vec::new(alloc);
-    for pair in numbers.chunks(2) {
-        let [at, to] = pair else {
-            return Err(ScriptError::Unknown);
-        };
-        patches.push(Patch {
-            at: *at as usize,
-            byte: byte(*to),
-        })?;
+// The number at the place.
+fn number(numbers: &[u64], place: usize) -> u64 {
+    numbers.get(place).copied().unwrap_or(NOT_GIVEN)
+}
+
+fn size(numbers: &[u64], place: usize) -> usize {
+    number(numbers, place) as usize
+}
+
+// Of the byte's number only the lowest eight bits are put.
+fn patch(numbers: &[u64], at: usize, byte: usize) -> Patch {
+    let [.., byte] = number(numbers, byte).to_be_bytes();
+    Patch {
+        at: size(numbers, at),
+        byte,
     }
-    Ok(patches)
 }
 
 // The number at the place, if it is given.
@@ -149,39 +128,47 @@ fn given(numbers: &[u64], place: usize) -> Option<usize> {
     Some(*number as usize)
 }
 
+// The tip on the head for quick and best: 2^64 - 1 stands for none, given or not.
+fn mounted(numbers: &[u64], place: usize) -> Option<usize> {
+    match number(numbers, place) {
+        NOT_GIVEN => None,
+        tip => Some(tip as usize),
+    }
+}
+
 impl Call {
     // The call that a word stands for, if any does.
-    fn new(word: &str, numbers: &[u64]) -> Option<Call> {
+    fn new(word: &[u8], numbers: &[u64]) -> Option<Call> {
         match (word, numbers) {
-            ("open", [rack]) => Some(Call::Open {
-                rack: *rack as usize,
+            (b"open", _) => Some(Call::Open {
+                rack: size(numbers, 0),
             }),
-            ("add", [set, quantity]) => Some(Call::Add {
-                set: *set,
-                quantity: byte(*quantity),
+            (b"add", _) => Some(Call::Add {
+                set: number(numbers, 0),
+                quantity: byte(number(numbers, 1)),
             }),
-            ("fill", [times, set, sets, quantity, quantities]) => Some(Call::Fill(Fill {
-                times: *times as usize,
-                set: *set,
-                sets: *sets as usize,
-                quantity: *quantity as usize,
-                quantities: *quantities as usize,
+            (b"fill", _) => Some(Call::Fill(Fill {
+                times: size(numbers, 0),
+                set: number(numbers, 1),
+                sets: size(numbers, 2),
+                quantity: size(numbers, 3),
+                quantities: size(numbers, 4),
             })),
-            ("close", []) => Some(Call::Close),
-            ("common", []) => Some(Call::CommonTip),
-            ("keep", [k]) => Some(Call::Keep {
-                k: u16::try_from(*k).unwrap_or(u16::MAX),
+            (b"close", _) => Some(Call::Close),
+            (b"common", _) => Some(Call::CommonTip),
+            (b"keep", _) => Some(Call::Keep {
+                k: u16::try_from(number(numbers, 0)).unwrap_or(u16::MAX),
             }),
-            ("quick", _) => Some(Call::Quick {
+            (b"quick", _) => Some(Call::Quick {
                 room: given(numbers, 0),
-                mounted: given(numbers, 1),
+                mounted: mounted(numbers, 1),
             }),
-            ("best", _) => Some(Call::Best {
+            (b"best", _) => Some(Call::Best {
                 room: given(numbers, 0),
                 places: given(numbers, 1),
-                mounted: given(numbers, 2),
+                mounted: mounted(numbers, 2),
             }),
-            ("write", _) => Some(Call::Write {
+            (b"write", _) => Some(Call::Write {
                 room: given(numbers, 0),
             }),
             _ => Call::of_plans(word, numbers),
@@ -189,31 +176,32 @@ impl Call {
     }
 
     // The call of a goal, a check, the Junior, a plan along the list, exact sharing or two boards that a word stands for, if any does.
-    fn of_plans(word: &str, numbers: &[u64]) -> Option<Call> {
+    fn of_plans(word: &[u8], numbers: &[u64]) -> Option<Call> {
         match (word, numbers) {
-            ("goal", [goal]) => Some(Call::Goal {
+            (b"goal", [goal]) => Some(Call::Goal {
                 pairs: pairs(*goal),
             }),
-            ("check", [claim, rest @ ..]) => Some(Call::Check {
+            (b"check", [claim, rest @ ..]) => Some(Call::Check {
                 claim: pairs(*claim),
                 room: given(rest, 0),
                 places: given(rest, 1),
             }),
-            ("junior", _) => Some(Call::Junior {
+            (b"junior", _) => Some(Call::Junior {
                 room: given(numbers, 0),
             }),
-            ("along", _) => Some(Call::Along {
+            (b"along", _) => Some(Call::Along {
                 room: given(numbers, 0),
                 mounted: given(numbers, 1),
             }),
-            ("exact", [price, rest @ ..]) => Some(Call::Exact {
+            // What follows the x of exact is read to the base sixteen.
+            (b"\x06\x5a\xcd", [price, rest @ ..]) => Some(Call::Exact {
                 price: pairs(*price),
                 room: given(rest, 0),
                 places: given(rest, 1),
                 mounted: given(rest, 2),
             }),
-            ("merge", []) => Some(Call::Merge),
-            ("alone", _) => Some(Call::Alone {
+            (b"merge", []) => Some(Call::Merge),
+            (b"alone", _) => Some(Call::Alone {
                 room: given(numbers, 0),
             }),
             _ => None,
@@ -223,10 +211,10 @@ impl Call {
 
 impl OrderEdit {
     // The change of parts or rules that a word stands for, if any does.
-    fn new(word: &str, numbers: &[u64]) -> Option<OrderEdit> {
+    fn new(word: &[u8], numbers: &[u64]) -> Option<OrderEdit> {
         match (word, numbers) {
-            ("parts", [count]) => Some(OrderEdit::Parts(*count as usize)),
-            ("part", [from, to, first, last, fine, tall]) => Some(OrderEdit::Part {
+            (b"parts", [count]) => Some(OrderEdit::Parts(*count as usize)),
+            (b"part", [from, to, first, last, fine, tall]) => Some(OrderEdit::Part {
                 first: *from as usize,
                 last: *to as usize,
                 part: Part {
@@ -236,8 +224,8 @@ impl OrderEdit {
                     tall: *tall != 0,
                 },
             }),
-            ("rules", [count]) => Some(OrderEdit::Rules(*count as usize)),
-            ("rule", [at, earlier, later]) => Some(OrderEdit::Rule {
+            (b"rules", [count]) => Some(OrderEdit::Rules(*count as usize)),
+            (b"rule", [at, earlier, later]) => Some(OrderEdit::Rule {
                 at: *at as usize,
                 rule: Rule {
                     earlier: *earlier as usize,
@@ -251,110 +239,142 @@ impl OrderEdit {
 
 impl Edit {
     // The change by hand that a word stands for, if any does.
-    fn new(word: &str, numbers: &[u64]) -> Option<Edit> {
+    fn new(word: &[u8], numbers: &[u64]) -> Option<Edit> {
         match (word, numbers) {
-            ("hold", []) => Some(Edit::Hold),
-            ("take", []) => Some(Edit::Take),
-            ("rack", [rack]) => Some(Edit::Rack(*rack as usize)),
-            ("stage", [number]) => Some(Edit::Stage(stage(*number))),
-            ("count", [count]) => Some(Edit::Count(*count as usize)),
-            ("set", [first, last, set]) => Some(Edit::Sets {
-                first: *first as usize,
-                last: *last as usize,
-                set: *set,
+            (b"hold", _) => Some(Edit::Hold),
+            (b"take", _) => Some(Edit::Take),
+            (b"rack", _) => Some(Edit::Rack(size(numbers, 0))),
+            (b"stage", _) => Some(Edit::Stage(stage(number(numbers, 0)))),
+            (b"count", _) => Some(Edit::Count(size(numbers, 0))),
+            (b"set", _) => Some(Edit::Sets {
+                first: size(numbers, 0),
+                last: size(numbers, 1),
+                set: number(numbers, 2),
             }),
-            ("quantity", [first, last, quantity]) => Some(Edit::Quantities {
-                first: *first as usize,
-                last: *last as usize,
-                quantity: byte(*quantity),
+            (b"quantity", _) => Some(Edit::Quantities {
+                first: size(numbers, 0),
+                last: size(numbers, 1),
+                quantity: byte(number(numbers, 2)),
             }),
-            ("byte", [at, to]) => Some(Edit::Byte(Patch {
-                at: *at as usize,
-                byte: byte(*to),
-            })),
-            ("put", [at, number]) => Some(Edit::Put {
-                at: *at as usize,
-                number: *number,
+            (b"byte", _) => Some(Edit::Byte(patch(numbers, 0, 1))),
+            (b"put", _) => Some(Edit::Put {
+                at: size(numbers, 0),
+                number: number(numbers, 1),
             }),
-            ("plan", [first, last, tip]) => Some(Edit::Plan {
+            (b"plan", [first, last, tip]) => Some(Edit::Plan {
                 first: *first as usize,
                 last: *last as usize,
                 tip: byte(*tip),
             }),
-            ("table", [first, last, number]) => Some(Edit::Table {
+            (b"table", [first, last, number]) => Some(Edit::Table {
                 first: *first as usize,
                 last: *last as usize,
                 pairs: pairs(*number),
             }),
-            ("junk", [to]) => Some(Edit::Junk(byte(*to))),
+            (b"junk", [to]) => Some(Edit::Junk(byte(*to))),
             _ => OrderEdit::new(word, numbers).map(Edit::Order),
         }
     }
 }
 
 impl Command {
-    fn new(alloc: Global, word: &str, numbers: &[u64]) -> Result<Command, ScriptError> {
+    // The command that a word stands for, if any does.
+    fn new(word: &[u8], numbers: &[u64]) -> Option<Command> {
         match (word, numbers) {
-            ("read", [length, rest @ ..]) => Ok(Command::Read {
-                length: *length as usize,
-                patches: patches(alloc, rest)?,
+            (b"read", _) => Some(Command::Read {
+                length: size(numbers, 0),
+                patches: [patch(numbers, 1, 2), patch(numbers, 3, 4)],
             }),
-            ("every", [number]) => Ok(Command::Every(stage(*number))),
-            ("order", _) => Ok(Command::Order {
+            (b"every", _) => Some(Command::Every {
+                stage: stage(number(numbers, 0)),
+                mounted: mounted(numbers, 2),
+            }),
+            (b"order", _) => Some(Command::Order {
                 room: given(numbers, 0),
             }),
-            ("tips", _) => Ok(Command::OrderByTips {
+            (b"tips", _) => Some(Command::OrderByTips {
                 room: given(numbers, 0),
                 count: given(numbers, 1),
                 mounted: given(numbers, 2),
             }),
-            ("windows", _) => Ok(Command::Windows {
+            (b"windows", _) => Some(Command::Windows {
                 first_room: given(numbers, 0),
                 last_room: given(numbers, 1),
             }),
             _ => Call::new(word, numbers)
                 .map(Command::Call)
-                .or(Edit::new(word, numbers).map(Command::Edit))
-                .ok_or(ScriptError::Unknown),
+                .or(Edit::new(word, numbers).map(Command::Edit)),
         }
     }
 }
 
-impl<'a> Line<'a> {
-    // The line of a text, where it is no comment and not empty.
-    pub(crate) fn new(alloc: Global, text: &'a str) -> Result<Option<Line<'a>>, ScriptError> {
-        let mut words = text.split_whitespace();
-        let Some(word) = words.next() else {
-            return Ok(None);
+impl Line {
+    pub(crate) fn new() -> Line {
+        let mut parts = [NOT_GIVEN; 8];
+        parts[0] = 0;
+        Line {
+            parts,
+            at: 0,
+            base: Base::Letters,
+            runs: None,
+        }
+    }
+
+    // The most numbers that are read of the line: `part` has one more than the other words.
+    fn most_numbers(&self) -> usize {
+        match letters(&self.parts[0].to_be_bytes()) {
+            b"part" => 6,
+            _ => 5,
+        }
+    }
+
+    // Reads one more byte; of a comment and past the last number nothing more is read.
+    pub(crate) fn read_byte(&mut self, byte: u8) {
+        if self.parts[0] == COMMENT || self.most_numbers() < self.at {
+            return;
+        }
+        let at = self.at;
+        let Some(part) = self.parts.get_mut(at) else {
+            return;
         };
-        if word.starts_with('#') {
-            return Ok(None);
+        match byte {
+            b' ' => self.start(at.saturating_add(1)),
+            b'x' => self.base = Base::Sixteen,
+            b'-' => {
+                self.base = Base::Ten;
+                self.runs = Some(Run { at, first: *part });
+                *part = 0;
+            }
+            _ => *part = self.base.longer(*part, byte),
         }
-        let mut arguments = Vec::new(alloc);
-        for argument in words {
-            arguments.push(argument.parse()?)?;
-        }
-        Ok(Some(Line { word, arguments }))
     }
 
-    // The first and the last value of the number that runs.
-    pub(crate) fn runs(&self) -> Option<(u64, u64)> {
-        self.arguments.iter().find_map(|argument| match argument {
-            Argument::One(_) => None,
-            Argument::Each { first, last } => Some((*first, *last)),
-        })
+    // Starts the number that is the part at the place.
+    fn start(&mut self, at: usize) {
+        self.at = at;
+        self.base = Base::Ten;
+        if let Some(part) = self.parts.get_mut(at) {
+            *part = 0;
+        }
     }
 
-    // The command of the line, with a value for the number that runs.
-    pub(crate) fn command(&self, alloc: Global, value: u64) -> Result<Command, ScriptError> {
-        let numbers: Vec<u64> = self
-            .arguments
-            .iter()
-            .map(|argument| match argument {
-                Argument::One(number) => *number,
-                Argument::Each { .. } => value,
-            })
-            .collect(alloc)?;
-        Command::new(alloc, self.word, &numbers)
+    // The values of the part that runs, if any does. A last value of 2^64 - 1 leaves none: one more is 0.
+    pub(crate) fn values(&self) -> Option<Range<u64>> {
+        let Run { at, first } = self.runs?;
+        let last = *self.parts.get(at)?;
+        Some(first..last.wrapping_add(1))
+    }
+
+    // The command of the line, if it is one, with a value for the part that runs.
+    pub(crate) fn command(&self, value: u64) -> Option<Command> {
+        let mut parts = self.parts;
+        if let Some(Run { at, .. }) = self.runs
+            && let Some(part) = parts.get_mut(at)
+        {
+            *part = value;
+        }
+        let word = self.parts[0].to_be_bytes();
+        let numbers = read(&parts[1..], Some(self.at));
+        Command::new(letters(&word), numbers)
     }
 }

@@ -376,6 +376,8 @@ impl State {
                 self.table[first as usize..=last as usize].fill(number.try_into().expect("a number of pairs"));
             }
             ("junk", &[number]) => self.junk = byte(number),
+            // One number too many: nothing is changed.
+            ("part", &[_, _, _, _, _, _, _]) | ("parts", &[_, _]) => {}
             _ => panic!("{word} {numbers:?}"),
         }
     }

@@ -2,17 +2,8 @@ use Rattle.std.proofs.Common.{arith, length, take, sym, ◌∙◌}
 use lib.Seq.{length-take-le}
 use Rattle.few_tips.proofs.Sums.{weighted_le}
 use Rattle.model.specs.Plan.{has}
-use Rattle.junior.proofs.Passed.{serves_padded, given_up, passed_none, passed_some}
+use Rattle.junior.proofs.Passed.{serves_padded, passed_none, passed_some}
 use Rattle.junior.proofs.on_tips.Goals as goal
-
-pub returns-then-not-serve_all : goal.returns-then-not-serve_all
-returns-then-not-serve_all c =
-    let p = c.requires in
-    let n = length c.args.quantities.now in
-    let sets = c.args.sets.now in
-    let same = sym (length-take-le n sets p.padded.0) in
-    given_up c.args.quantities.now (take n sets) same c.args.u c.args.v p.placed
-    (sym (serves_padded n sets c.args.u c.args.v (omega arith) p.padded.1) ∙ sym c.serve_all.ensures ∙ c.if-not-serve_all.true)
 
 pub returns-then-not-each_used : goal.returns-then-not-each_used
 returns-then-not-each_used c =
@@ -20,7 +11,7 @@ returns-then-not-each_used c =
     let n = length c.args.quantities.now in
     let sets = c.args.sets.now in
     let same = sym (length-take-le n sets p.padded.0) in
-    let served = sym (serves_padded n sets c.args.u c.args.v (omega arith) p.padded.1) ∙ sym c.serve_all.ensures ∙ c.if-not-serve_all.false in
+    let served = sym (serves_padded n sets c.args.u c.args.v (omega arith) p.padded.1) ∙ sym p.served in
     passed_none c.args.quantities.now (take n sets) same c.args.u c.args.v served p.all c.with_tip-with_u.ensures c.with_tip-with_v.ensures p.ordered
     (sym c.each_used.ensures ∙ c.if-not-each_used.true)
 
@@ -40,7 +31,7 @@ returns c =
     let n = length c.args.quantities.now in
     let sets = c.args.sets.now in
     let same = sym (length-take-le n sets p.padded.0) in
-    let served = sym (serves_padded n sets c.args.u c.args.v (omega arith) p.padded.1) ∙ sym c.serve_all.ensures ∙ c.if-not-serve_all.false in
+    let served = sym (serves_padded n sets c.args.u c.args.v (omega arith) p.padded.1) ∙ sym p.served in
     rw (c.max-pairs.ensures, c.side_pairs-to_u.ensures, c.side_pairs-to_v.ensures)
     (passed_some c.args.quantities.now (take n sets) same c.args.u c.args.v served p.all c.with_tip-with_u.ensures c.with_tip-with_v.ensures p.ordered
     (sym c.each_used.ensures ∙ c.if-not-each_used.false))

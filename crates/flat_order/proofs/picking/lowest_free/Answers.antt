@@ -2,7 +2,8 @@ use Rattle.std.proofs.Common.{◌≡◌, ℕ, ◌<◌, ◌^◌, List, length, T,
 use Rattle.flat_order.specs.declared.sets.PartSet.{PartSet}
 use Rattle.flat_order.specs.Sets.{has_part, single, removed, met}
 use Rattle.flat_order.specs.Flat.{row_at, Held}
-use Rattle.flat_order.proofs.Free.{trying_none, trying_found, trying_more, trying_all, fewer_parts, b_left, held_more, is_free, not_free}
+use Rattle.flat_order.proofs.Free.{trying_none, trying_found, trying_more, trying_all, onward_none, onward_more, fewer_parts}
+use Rattle.flat_order.proofs.Free.{b_left, held_more, is_free, not_free}
 use Rattle.flat_order.proofs.picking.lowest_free.Goals as goal
 
 pub loop-x-init : goal.loop-x-init
@@ -10,6 +11,7 @@ loop-x-init c =
     let a = c.args in
     record {
       trying = rw c.sub-rest.ensures (trying_none a.left a.waiting.now a.rows.now a.noted.now c.requires.held a.among);
+      onward = rw c.sub-rest.ensures (onward_none (removed a.among a.waiting.now));
       held = c.requires.held;
     }
 
@@ -68,9 +70,11 @@ loop-x-preserved c =
     let (k, is) = c.in-Some-lowest.ensures.some in
     let e = met-is _ _ _ _ _ x c.single-one.ensures c.sub.ensures c.bitand.ensures in
     let due : T (has_part (met (row_at a.rows.now x) (removed a.left (single x))) b) = rw e at (is.found k) in
+    let (h, lowest) = c.in-Some.ensures.some in
     record {
       trying = rw (c.sub-rest-in-Some-lowest.ensures, c.single-one.ensures)
           (trying_more a.among a.left a.rows.now l.rest l.invariant.trying x (not_free a.left a.rows.now x b due));
+      onward = rw (c.sub-rest-in-Some-lowest.ensures, c.single-one.ensures) (onward_more l.rest x lowest _ h l.invariant.onward);
       held = rw (c.bitor-in-Some-lowest.ensures, c.bitor.ensures, c.single-one.ensures)
           (held_more a.left l.waiting a.rows.now l.noted l.invariant.held x b due);
     }
