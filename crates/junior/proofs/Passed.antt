@@ -56,6 +56,12 @@ missed-all lines u v i l missed e = sym (e ∙ rw (drop_of_length-le lines {i = 
     alone true = refl
     alone false = refl
 
+-- the slice of block i has its 16 places
+pub block-is : (sets : List ℕ) (i : ℕ) → take (16 * i + 16 - 16 * i) (drop (16 * i) sets) ≡ take 16 (drop (16 * i) sets)
+block-is sets i =
+    let size : 16 * i + 16 - 16 * i ≡ 16 = omega arith in
+    ap (λ k. take k (drop (16 * i) sets)) size
+
 -- a block of the lines that are left: if one of its lines has neither, some line of all has neither
 module _ (lines : List ℕ) (u v i : ℕ) {block : List ℕ} (is : block ≡ take 16 (drop (16 * i) lines))
     (left : serves lines u v ≡ serves (drop (16 * i) lines) u v) where

@@ -79,7 +79,7 @@ pub(crate) struct Fill {
     pub(crate) quantities: usize,
 }
 
-// How far line i is moved; a turn past 63 moves it no further than the first.
+// How many tips line i is moved up: i modulo turns, and 0 if that is above 63 or turns is 0.
 fn turn(i: usize, turns: usize) -> usize
     ensures { result < 64 }
 {
@@ -153,7 +153,7 @@ fn write<W: Write>(
     Ok(file)
 }
 
-// The calls that are made on a record in each stage; the tip is mounted before best alone.
+// The calls that are made on a record in each stage. Only best gets the mounted tip.
 fn every_call(mounted: Option<usize>) -> [(&'static str, Call); 14] {
     [
         (

@@ -68,7 +68,7 @@ fn run_line<W: Write>(out: &mut W, state: &mut State, line: &Line) -> io::Result
     Ok(())
 }
 
-// Each line of the script is printed before it is run; what stands behind the last line feed is only printed.
+// Prints each line of the script, then runs it. Text after the last line feed is only printed.
 fn run_script<W: Write>(out: &mut W, script: &[u8]) -> io::Result<()> {
     let mut state = State::new();
     let mut line = Line::new();

@@ -20,7 +20,7 @@ pub(crate) enum Command {
         length: usize,
         patches: [Patch; 2],
     },
-    // The tip is mounted before best alone.
+    // Only best gets the mounted tip.
     Every {
         stage: Stage,
         mounted: Option<usize>,
@@ -69,7 +69,7 @@ struct Run {
 }
 
 // A line as far as it is read: its word, which is part 0, and its numbers; the part that is read and its base, and the part that runs.
-// The word is its letters to the base 256, of which the last eight are kept. A number past the most is counted and not read.
+// The word is its letters to the base 256, of which the last eight are kept. A number too many is counted, not read.
 #[derive(Clone, Copy)]
 pub(crate) struct Line {
     parts: [u64; 8],
@@ -113,7 +113,7 @@ fn size(numbers: &[u64], place: usize) -> usize {
     number(numbers, place) as usize
 }
 
-// Of the byte's number only the lowest eight bits are put.
+// Puts the lowest eight bits of the number.
 fn patch(numbers: &[u64], at: usize, byte: usize) -> Patch {
     let [.., byte] = number(numbers, byte).to_be_bytes();
     Patch {
@@ -328,7 +328,7 @@ impl Line {
         }
     }
 
-    // Reads one more byte; of a comment and past the last number nothing more is read.
+    // Reads one more byte. Ignores comments and everything after the last number.
     pub(crate) fn read_byte(&mut self, byte: u8) {
         if self.parts[0] == COMMENT || self.most_numbers() < self.at {
             return;

@@ -46,7 +46,7 @@ const MOST_FILES: usize = 8;
 /// The paths of the files that are removed when the program ends early.
 static PATHS: [AtomicPtr<c_char>; MOST_FILES] = [const { AtomicPtr::new(ptr::null_mut()) }; MOST_FILES];
 
-/// Whether a file is being made whose path stands in no place of PATHS yet. A signal waits until then.
+/// Whether a file is being made and PATHS does not have its path yet. A signal waits until it has.
 static IS_MAKING: AtomicBool = AtomicBool::new(false);
 /// The signals that came, each as the bit of its number.
 static CAME: AtomicU32 = AtomicU32::new(0);
@@ -56,14 +56,14 @@ pub struct Removed {
     place: usize,
 }
 
-/// Makes a file that is not there yet, with this mode, of which the mask of the process takes something away. A signal that ends
-/// the program removes the file first, however early it comes, unless there are too many already.
+/// Creates a file that must not exist yet, with this mode less the mask of the process. A signal that ends the program removes the
+/// file first, however early it comes, unless PATHS is full.
 pub fn new_file(path: &Path, mode: u32) -> io::Result<(File, Option<Removed>)> {
     let name = CString::new(path.as_os_str().as_bytes())?;
     IS_MAKING.store(true, SeqCst);
     SENT.into_iter().for_each(catch);
     let file = OpenOptions::new().write(true).create_new(true).mode(mode).open(path);
-    let made = file.map(|file| (file, Removed::on_signal(name)));
+    let made = file.map(|file| (file, Removed::noted(name)));
     IS_MAKING.store(false, SeqCst);
     let came = CAME.load(SeqCst);
     if came != 0 {
@@ -73,7 +73,8 @@ pub fn new_file(path: &Path, mode: u32) -> io::Result<(File, Option<Removed>)> {
 }
 
 impl Removed {
-    fn on_signal(name: CString) -> Option<Removed> {
+    /// Notes the path, if PATHS has room.
+    fn noted(name: CString) -> Option<Removed> {
         let path = name.into_raw();
         let taken = |at: &AtomicPtr<c_char>| at.compare_exchange(ptr::null_mut(), path, SeqCst, SeqCst).is_ok();
         let place = PATHS.iter().position(taken);
@@ -102,7 +103,7 @@ fn catch(number: c_int) {
     unsafe {
         if signal(number, action as usize) == IGNORED {
             signal(number, IGNORED);
-            // So is one that came in between.
+            // One that came in between is ignored too.
             CAME.fetch_and(!(1 << number), SeqCst);
         }
     }
@@ -115,7 +116,7 @@ extern "C" fn on_signal(number: c_int) {
     }
 }
 
-/// Removes the files; the signal then ends the program as it would have done without this, at once or where its handling ends.
+/// Removes the files. The signal then ends the program as it does by default: at once, or when its handler returns.
 fn end_by(number: c_int) {
     remove_all();
     // Safety: a signal may call both.

@@ -75,7 +75,7 @@ pub fn identity_of(file: &File) -> io::Result<Option<Identity>> {
     Ok(Some(Identity(volume.into(), u64::from(high) << 32 | u64::from(low))))
 }
 
-/// Makes a file that is not there yet. A file of Windows has no mode.
+/// Creates a file that must not exist yet. A file of Windows has no mode.
 pub fn new_file(path: &Path, _mode: u32) -> io::Result<(File, Option<Removed>)> {
     OpenOptions::new().write(true).create_new(true).open(path).map(|file| (file, None))
 }

@@ -1,5 +1,5 @@
-use Rattle.std.proofs.Common.{sym, ◌∙◌, arith, ◌≡◌, ◌+◌, ◌-◌, ◌*◌, length, take, drop, ap}
-use Rattle.junior.proofs.Passed.{served-more, served-stop, served-past, serves_padded, given_up}
+use Rattle.std.proofs.Common.{sym, ◌∙◌, arith, ◌≡◌, ◌+◌, ◌*◌, length, take, ap}
+use Rattle.junior.proofs.Passed.{block-is, served-more, served-stop, served-past, serves_padded, given_up}
 use Rattle.junior.proofs.Search.{sought_none, sought_same, sought_next, sought_skip, sought_all}
 use Rattle.junior.proofs.choose_tips.Goals as goal
 use Rattle.junior.proofs.choose_tips.Goals.{in-Some, in_default}
@@ -25,8 +25,7 @@ tips-preserved-then-misses c =
     let v = c.tips.v in
     let i = c.loop-i.i in
     let p = c.requires in
-    let size : 16 * i + 16 - 16 * i ≡ 16 = omega arith in
-    let missed = served-stop sets u v i (ap (λ k. take k (drop (16 * i) sets)) size) c.loop-i.invariant (sym c.if-misses.true ∙ c.misses.ensures) in
+    let missed = served-stop sets u v i (block-is sets i) c.loop-i.invariant (sym c.if-misses.true ∙ c.misses.ensures) in
     let unserved = sym (serves_padded (length qs) sets u v (omega arith) p.padded.1) ∙ sym missed in
     let e : u * m + (v + 1) ≡ u * m + v + 1 = omega arith in
     rw e (sought_same m qs lines u v (omega arith) c.tips.invariant (given_up qs lines p.good.same u v p.good.placed unserved))
@@ -35,9 +34,7 @@ pub loop-i-preserved : goal.loop-i-preserved
 loop-i-preserved c =
     let i = c.loop-i.i in
     let sets = c.args.sets.now in
-    let size : 16 * i + 16 - 16 * i ≡ 16 = omega arith in
-    served-more sets c.loop-u.u c.tips.v i (ap (λ k. take k (drop (16 * i) sets)) size) c.loop-i.invariant
-    (sym c.if-misses.false ∙ c.misses.ensures)
+    served-more sets c.loop-u.u c.tips.v i (block-is sets i) c.loop-i.invariant (sym c.if-misses.false ∙ c.misses.ensures)
 
 pub on_tips-requires-clause-served : goal.on_tips-requires-clause-served
 on_tips-requires-clause-served c =
