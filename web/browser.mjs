@@ -91,15 +91,16 @@ async function click(selector) {
   await holds(`${selector} is there to be clicked`, `!!(${found})`);
   const middle = () => value(`(() => { const one = ${found}; one.scrollIntoView({ block: "center" }); const { left, top, width, height } =
     one.getBoundingClientRect(); return { x: left + width / 2, y: top + height / 2 }; })()`);
-  // A plan that comes in moves what is below it: a user clicks when it stands still.
+  // A plan that comes in moves what is below it: a user clicks when it stands still, and where nothing covers it.
+  checks++;
   let { x, y } = await middle();
-  for (let turn = 0; turn < MOST_TURNS; turn++) {
+  for (let turn = 0; ; turn++) {
     await sleep(50);
     const before = [x, y];
     ({ x, y } = await middle());
-    if (x === before[0] && y === before[1]) break;
+    if (x === before[0] && y === before[1] && await value(`${found}.contains(document.elementFromPoint(${x}, ${y}))`)) break;
+    if (turn === MOST_TURNS) throw new Error(`${selector} keeps moving, or something covers it`);
   }
-  await holds(`nothing covers ${selector}`, `${found}.contains(document.elementFromPoint(${x}, ${y}))`);
   for (const type of ["mousePressed", "mouseReleased"]) await send("Input.dispatchMouseEvent", { type, x, y, button: "left", clickCount: 1 });
 }
 async function press(key, code = key) {
